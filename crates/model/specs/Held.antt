@@ -1,11 +1,12 @@
 -- A problem in the arrays of the struct Problem, and back.
 use mathlib.Core.Bool.{Bool, true, false}
 use mathlib.Core.List.{List, _++_}
-use Prim.Native.Nat.{ℕ, _-_}
+use Prim.Native.Nat.{ℕ, _-_, _≤_}
 use lib.ListN.{length, take, replicate}
 use Rattle.model.specs.declared.generator.Generator.{Generator}
 use Rattle.model.specs.declared.problem.Problem.{Problem}
 use Rattle.model.specs.Instance.{Instance}
+use Rattle.model.specs.Ranges.{WellFormed}
 
 abbrev pub blank-generator : Generator
 blank-generator = record { a = 0; b = 0; c = 0; pL = 0; pU = 0; TU = 0; TD = 0; on = false; since = 0; DR = 0; UR = 0; Hsc = 0; Csc = 0; Tcold = 0; Dc = 0 }
@@ -35,3 +36,8 @@ held P = record {
   spare = pad 0 48 (P .spare);
   generators = pad blank-generator 32 (P .units);
 }
+
+-- the arrays hold a well-formed problem
+pub record Valid (p : Problem) : Type 0 where
+  pub units-fit : p .units ≤ 32
+  pub well-formed : WellFormed (view p)

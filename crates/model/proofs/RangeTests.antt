@@ -1,0 +1,84 @@
+-- The tests of the code are the ranges of document 01: a test holds exactly where the record does. A joined test is the product of its parts.
+use mathlib.Core.Bool.{Bool, _&&_}
+use mathlib.Core.Logic.{_↔_}
+use Prim.Native.Nat.{ℕ, _≤_}
+use lib.Dec.{T, leb, leb→le, le→leb}
+use Rattle.model.specs.declared.generator.Generator.{Generator}
+use Rattle.model.specs.Ranges.{Between, InRange, Ordered, GoodUnit, between, costs-in-range, outputs-in-range, times-in-range, in-range, ordered}
+use Rattle.model.proofs.Tests.{T-and, T-and-l, T-and-r}
+
+pub and-is : (a b : Bool) {A B : Type 0} → T a ↔ A → T b ↔ B → T (a && b) ↔ (A × B)
+and-is a b f g = (λ t. (f .0 (T-and-l a b t), g .0 (T-and-r a b t)), λ p. T-and a b (f .1 (p .0)) (g .1 (p .1)))
+
+pub leb-is : (m n : ℕ) → T (leb m n) ↔ (m ≤ n)
+leb-is m n = (leb→le m n, le→leb m n)
+
+pub between-is : (least v most : ℕ) → T (between least v most) ↔ Between least v most
+between-is l v m = and-is (leb l v) (leb v m) (leb-is l v) (leb-is v m)
+
+-- one number's test before the others'
+also : (l v m : ℕ) (b : Bool) {B : Type 0} → T b ↔ B → T (between l v m && b) ↔ (Between l v m × B)
+also l v m b f = and-is (between l v m) b (between-is l v m) f
+
+module _ (g : Generator) where
+  costs-is : T (costs-in-range g)
+      ↔ (Between 0 (g .a) 1000000000 × (Between 0 (g .b) 10000000 × (Between 0 (g .c) 10000 × (Between 0 (g .Hsc) 1000000000
+      × (Between 0 (g .Csc) 1000000000 × Between 0 (g .Dc) 1000000000)))))
+  unfolding costs-in-range
+  costs-is =
+      also 0 (g .a) 1000000000 _ (also 0 (g .b) 10000000 _ (also 0 (g .c) 10000 _ (also 0 (g .Hsc) 1000000000 _
+      (also 0 (g .Csc) 1000000000 _ (between-is 0 (g .Dc) 1000000000)))))
+
+  outputs-is : T (outputs-in-range g)
+      ↔ (Between 1 (g .pL) 10000 × (Between 1 (g .pU) 10000 × (Between 1 (g .DR) 10000 × Between 1 (g .UR) 10000)))
+  unfolding outputs-in-range
+  outputs-is = also 1 (g .pL) 10000 _ (also 1 (g .pU) 10000 _ (also 1 (g .DR) 10000 _ (between-is 1 (g .UR) 10000)))
+
+  times-is : T (times-in-range g)
+      ↔ (Between 1 (g .TU) 48 × (Between 1 (g .TD) 48 × (Between 1 (g .since) 1000 × Between 0 (g .Tcold) 48)))
+  unfolding times-in-range
+  times-is = also 1 (g .TU) 48 _ (also 1 (g .TD) 48 _ (also 1 (g .since) 1000 _ (between-is 0 (g .Tcold) 48)))
+
+  groups-are : T (in-range g)
+      ↔ ((Between 0 (g .a) 1000000000 × (Between 0 (g .b) 10000000 × (Between 0 (g .c) 10000 × (Between 0 (g .Hsc) 1000000000
+      × (Between 0 (g .Csc) 1000000000 × Between 0 (g .Dc) 1000000000)))))
+      × ((Between 1 (g .pL) 10000 × (Between 1 (g .pU) 10000 × (Between 1 (g .DR) 10000 × Between 1 (g .UR) 10000)))
+      × (Between 1 (g .TU) 48 × (Between 1 (g .TD) 48 × (Between 1 (g .since) 1000 × Between 0 (g .Tcold) 48)))))
+  unfolding in-range
+  groups-are =
+      and-is (costs-in-range g) (outputs-in-range g && times-in-range g) costs-is
+      (and-is (outputs-in-range g) (times-in-range g) outputs-is times-is)
+
+  -- 13 of a unit line
+  pub in-range-is : T (in-range g) ↔ InRange g
+  in-range-is = (
+    λ t. let p = groups-are .0 t in
+        record {
+          a-in = p .0 .0;
+          b-in = p .0 .1 .0;
+          c-in = p .0 .1 .1 .0;
+          pL-in = p .1 .0 .0;
+          pU-in = p .1 .0 .1 .0;
+          TU-in = p .1 .1 .0;
+          TD-in = p .1 .1 .1 .0;
+          since-in = p .1 .1 .1 .1 .0;
+          DR-in = p .1 .0 .1 .1 .0;
+          UR-in = p .1 .0 .1 .1 .1;
+          Hsc-in = p .0 .1 .1 .1 .0;
+          Csc-in = p .0 .1 .1 .1 .1 .0;
+          Tcold-in = p .1 .1 .1 .1 .1;
+          Dc-in = p .0 .1 .1 .1 .1 .1;
+        },
+    λ R. groups-are .1 (
+      (R .a-in, (R .b-in, (R .c-in, (R .Hsc-in, (R .Csc-in, R .Dc-in))))),
+      ((R .pL-in, (R .pU-in, (R .DR-in, R .UR-in))), (R .TU-in, (R .TD-in, (R .since-in, R .Tcold-in)))),
+    ),
+  )
+
+  -- 15 of a unit line
+  pub ordered-is : T (ordered g) ↔ Ordered g
+  unfolding ordered
+  ordered-is = (
+    λ t. let p = and-is (leb (g .pL) (g .pU)) (leb (g .Hsc) (g .Csc)) (leb-is _ _) (leb-is _ _) .0 t in record { limits = p .0; starts = p .1 },
+    λ R. and-is (leb (g .pL) (g .pU)) (leb (g .Hsc) (g .Csc)) (leb-is _ _) (leb-is _ _) .1 (R .limits, R .starts),
+  )
