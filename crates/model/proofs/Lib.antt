@@ -3,3 +3,8 @@ pub mod Integers
 pub mod Tests
 pub mod Sums
 pub mod Members
+pub mod Agreement
+pub mod Duality
+pub mod Soundness
+pub mod Leaves
+pub mod Counts
