@@ -8,3 +8,9 @@ pub mod Duality
 pub mod Soundness
 pub mod Leaves
 pub mod Counts
+pub mod Broken
+pub mod Searches
+pub mod RuleTests
+pub mod Unbroken
+pub mod Failures
+pub mod Judging
