@@ -1,12 +1,11 @@
 -- The breach found is the first: a rule broken is a test failed, and the first test failed is a rule broken. For 24 that takes
 -- the word first: a status may be barred again after the first that is. None is found exactly when the rules are met.
-use mathlib.Core.Path.{_≡_, refl, sym, ap, subst}
+use mathlib.Core.Path.{_≡_, refl, sym, subst}
 use mathlib.Core.Bool.{Bool, true, false, not}
 use mathlib.Core.Option.{Option, none, some}
 use mathlib.Core.Logic.{_⊎_, inl, inr, _↔_}
 use mathlib.Core.List.{List, [], _∷_}
 use Prim.Native.Nat.{ℕ, zero, suc, _+_, _≤_, _<_}
-use native.Mathlib.Nat.{eq-or-lt-of-le}
 use native.Mathlib.Omega.{arith}
 use lib.Dec.{T, leb, leb→le, nleb→lt, not-T}
 use Rattle.model.specs.declared.generator.Generator.{Generator}
@@ -16,6 +15,7 @@ use Rattle.model.specs.Rules.{statuses, output, capacity, Within, Meets}
 use Rattle.model.specs.Breach.{Breach, Place, off-limits, not-permitted, off-ramp, first-breach}
 use Rattle.model.proofs.Broken.{Of, FirstBarred, OffRamp, Broken, limits, demand, spare, updown, ramps, Lower, Earliest}
 use Rattle.model.proofs.Searches.{Counted}
+use Rattle.model.proofs.Lowest.{breach-is, firsts, only-first}
 use Rattle.model.proofs.Failures.{barred, Fails, fails-first}
 use Rattle.model.proofs.RuleTests.{off-limits-is, off-ramp-is, first-barred, barred-not-permitted}
 use Rattle.model.proofs.Unbroken.{meets-unbroken, unbroken-meets}
@@ -52,13 +52,6 @@ not-leb {a} {b} h = not-T (leb a b) (λ k. omega (arith, leb→le a b k))
 counted-unit : (Q : ℕ → Type 0) (v : ℕ) → Counted Q v → (u : ℕ) × (v ≡ suc u) × Q u
 counted-unit Q zero h = absurd h
 counted-unit Q (suc u) h = (u, refl, h)
-
-breach-is : (b : Breach) {k u t : ℕ} → b .number ≡ k → b .unit ≡ u → b .period ≡ t → b ≡ record { number = k; unit = u; period = t }
-breach-is b {k} {u} {t} e e′ e″ = parts (b .number) (b .unit) (b .period) e e′ e″
-  where
-    parts : (k′ u′ t′ : ℕ) → k′ ≡ k → u′ ≡ u → t′ ≡ t
-        → _≡_ {A = Breach} (record { number = k′; unit = u′; period = t′ }) (record { number = k; unit = u; period = t })
-    parts k′ u′ t′ e e′ e″ = cc
 
 module _ (P : Instance) (s : Schedule) where
   pub broken-fails : (b : Breach) → Broken P s b → Fails P s b
@@ -105,56 +98,6 @@ module _ (P : Instance) (s : Schedule) where
       late u zero l h = absurd (of-none u (P .units) s h)
       late u (suc t) l h = ramps u t l (of-map _ _ (λ g r. off-ramp-is t g r .0) u (P .units) s h)
   fails-broken b (inr (inr (inr (inr (inr h))))) n = absurd h
-
--- ---- the first of two kinds, and the only first
-
--- a first failure is a first breach
-firsts : (F B : Breach → Type 0) → ((b : Breach) → B b → F b) → ((b : Breach) → F b → ((c : Breach) → Lower c b → F c → ⊥) → B b)
-    → (x : Option Breach) → Earliest Lower F x → Earliest Lower B x
-firsts F B f g none e = λ b h. e b (f b h)
-firsts F B f g (some b) e = (g b (e .0) (e .1), λ c l h. e .1 c l (f c h))
-
-compare : (m n : ℕ) → (m < n) ⊎ ((m ≡ n) ⊎ (n < m))
-compare m n = go (leb m n) (λ t. leb→le m n t) (λ t. nleb→lt m n t)
-  where
-    equal : (m ≡ n) ⊎ (m < n) → (m < n) ⊎ ((m ≡ n) ⊎ (n < m))
-    equal (inl e) = inr (inl e)
-    equal (inr l) = inl l
-
-    go : (c : Bool) → (T c → m ≤ n) → (T (not c) → n < m) → (m < n) ⊎ ((m ≡ n) ⊎ (n < m))
-    go true f h = equal (eq-or-lt-of-le (f tt))
-    go false f h = inr (inr (h tt))
-
--- of two breaches one is lower, or they are one
-pub lower-or-same : (b c : Breach) → Lower b c ⊎ ((b ≡ c) ⊎ Lower c b)
-lower-or-same b c = number (compare (b .number) (c .number))
-  where
-    unit : b .number ≡ c .number → b .period ≡ c .period → (b .unit < c .unit) ⊎ ((b .unit ≡ c .unit) ⊎ (c .unit < b .unit))
-        → Lower b c ⊎ ((b ≡ c) ⊎ Lower c b)
-    unit e e′ (inl l) = inl (inr (e, inr (e′, l)))
-    unit e e′ (inr (inl e″)) = inr (inl (breach-is b e e″ e′))
-    unit e e′ (inr (inr l)) = inr (inr (inr (sym e, inr (sym e′, l))))
-
-    period : b .number ≡ c .number → (b .period < c .period) ⊎ ((b .period ≡ c .period) ⊎ (c .period < b .period))
-        → Lower b c ⊎ ((b ≡ c) ⊎ Lower c b)
-    period e (inl l) = inl (inr (e, inl l))
-    period e (inr (inl e′)) = unit e e′ (compare (b .unit) (c .unit))
-    period e (inr (inr l)) = inr (inr (inr (sym e, inl l)))
-
-    number : (b .number < c .number) ⊎ ((b .number ≡ c .number) ⊎ (c .number < b .number)) → Lower b c ⊎ ((b ≡ c) ⊎ Lower c b)
-    number (inl l) = inl (inl l)
-    number (inr (inl e)) = period e (compare (b .period) (c .period))
-    number (inr (inr l)) = inr (inr (inl l))
-
-only-first : (B : Breach → Type 0) (b : Breach) → B b → ((c : Breach) → Lower c b → B c → ⊥) → (x : Option Breach) → Earliest Lower B x
-    → x ≡ some b
-only-first B b h n none e = absurd (e b h)
-only-first B b h n (some c) e = go (lower-or-same b c)
-  where
-    go : Lower b c ⊎ ((b ≡ c) ⊎ Lower c b) → some c ≡ some b
-    go (inl l) = absurd (e .1 b l h)
-    go (inr (inl p)) = ap some (sym p)
-    go (inr (inr l)) = absurd (n c l (e .0))
 
 -- ---- what judging finds
 

@@ -12,5 +12,7 @@ pub mod Broken
 pub mod Searches
 pub mod RuleTests
 pub mod Unbroken
+pub mod Lowest
 pub mod Failures
 pub mod Judging
+pub mod Witnesses
