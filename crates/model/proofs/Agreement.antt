@@ -1,7 +1,7 @@
 -- When a schedule agrees with the statuses fixed above a node, and what the leaves of a tree are.
 use mathlib.Core.Path.{_≡_}
 use mathlib.Core.Bool.{true, false}
-use mathlib.Core.List.{List, [], _∷_}
+use mathlib.Core.List.{[]}
 use mathlib.Core.Logic.{_⊎_, inl, inr}
 use Prim.Native.Nat.{ℕ}
 use lib.Dec.{T}
@@ -37,6 +37,14 @@ above A (split U t x y) (inr l) = above (fix U t true A) y l
 above A (short t) l = A
 above A (stuck U) l = A
 above A (price q s) l = A
+
+-- the leaf itself
+abbrev pub leaf-at : (t : Tree) → LeafOf t → Tree
+leaf-at (split U t x y) (inl l) = leaf-at x l
+leaf-at (split U t x y) (inr l) = leaf-at y l
+leaf-at (short t) l = short t
+leaf-at (stuck U) l = stuck U
+leaf-at (price q s) l = price q s
 
 -- of the leaves of a tree, the schedule agrees with one and with no other
 pub record OneLeaf (A : Above) (t : Tree) (s : Schedule) : Type 0 where

@@ -46,7 +46,9 @@ module _ (P : Instance) (s : Schedule) where
 
 -- lowest number, then lowest period, then lowest unit
 abbrev pub Lower : Breach → Breach → Type 0
-Lower b c = (b .number < c .number) ⊎ ((b .number ≡ c .number) × ((b .period < c .period) ⊎ ((b .period ≡ c .period) × (b .unit < c .unit))))
+Lower b c =
+    (b .number < c .number)
+    ⊎ ((b .number ≡ c .number) × ((b .period < c .period) ⊎ ((b .period ≡ c .period) × (b .unit < c .unit))))
 
 -- what a search should answer, before being an order: nothing where nothing is of the kind sought; else one that is, and
 -- nothing before it is

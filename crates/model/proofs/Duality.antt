@@ -1,17 +1,17 @@
 -- A leaf's laws, by weak duality: a row that meets its rules is one of those over which the unit's least value is taken, and
 -- what the units earn in a period at q and s is at least q·D + s·(D + R), since (2) and (3) hold there.
-use mathlib.Core.Path.{_≡_, refl, sym, _∙_, ap, subst}
-use mathlib.Core.Bool.{Bool, true, false, not, cond, _&&_}
+use mathlib.Core.Path.{_≡_, refl, _∙_}
+use mathlib.Core.Bool.{Bool, true, false}
 use mathlib.Core.List.{List, [], _∷_, map, List·Memᴰ, List·Memᴰ·head, List·Memᴰ·tail, Memᴰ·map}
 use Prim.Native.Nat.{ℕ, zero, suc, _+_, _*_, _-_, _≤_, _<_}
 use native.Mathlib.Nat.{mul-le-mul-left}
 use native.Mathlib.Omega.{arith}
 use lib.Dec.{T}
-use lib.ListN.{length, getD, length-map}
-use lib.IntN.{ℤ, pos, _+ℤ_, _-ℤ_}
+use lib.ListN.{getD, length-map}
+use lib.IntN.{ℤ, pos}
 use lib.Signed.{_≤ℤ_}
 use Rattle.model.specs.declared.generator.Generator.{Generator}
-use Rattle.model.specs.Instance.{Instance, Schedule, _at_, sum, sum-units, Each}
+use Rattle.model.specs.Instance.{Instance, Schedule, _at_, sum-units, Each}
 use Rattle.model.specs.Rules.{on, if-on, statuses, Within, output, capacity, keeps, Row, Meets}
 use Rattle.model.specs.Cost.{row-cost, cost}
 use Rattle.model.specs.Above.{Mark, free, fixed, Marks, Above, rest, allows, agrees, obeys}
@@ -39,6 +39,7 @@ pub mem-status : (b : Bool) → List·Memᴰ b (false ∷ (true ∷ []))
 mem-status false = List·Memᴰ·head refl
 mem-status true = List·Memᴰ·tail (List·Memᴰ·head refl)
 
+-- a row that meets its rules and has the statuses that are fixed
 module _ (n : ℕ) (g : Generator) (m : ℕ → Mark) (r : List ℕ) (row : Row n g r) (h : (t : ℕ) → T (allows (m t) (on (r at t)))) where
   pub row-obeys : T (obeys g m (statuses r))
   row-obeys = T-and (keeps g (g .on) (g .since) (statuses r)) (agrees m (statuses r)) (row .updown) (agrees-row m r h)
@@ -53,7 +54,8 @@ module _ (n : ℕ) (g : Generator) (m : ℕ → Mark) (r : List ℕ) (row : Row 
   unfolding is-stuck
   not-stuck k =
       none-of-not (obeys g m) (runs n) k
-      (mem-words (false ∷ (true ∷ [])) false n (statuses r) (length-map r on ∙ row .long) (λ t l. mem-status (getD (statuses r) t false)))
+      (mem-words (false ∷ (true ∷ [])) false n (statuses r) (length-map r on ∙ row .long)
+      (λ t l. mem-status (getD (statuses r) t false)))
       row-obeys
 
   pub unit-below : (q s : ℕ → ℕ) → unit-least n q s g m ≤ℤ value n q s g r

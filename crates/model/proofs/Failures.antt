@@ -1,14 +1,13 @@
 -- The five searches joined by number: what `first-breach` finds is the first failure of a test, by number, period and unit.
 use mathlib.Core.Bool.{Bool, not}
-use mathlib.Core.Option.{none}
 use mathlib.Core.List.{List}
-use Prim.Native.Nat.{ℕ, _+_, _<_}
+use Prim.Native.Nat.{ℕ, _+_}
 use lib.Dec.{leb}
 use Rattle.model.specs.declared.generator.Generator.{Generator}
 use Rattle.model.specs.Instance.{Instance, Schedule, _at_}
 use Rattle.model.specs.Rules.{statuses, output, capacity}
 use Rattle.model.specs.Breach.{Breach, Place, off-limits, not-permitted, off-ramp, first-unit, first-place, no-unit, place21, place22, place23, place24, place25, first-breach}
-use Rattle.model.proofs.Broken.{Lower, Earliest}
+use Rattle.model.proofs.Broken.{Earliest}
 use Rattle.model.proofs.Searches.{Passing, unit-earliest, Nameless, no-unit-earliest, Spot, Sooner, place-earliest, Joined, FirstFrom, numbered-first}
 
 abbrev pub barred : ℕ → Generator → List ℕ → Bool
@@ -28,9 +27,11 @@ module _ (P : Instance) (s : Schedule) where
   abbrev pub Periods : (ℕ → Bool) → Place → Type 0
   Periods p = Spot (P .periods) (λ t. Nameless (p t))
 
-  -- a test says so, by number, unit and period
+  -- some test says so, by number, unit and period
   abbrev pub Fails : Breach → Type 0
-  Fails = Joined 21 (Units off-limits) (Joined 22 (Periods under-demand) (Joined 23 (Periods under-spare) (Joined 24 (Units barred) (Joined 25 (Units off-ramp) (λ b. ⊥)))))
+  Fails =
+      Joined 21 (Units off-limits) (Joined 22 (Periods under-demand) (Joined 23 (Periods under-spare)
+      (Joined 24 (Units barred) (Joined 25 (Units off-ramp) (λ b. ⊥)))))
 
   units-earliest : (p : ℕ → Generator → List ℕ → Bool)
       → Earliest Sooner (Units p) (first-place (P .periods) (λ t. first-unit (p t) (P .units) s))

@@ -1,10 +1,9 @@
--- A schedule agrees with exactly one leaf of a tree that splits no status twice: go down each split by the schedule's status, and
--- a leaf off that way has, at the split where it leaves it, the other status fixed, which no split below frees again.
+-- A schedule agrees with exactly one leaf of a tree that splits no status twice: go down each split by the schedule's status.
+-- A leaf off that way has the other status fixed at the split where it leaves it, and no split below changes that.
 use mathlib.Core.Path.{_≡_, refl, ap, subst}
 use mathlib.Core.Bool.{Bool, true, false, cond, _&&_, Bool·beq}
-use mathlib.Core.Logic.{_⊎_, inl, inr}
+use mathlib.Core.Logic.{inl, inr}
 use Prim.Native.Nat.{ℕ}
-use native.Mathlib.Omega.{arith}
 use lib.Dec.{T, eqb, eqb→eq, eqb-refl}
 use Rattle.model.specs.Instance.{Instance, Schedule}
 use Rattle.model.specs.Rules.{on}
@@ -69,7 +68,8 @@ leaf-of s (stuck U) = tt
 leaf-of s (price q r) = tt
 
 pub leaf-agrees : (s : Schedule) (A : Above) (t : Tree) → Agrees A s → Agrees (above A t (leaf-of s t)) s
-leaf-agrees s A (split U t x y) h = go (on (out s U t)) refl (leaf-agrees s (fix U t false A) x) (leaf-agrees s (fix U t true A) y)
+leaf-agrees s A (split U t x y) h =
+    go (on (out s U t)) refl (leaf-agrees s (fix U t false A) x) (leaf-agrees s (fix U t true A) y)
   where
     go : (b : Bool) → on (out s U t) ≡ b
         → (Agrees (fix U t false A) s → Agrees (above (fix U t false A) x (leaf-of s x)) s)

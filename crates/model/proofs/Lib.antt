@@ -7,8 +7,10 @@ pub mod Agreement
 pub mod Duality
 pub mod Soundness
 pub mod Leaves
+pub mod EveryLeaf
 pub mod Counts
 pub mod Broken
+pub mod OneUnit
 pub mod Searches
 pub mod RuleTests
 pub mod Unbroken

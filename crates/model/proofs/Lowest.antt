@@ -9,7 +9,9 @@ use lib.Dec.{T, leb, leb→le, nleb→lt}
 use Rattle.model.specs.Breach.{Breach}
 use Rattle.model.proofs.Broken.{Lower, Earliest}
 
-pub breach-is : (b : Breach) {k u t : ℕ} → b .number ≡ k → b .unit ≡ u → b .period ≡ t → b ≡ record { number = k; unit = u; period = t }
+-- a breach is its three numbers
+pub breach-is : (b : Breach) {k u t : ℕ} → b .number ≡ k → b .unit ≡ u → b .period ≡ t
+    → b ≡ record { number = k; unit = u; period = t }
 breach-is b {k} {u} {t} e e′ e″ = parts (b .number) (b .unit) (b .period) e e′ e″
   where
     parts : (k′ u′ t′ : ℕ) → k′ ≡ k → u′ ≡ u → t′ ≡ t
@@ -48,8 +50,9 @@ lower-or-same b c = number (compare (b .number) (c .number))
     number (inr (inl e)) = period e (compare (b .period) (c .period))
     number (inr (inr l)) = inr (inr (inl l))
 
-pub only-first : (B : Breach → Type 0) (b : Breach) → B b → ((c : Breach) → Lower c b → B c → ⊥) → (x : Option Breach) → Earliest Lower B x
-    → x ≡ some b
+-- what is of the kind B, none lower being so, is what a search for the first of B answers
+pub only-first : (B : Breach → Type 0) (b : Breach) → B b → ((c : Breach) → Lower c b → B c → ⊥)
+    → (x : Option Breach) → Earliest Lower B x → x ≡ some b
 only-first B b h n none e = absurd (e b h)
 only-first B b h n (some c) e = go (lower-or-same b c)
   where
@@ -59,7 +62,8 @@ only-first B b h n (some c) e = go (lower-or-same b c)
     go (inr (inr l)) = absurd (n c l (e .0))
 
 -- the first of F is the first of B, where every B is an F and the first F is a B
-pub firsts : (F B : Breach → Type 0) → ((b : Breach) → B b → F b) → ((b : Breach) → F b → ((c : Breach) → Lower c b → F c → ⊥) → B b)
+pub firsts : (F B : Breach → Type 0) → ((b : Breach) → B b → F b)
+    → ((b : Breach) → F b → ((c : Breach) → Lower c b → F c → ⊥) → B b)
     → (x : Option Breach) → Earliest Lower F x → Earliest Lower B x
 firsts F B f g none e = λ b h. e b (f b h)
 firsts F B f g (some b) e = (g b (e .0) (e .1), λ c l h. e .1 c l (f c h))

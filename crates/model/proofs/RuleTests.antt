@@ -1,14 +1,14 @@
--- Each test that the search for a breach uses, of one unit's row in one period, against its rule: (4), (5) to (10), (11) and (12).
+-- The tests that the search for a breach uses, of one unit's row in one period, are the rules (4), (5) to (10), (11) and (12).
 use mathlib.Core.Bool.{Bool, true, false, not, _&&_}
 use mathlib.Core.Logic.{_↔_}
 use mathlib.Core.List.{List, [], _∷_}
-use Prim.Native.Nat.{ℕ, zero, suc, _+_, _≤_, _<_}
+use Prim.Native.Nat.{ℕ, zero, suc, _+_, _<_}
 use native.Mathlib.Omega.{arith}
 use lib.Dec.{T, leb, leb→le, le→leb, T-not, not-T}
 use lib.ListN.{take}
 use Rattle.model.specs.declared.generator.Generator.{Generator}
 use Rattle.model.specs.Instance.{_at_}
-use Rattle.model.specs.Rules.{on, Within, permits, spent, keeps, Ramp}
+use Rattle.model.specs.Rules.{on, Within, permits, spent, keeps}
 use Rattle.model.specs.Breach.{off-limits, not-permitted, off-ramp}
 use Rattle.model.proofs.Tests.{T-and, T-and-l, T-and-r}
 use Rattle.model.proofs.Broken.{FirstBarred, OffRamp}
@@ -86,12 +86,15 @@ bars-not-permitted g b k (d ∷ run) zero h n = not-T (permits g b k d) (λ j. n
 bars-not-permitted g b k (d ∷ run) (suc t) h n =
     bars-not-permitted g d (spent b k d) run t
     (T-and-r (permits g b k d) (keeps g d (spent b k d) (take t run)) h)
-    (λ j. n (T-and (permits g b k d) (keeps g d (spent b k d) (take (suc t) run)) (T-and-l (permits g b k d) (keeps g d (spent b k d) (take t run)) h) j))
+    (λ j. n (T-and (permits g b k d) (keeps g d (spent b k d) (take (suc t) run))
+    (T-and-l (permits g b k d) (keeps g d (spent b k d) (take t run)) h) j))
 
 module _ (g : Generator) (run : List Bool) (t : ℕ) where
-  pub first-barred : T (not-permitted g (g .on) (g .since) run t) → ((i : ℕ) → i < t → T (not-permitted g (g .on) (g .since) run i) → ⊥)
-      → FirstBarred g run t
-  first-barred h before = let k = not-permitted-bars g (g .on) (g .since) run t h before in record { before = k .0; barred = k .1 }
+  pub first-barred : T (not-permitted g (g .on) (g .since) run t)
+      → ((i : ℕ) → i < t → T (not-permitted g (g .on) (g .since) run i) → ⊥) → FirstBarred g run t
+  first-barred h before =
+      let k = not-permitted-bars g (g .on) (g .since) run t h before in
+      record { before = k .0; barred = k .1 }
 
   pub barred-not-permitted : FirstBarred g run t → T (not-permitted g (g .on) (g .since) run t)
   barred-not-permitted h = bars-not-permitted g (g .on) (g .since) run t (h .before) (h .barred)

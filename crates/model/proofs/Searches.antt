@@ -1,6 +1,6 @@
--- What the searches for a breach find: over the units the first, over the periods the first period's first, and over the numbers
--- the lowest that has a place. Each is by induction on what is searched, one step being: it is here, or it is later.
-use mathlib.Core.Path.{_≡_, refl, sym, subst}
+-- What the searches for a breach find: over the units the first, over the periods the first period's first, and over the
+-- numbers the lowest that has a place. Each is by induction on what is searched, one step being: it is here, or it is later.
+use mathlib.Core.Path.{_≡_, refl}
 use mathlib.Core.Bool.{Bool, true, false, not, cond}
 use mathlib.Core.Option.{Option, none, some}
 use mathlib.Core.Logic.{_⊎_, inl, inr}
@@ -11,14 +11,10 @@ use lib.Dec.{T, T-not}
 use Rattle.model.specs.declared.generator.Generator.{Generator}
 use Rattle.model.specs.Instance.{Schedule}
 use Rattle.model.specs.Breach.{Breach, Place, next-unit, first-unit, here-or-later, first-place, no-unit, numbered}
+use Rattle.model.proofs.OneUnit.{Counted}
 use Rattle.model.proofs.Broken.{Of, Lower, Earliest}
 
 -- ---- over the units
-
--- a unit counted from 1
-abbrev pub Counted : (ℕ → Type 0) → ℕ → Type 0
-Counted Q zero = ⊥
-Counted Q (suc u) = Q u
 
 -- the units that pass a test
 abbrev pub Passing : (Generator → List ℕ → Bool) → List Generator → Schedule → ℕ → Type 0
@@ -36,7 +32,8 @@ unit-earliest p (g ∷ gs) [] = nobody
     nobody : (v : ℕ) → Passing p (g ∷ gs) [] v → ⊥
     nobody zero h = h
     nobody (suc u) h = h
-unit-earliest p (g ∷ gs) (r ∷ rows) = go (p g r) (first-unit p gs rows) (λ k. k) (λ k. T-not (p g r) k) (unit-earliest p gs rows)
+unit-earliest p (g ∷ gs) (r ∷ rows) =
+    go (p g r) (first-unit p gs rows) (λ k. k) (λ k. T-not (p g r) k) (unit-earliest p gs rows)
   where
     later : (u : ℕ) → Passing p gs rows u → Passing p (g ∷ gs) (r ∷ rows) (suc u)
     later zero h = absurd h
@@ -74,6 +71,9 @@ pub record Spot (n : ℕ) (H : ℕ → ℕ → Type 0) (x : Place) : Type 0 wher
   pub period-is : x .period ≡ suc t
   pub inside : t < n
   pub hit : H t (x .unit)
+
+pub spot : {n : ℕ} {H : ℕ → ℕ → Type 0} {v : ℕ} (t : ℕ) → t < n → H t v → Spot n H (record { unit = v; period = suc t })
+spot t l h = record { t = t; period-is = refl; inside = l; hit = h }
 
 -- lowest period, then lowest unit
 abbrev pub Sooner : Place → Place → Type 0
@@ -116,13 +116,15 @@ place-earliest (suc n) f H e =
 
     go : (x : Option ℕ) (y : Option Place) → Earliest _<_ (H 0) x → Earliest Sooner (Spot n (λ t. H (suc t))) y
         → Earliest Sooner (Spot (suc n) H) (here-or-later x y)
-    go (some u) y a b = (
-      record { t = 0; period-is = refl; inside = omega arith; hit = a .0 },
-      λ c l h. in-first u c (a .1) l (spot-cases n H c h),
-    )
+    go (some u) y a b = (spot 0 (omega arith) (a .0), λ c l h. in-first u c (a .1) l (spot-cases n H c h))
     go none none a b = λ c h. in-later c a (λ l k. b (back c) k) (spot-cases n H c h)
     go none (some y) a b = (
-      record { t = suc (b .0 .t); period-is = omega (arith, b .0 .period-is); inside = omega (arith, b .0 .inside); hit = b .0 .hit },
+      record {
+        t = suc (b .0 .t);
+        period-is = omega (arith, b .0 .period-is);
+        inside = omega (arith, b .0 .inside);
+        hit = b .0 .hit;
+      },
       λ c l h. in-later c a (λ j k. b .1 (back c) (sooner c y j l) k) (spot-cases n H c h),
     )
 
@@ -145,7 +147,8 @@ numbered-first k Q {C} {y} x a e = record { earliest = go x y a (e .earliest); f
     from b (inl h) = omega (arith, h .0)
     from b (inr h) = omega (arith, e .from b h)
 
-    go : (x : Option Place) (y : Option Breach) → Earliest Sooner Q x → Earliest Lower C y → Earliest Lower (Joined k Q C) (numbered k x y)
+    go : (x : Option Place) (y : Option Breach) → Earliest Sooner Q x → Earliest Lower C y
+        → Earliest Lower (Joined k Q C) (numbered k x y)
     go none none a f = either
       where
         either : (b : Breach) → Joined k Q C b → ⊥

@@ -55,7 +55,8 @@ pub sound-from : (P : Instance) (s : Schedule) → Meets P s → (A : Above) →
     → Below (bound P A t) (cost P s)
 unfolding Holds bound
 sound-from P s M A h (split U t x y) k =
-    go (on (out s U t)) refl (λ a. sound-from P s M (fix U t false A) a x (k .0)) (λ a. sound-from P s M (fix U t true A) a y (k .1))
+    go (on (out s U t)) refl (λ a. sound-from P s M (fix U t false A) a x (k .0))
+    (λ a. sound-from P s M (fix U t true A) a y (k .1))
   where
     X : Bound
     X = bound P (fix U t false A) x
@@ -63,7 +64,8 @@ sound-from P s M A h (split U t x y) k =
     Y : Bound
     Y = bound P (fix U t true A) y
 
-    go : (b : Bool) → on (out s U t) ≡ b → (Agrees (fix U t false A) s → Below X (cost P s)) → (Agrees (fix U t true A) s → Below Y (cost P s))
+    go : (b : Bool) → on (out s U t) ≡ b → (Agrees (fix U t false A) s → Below X (cost P s))
+        → (Agrees (fix U t true A) s → Below Y (cost P s))
         → Below (lower X Y) (cost P s)
     go false e ihx ihy = lower-left X Y (cost P s) (ihx (agrees-split A s h U t false e))
     go true e ihx ihy = lower-right X Y (cost P s) (ihy (agrees-split A s h U t true e))

@@ -1,10 +1,9 @@
 -- A schedule of the right shape meets the rules exactly when it breaks none: the rules compare numbers and tests, so one that
 -- cannot fail holds; and a run of statuses with no first barred period keeps (5) to (10) one period after the other.
-use mathlib.Core.Path.{_≡_, refl, sym, _∙_, ap, subst}
-use mathlib.Core.Bool.{Bool, true, false, not, _&&_}
-use mathlib.Core.Logic.{_↔_}
+use mathlib.Core.Path.{_≡_, refl, ap, subst}
+use mathlib.Core.Bool.{Bool, true, false, not}
 use mathlib.Core.List.{List, [], _∷_}
-use Prim.Native.Nat.{ℕ, zero, suc, _+_, _≤_, _<_}
+use Prim.Native.Nat.{ℕ, zero, suc, _≤_, _<_}
 use native.Mathlib.Nat.{suc-inj}
 use native.Mathlib.Omega.{arith}
 use lib.Dec.{T, leb, leb→le, nleb→lt}
@@ -13,9 +12,10 @@ use lib.Seq.{take-length}
 use Rattle.model.specs.declared.generator.Generator.{Generator}
 use Rattle.model.specs.Instance.{Instance, Schedule, _at_, Each}
 use Rattle.model.specs.Ranges.{All, Shaped}
-use Rattle.model.specs.Rules.{on, statuses, Within, output, capacity, permits, spent, keeps, Ramp, Row, Meets}
+use Rattle.model.specs.Rules.{on, statuses, Within, permits, spent, keeps, Row, Meets}
 use Rattle.model.specs.Breach.{Breach}
 use Rattle.model.proofs.Tests.{T-and, T-and-l, T-and-r}
+use Rattle.model.proofs.OneUnit.{each-not}
 use Rattle.model.proofs.Broken.{Of, FirstBarred, OffRamp, Broken, limits, demand, spare, updown, ramps}
 
 -- ---- a schedule that meets the rules breaks none
@@ -28,20 +28,13 @@ keeps-take g b k (d ∷ run) (suc t) h =
     T-and (permits g b k d) (keeps g d (spent b k d) (take t run)) (T-and-l (permits g b k d) (keeps g d (spent b k d) run) h)
     (keeps-take g d (spent b k d) run t (T-and-r (permits g b k d) (keeps g d (spent b k d) run) h))
 
--- what every unit has, no unit lacks
-pub each-not : (R Q : Generator → List ℕ → Type 0) → ((g : Generator) (r : List ℕ) → R g r → Q g r → ⊥)
-    → (u : ℕ) (gs : List Generator) (rows : Schedule) → Each R gs rows → Of u Q gs rows → ⊥
-each-not R Q n u [] rows e h = h
-each-not R Q n u (g ∷ gs) [] e h = h
-each-not R Q n zero (g ∷ gs) (r ∷ rows) e h = n g r (e .0) h
-each-not R Q n (suc u) (g ∷ gs) (r ∷ rows) e h = each-not R Q n u gs rows (e .1) h
-
 pub meets-unbroken : (P : Instance) (s : Schedule) → Meets P s → (b : Breach) → Broken P s b → ⊥
 meets-unbroken P s M b (limits u t l h) = each-not _ _ (λ g r R w. w (R .limits t l)) u (P .units) s (M .rows) h
 meets-unbroken P s M b (demand t l h) = omega (arith, M .meets-demand t l)
 meets-unbroken P s M b (spare t l h) = omega (arith, M .meets-spare t l)
 meets-unbroken P s M b (updown u t l h) =
-    each-not _ _ (λ g r R w. w .barred (keeps-take g (g .on) (g .since) (statuses r) (suc t) (R .updown))) u (P .units) s (M .rows) h
+    each-not _ _ (λ g r R w. w .barred (keeps-take g (g .on) (g .since) (statuses r) (suc t) (R .updown)))
+    u (P .units) s (M .rows) h
 meets-unbroken P s M b (ramps u t l h) =
     each-not _ _ (λ g r R w. w .off (R .ramps t l (w .on-before) (w .on-then))) u (P .units) s (M .rows) h
 
@@ -64,13 +57,16 @@ keeps-from : (g : Generator) (run : List Bool) → ((t : ℕ) → t < length run
 keeps-from g run n zero l = tt
 keeps-from g run n (suc t) l = go (keeps g (g .on) (g .since) (take (suc t) run)) (λ k. k) (keeps-from g run n t (omega arith))
   where
-    go : (c : Bool) → (T (keeps g (g .on) (g .since) (take (suc t) run)) → T c) → T (keeps g (g .on) (g .since) (take t run)) → T c
+    go : (c : Bool) → (T (keeps g (g .on) (g .since) (take (suc t) run)) → T c)
+        → T (keeps g (g .on) (g .since) (take t run)) → T c
     go true f k = tt
     go false f k = n t (omega arith) (record { before = k; barred = f })
 
-keeps-all : (g : Generator) (run : List Bool) → ((t : ℕ) → t < length run → FirstBarred g run t → ⊥) → T (keeps g (g .on) (g .since) run)
+keeps-all : (g : Generator) (run : List Bool) → ((t : ℕ) → t < length run → FirstBarred g run t → ⊥)
+    → T (keeps g (g .on) (g .since) run)
 keeps-all g run n =
-    subst (λ (l : List Bool). T (keeps g (g .on) (g .since) l)) (take-length run) (keeps-from g run n (length run) (omega arith))
+    subst (λ (l : List Bool). T (keeps g (g .on) (g .since) l)) (take-length run)
+    (keeps-from g run n (length run) (omega arith))
 
 -- one row
 pub row-meets : (n : ℕ) (g : Generator) (r : List ℕ) → length r ≡ n → ((t : ℕ) → t < n → (Within g (r at t) → ⊥) → ⊥)
@@ -93,12 +89,27 @@ pub rows-meet : (n : ℕ) (gs : List Generator) (s : Schedule) → length s ≡ 
 rows-meet n [] [] e w a b c = tt
 rows-meet n [] (r ∷ s) e w a b c = absurd (omega arith)
 rows-meet n (g ∷ gs) [] e w a b c = absurd (omega arith)
-rows-meet n (g ∷ gs) (r ∷ s) e w a b c =
-    (row-meets n g r (w .0) (a 0) (b 0) (c 0), rows-meet n gs s (suc-inj e) (w .1) (λ u. a (suc u)) (λ u. b (suc u)) (λ u. c (suc u)))
+rows-meet n (g ∷ gs) (r ∷ s) e w a b c = (
+  row-meets n g r (w .0) (a 0) (b 0) (c 0),
+  rows-meet n gs s (suc-inj e) (w .1) (λ u. a (suc u)) (λ u. b (suc u)) (λ u. c (suc u)),
+)
+
+-- the rules include the shape
+pub meets-shaped : (P : Instance) (s : Schedule) → Meets P s → Shaped P s
+meets-shaped P s M = go (P .units) s (M .rows)
+  where
+    go : (gs : List Generator) (s : Schedule) → Each (Row (P .periods)) gs s
+        → (length s ≡ length gs) × All (λ r. length r ≡ P .periods) s
+    go [] [] e = (refl, tt)
+    go [] (r ∷ s) e = absurd e
+    go (g ∷ gs) [] e = absurd e
+    go (g ∷ gs) (r ∷ s) e = let h = go gs s (e .1) in (ap suc (h .0), (e .0 .long, h .1))
 
 pub unbroken-meets : (P : Instance) (s : Schedule) → Shaped P s → ((b : Breach) → Broken P s b → ⊥) → Meets P s
 unbroken-meets P s w n = record {
-  rows = rows-meet (P .periods) (P .units) s (w .0) (w .1) (λ u t l h. n _ (limits u t l h)) (λ u t l h. n _ (updown u t l h)) (λ u t l h. n _ (ramps u t l h));
+  rows =
+      rows-meet (P .periods) (P .units) s (w .0) (w .1)
+      (λ u t l h. n _ (limits u t l h)) (λ u t l h. n _ (updown u t l h)) (λ u t l h. n _ (ramps u t l h));
   meets-demand = λ t l. not-below _ _ (λ h. n _ (demand t l h));
   meets-spare = λ t l. not-below _ _ (λ h. n _ (spare t l h));
 }

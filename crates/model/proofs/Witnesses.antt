@@ -1,22 +1,19 @@
 -- The premises of the laws on trees and on judging can be met: one unit and one period, computed.
 use mathlib.Core.Path.{_≡_, refl}
-use mathlib.Core.Bool.{Bool, true, false}
-use mathlib.Core.Option.{none, some}
-use mathlib.Core.List.{List, [], _∷_}
-use Prim.Native.Nat.{ℕ, _≤_, _<_}
-use native.Mathlib.Omega.{arith}
+use mathlib.Core.Bool.{true}
+use mathlib.Core.List.{[], _∷_}
+use Prim.Native.Nat.{ℕ}
 use lib.Dec.{lit<, lit≤}
-use lib.IntN.{ℤ, pos}
+use lib.IntN.{pos}
 use lib.Signed.{_≤ℤ_}
 use Rattle.model.specs.declared.generator.Generator.{Generator}
 use Rattle.model.specs.Instance.{Instance, Schedule}
-use Rattle.model.specs.Ranges.{Shaped}
 use Rattle.model.specs.Rules.{output, capacity, Meets}
 use Rattle.model.specs.Cost.{row-cost, cost}
-use Rattle.model.specs.Above.{root, fix}
+use Rattle.model.specs.Above.{root}
 use Rattle.model.specs.Breach.{Breach, first-breach}
 use Rattle.model.specs.Leaf.{available, rows-of, is-stuck, revenue, value, unit-least, units-least, requirement, leaf-value}
-use Rattle.model.specs.Tree.{Tree, split, short, stuck, price, Limits, Holds, Bound, never, number, bound}
+use Rattle.model.specs.Tree.{Tree, split, short, stuck, price, Limits, Holds, never, number, bound}
 use Rattle.model.proofs.Broken.{Broken, Lower}
 use Rattle.model.proofs.Agreement.{OneLeaf}
 use Rattle.model.proofs.Soundness.{number-sound, never-sound}
@@ -25,7 +22,23 @@ use Rattle.model.proofs.Judging.{judge-none, judge-some}
 
 -- on before period 1, from 1 to 3 when on, 1 + 2·p a period; it may go off only after TU periods on
 abbrev unit : ℕ → Generator
-unit TU = record { a = 1; b = 2; c = 0; pL = 1; pU = 3; TU = TU; TD = 1; on = true; since = 1; DR = 1; UR = 1; Hsc = 0; Csc = 0; Tcold = 0; Dc = 0 }
+unit TU = record {
+  a = 1;
+  b = 2;
+  c = 0;
+  pL = 1;
+  pU = 3;
+  TU = TU;
+  TD = 1;
+  on = true;
+  since = 1;
+  DR = 1;
+  UR = 1;
+  Hsc = 0;
+  Csc = 0;
+  Tcold = 0;
+  Dc = 0;
+}
 
 -- D and R are 2 and 1
 abbrev free-to-stop : Instance
@@ -96,6 +109,7 @@ none-meets = never-sound too-much (short 0) short-holds short-bound
 abbrev under : Breach
 under = record { number = 22; unit = 0; period = 1 }
 
-one-under : Broken free-to-stop ((1 ∷ []) ∷ []) under × ((c : Breach) → Lower c under → Broken free-to-stop ((1 ∷ []) ∷ []) c → ⊥)
+one-under : Broken free-to-stop ((1 ∷ []) ∷ []) under
+    × ((c : Breach) → Lower c under → Broken free-to-stop ((1 ∷ []) ∷ []) c → ⊥)
 unfolding first-breach output capacity
 one-under = judge-some free-to-stop ((1 ∷ []) ∷ []) under .0 refl
