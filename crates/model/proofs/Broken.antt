@@ -34,13 +34,18 @@ pub record OffRamp (g : Generator) (r : List ℕ) (t : ℕ) : Type 0 where
 module _ (P : Instance) (s : Schedule) where
   -- the rule with that number is broken at that unit and period, both counted from 1; 22 and 23 name no unit
   pub data Broken : Breach → Type 0 where
+    -- (4)
     limits : (u t : ℕ) → t < P .periods → Of u (λ g r. Within g (r at t) → ⊥) (P .units) s
         → Broken (record { number = 21; unit = suc u; period = suc t })
+    -- (2)
     demand : (t : ℕ) → t < P .periods → output P s t < P .demand at t → Broken (record { number = 22; unit = 0; period = suc t })
+    -- (3)
     spare : (t : ℕ) → t < P .periods → capacity P s t < P .demand at t + P .spare at t
         → Broken (record { number = 23; unit = 0; period = suc t })
+    -- (5) to (10)
     updown : (u t : ℕ) → t < P .periods → Of u (λ g r. FirstBarred g (statuses r) t) (P .units) s
         → Broken (record { number = 24; unit = suc u; period = suc t })
+    -- (11), (12): the period is the second of the two
     ramps : (u t : ℕ) → suc t < P .periods → Of u (λ g r. OffRamp g r t) (P .units) s
         → Broken (record { number = 25; unit = suc u; period = suc (suc t) })
 

@@ -15,6 +15,10 @@ pub counted-unit : (Q : ℕ → Type 0) (v : ℕ) → Counted Q v → (u : ℕ) 
 counted-unit Q zero h = absurd h
 counted-unit Q (suc u) h = (u, refl, h)
 
+pub counted-none : (Q : ℕ → Type 0) → ((u : ℕ) → Q u → ⊥) → (v : ℕ) → Counted Q v → ⊥
+counted-none Q n zero h = h
+counted-none Q n (suc u) h = n u h
+
 pub of-map : (Q R : Generator → List ℕ → Type 0) → ((g : Generator) (r : List ℕ) → Q g r → R g r)
     → (u : ℕ) (gs : List Generator) (rows : Schedule) → Of u Q gs rows → Of u R gs rows
 of-map Q R f u [] rows h = h

@@ -11,27 +11,19 @@ use lib.Dec.{T, T-not}
 use Rattle.model.specs.declared.generator.Generator.{Generator}
 use Rattle.model.specs.Instance.{Schedule}
 use Rattle.model.specs.Breach.{Breach, Place, next-unit, first-unit, here-or-later, first-place, no-unit, numbered}
-use Rattle.model.proofs.OneUnit.{Counted}
+use Rattle.model.proofs.OneUnit.{Counted, counted-none}
 use Rattle.model.proofs.Broken.{Of, Lower, Earliest}
 
 -- ---- over the units
 
--- the units that pass a test
+-- the units whose rows pass a test
 abbrev pub Passing : (Generator → List ℕ → Bool) → List Generator → Schedule → ℕ → Type 0
 Passing p gs rows = Counted (λ u. Of u (λ g r. T (p g r)) gs rows)
 
 pub unit-earliest : (p : Generator → List ℕ → Bool) (gs : List Generator) (rows : Schedule)
     → Earliest _<_ (Passing p gs rows) (first-unit p gs rows)
-unit-earliest p [] rows = nobody
-  where
-    nobody : (v : ℕ) → Passing p [] rows v → ⊥
-    nobody zero h = h
-    nobody (suc u) h = h
-unit-earliest p (g ∷ gs) [] = nobody
-  where
-    nobody : (v : ℕ) → Passing p (g ∷ gs) [] v → ⊥
-    nobody zero h = h
-    nobody (suc u) h = h
+unit-earliest p [] rows = counted-none _ (λ u h. h)
+unit-earliest p (g ∷ gs) [] = counted-none _ (λ u h. h)
 unit-earliest p (g ∷ gs) (r ∷ rows) =
     go (p g r) (first-unit p gs rows) (λ k. k) (λ k. T-not (p g r) k) (unit-earliest p gs rows)
   where

@@ -40,20 +40,23 @@ unit TU = record {
   Dc = 0;
 }
 
--- D and R are 2 and 1
+-- one period, D being 2
+abbrev problem : ℕ → ℕ → Instance
+problem R TU = record { periods = 1; demand = 2 ∷ []; spare = R ∷ []; units = unit TU ∷ [] }
+
 abbrev free-to-stop : Instance
-free-to-stop = record { periods = 1; demand = 2 ∷ []; spare = 1 ∷ []; units = unit 1 ∷ [] }
+free-to-stop = problem 1 1
 
 abbrev bound-to-run : Instance
-bound-to-run = record { periods = 1; demand = 2 ∷ []; spare = 1 ∷ []; units = unit 2 ∷ [] }
+bound-to-run = problem 1 2
 
--- D + R is above its pU
+-- D + R is above the unit's pU
 abbrev too-much : Instance
-too-much = record { periods = 1; demand = 2 ∷ []; spare = 2 ∷ []; units = unit 1 ∷ [] }
+too-much = problem 2 1
 
--- the price meets the slope, so that the bound is the cost
+-- the price meets the slope, so that the bound is the cost; the reserve's multiplier counts R in
 abbrev priced : Tree
-priced = price (2 ∷ []) (0 ∷ [])
+priced = price (2 ∷ []) (1 ∷ [])
 
 abbrev output-two : Schedule
 output-two = (2 ∷ []) ∷ []
