@@ -6,3 +6,16 @@ pub mod Members
 pub mod RangeTests
 pub mod Held
 pub mod Lists
+pub mod Duality
+pub mod Soundness
+pub mod Leaves
+pub mod EveryLeaf
+pub mod Counts
+pub mod OneUnit
+pub mod Searches
+pub mod RuleTests
+pub mod Unbroken
+pub mod Lowest
+pub mod Failures
+pub mod Judging
+pub mod Witnesses

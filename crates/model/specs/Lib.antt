@@ -5,7 +5,9 @@ pub mod Held
 pub mod Rules
 pub mod Cost
 pub mod Breach
+pub mod Broken
 pub mod Above
 pub mod Leaf
 pub mod Tree
+pub mod Agreement
 pub mod Best

@@ -1,0 +1,118 @@
+-- The premises of the laws on trees and on judging can be met: one unit and one period, computed.
+use mathlib.Core.Path.{_≡_, refl}
+use mathlib.Core.Bool.{true}
+use mathlib.Core.List.{[], _∷_}
+use Prim.Native.Nat.{ℕ}
+use lib.Dec.{lit<, lit≤}
+use lib.IntN.{pos}
+use lib.Signed.{_≤ℤ_}
+use Rattle.model.specs.declared.generator.Generator.{Generator}
+use Rattle.model.specs.Instance.{Instance, Schedule}
+use Rattle.model.specs.Rules.{output, capacity, Meets}
+use Rattle.model.specs.Cost.{row-cost, cost}
+use Rattle.model.specs.Above.{root}
+use Rattle.model.specs.Breach.{Breach, first-breach}
+use Rattle.model.specs.Leaf.{available, rows-of, is-stuck, revenue, value, unit-least, units-least, requirement, leaf-value}
+use Rattle.model.specs.Tree.{Tree, split, short, stuck, price, Limits, Holds, never, number, bound}
+use Rattle.model.specs.Broken.{Broken, Lower}
+use Rattle.model.specs.Agreement.{OneLeaf}
+use Rattle.model.proofs.Soundness.{number-sound, never-sound}
+use Rattle.model.proofs.Leaves.{one-leaf}
+use Rattle.model.proofs.Judging.{judge-none, judge-some}
+
+-- on before period 1, from 1 to 3 when on, 1 + 2·p a period; it may go off only after TU periods on
+abbrev unit : ℕ → Generator
+unit TU = record {
+  a = 1;
+  b = 2;
+  c = 0;
+  pL = 1;
+  pU = 3;
+  TU = TU;
+  TD = 1;
+  on = true;
+  since = 1;
+  DR = 1;
+  UR = 1;
+  Hsc = 0;
+  Csc = 0;
+  Tcold = 0;
+  Dc = 0;
+}
+
+-- one period, D being 2
+abbrev problem : ℕ → ℕ → Instance
+problem R TU = record { periods = 1; demand = 2 ∷ []; spare = R ∷ []; units = unit TU ∷ [] }
+
+abbrev free-to-stop : Instance
+free-to-stop = problem 1 1
+
+abbrev bound-to-run : Instance
+bound-to-run = problem 1 2
+
+-- D + R is above the unit's pU
+abbrev too-much : Instance
+too-much = problem 2 1
+
+-- the price meets the slope, so that the bound is the cost; the reserve's multiplier counts R in
+abbrev priced : Tree
+priced = price (2 ∷ []) (1 ∷ [])
+
+abbrev output-two : Schedule
+output-two = (2 ∷ []) ∷ []
+
+-- ---- a number: a short leaf, a stuck leaf, a price leaf
+
+priced-limits : Limits free-to-stop root 0 (split 0 0 (short 0) priced)
+unfolding Limits
+priced-limits = (lit< tt, lit< tt, refl, lit≤ tt, lit< tt, ((refl, ((lit≤ tt, lit≤ tt), tt)), (refl, ((lit≤ tt, lit≤ tt), tt))))
+
+priced-holds : Holds free-to-stop root (split 0 0 (short 0) priced)
+unfolding Holds available is-stuck
+priced-holds = ((lit< tt, lit< tt), tt)
+
+priced-bound : bound free-to-stop root (split 0 0 (short 0) priced) ≡ number (pos 5)
+unfolding bound leaf-value units-least unit-least rows-of value revenue requirement row-cost
+priced-bound = refl
+
+stuck-holds : Holds bound-to-run root (split 0 0 (stuck 0) priced)
+unfolding Holds is-stuck
+stuck-holds = (tt, tt)
+
+-- and a schedule that meets the rules, at that cost
+two-meets : Meets free-to-stop output-two
+unfolding first-breach output capacity
+two-meets = judge-none free-to-stop output-two (refl, (refl, tt)) .0 refl
+
+two-costs : cost free-to-stop output-two ≡ 5
+unfolding cost row-cost
+two-costs = refl
+
+two-at-least : (s : Schedule) → Meets free-to-stop s → pos 5 ≤ℤ pos (cost free-to-stop s)
+two-at-least = number-sound free-to-stop (split 0 0 (short 0) priced) priced-holds (pos 5) priced-bound
+
+two-leaf : OneLeaf root (split 0 0 (short 0) priced) output-two
+two-leaf = one-leaf free-to-stop (split 0 0 (short 0) priced) priced-limits output-two
+
+-- ---- never
+
+short-holds : Holds too-much root (short 0)
+unfolding Holds available
+short-holds = (lit< tt, lit< tt)
+
+short-bound : bound too-much root (short 0) ≡ never
+unfolding bound
+short-bound = refl
+
+none-meets : (s : Schedule) → Meets too-much s → ⊥
+none-meets = never-sound too-much (short 0) short-holds short-bound
+
+-- ---- a first breach: output 1 is under D
+
+abbrev under : Breach
+under = record { number = 22; unit = 0; period = 1 }
+
+one-under : Broken free-to-stop ((1 ∷ []) ∷ []) under
+    × ((c : Breach) → Lower c under → Broken free-to-stop ((1 ∷ []) ∷ []) c → ⊥)
+unfolding first-breach output capacity
+one-under = judge-some free-to-stop ((1 ∷ []) ∷ []) under .0 refl

@@ -1,0 +1,53 @@
+-- When a schedule agrees with the statuses fixed above a node, and what the leaves of a tree are.
+use mathlib.Core.Path.{_≡_}
+use mathlib.Core.Bool.{true, false}
+use mathlib.Core.List.{[]}
+use mathlib.Core.Logic.{_⊎_, inl, inr}
+use Prim.Native.Nat.{ℕ}
+use lib.Dec.{T}
+use lib.ListN.{getD}
+use Rattle.model.specs.Instance.{Schedule, _at_}
+use Rattle.model.specs.Rules.{on}
+use Rattle.model.specs.Above.{Marks, Above, fix, allows}
+use Rattle.model.specs.Tree.{Tree, split, short, stuck, price}
+
+-- unit u's output in period t, both counted from 0; 0 where there is none
+abbrev pub out : Schedule → ℕ → ℕ → ℕ
+out s u t = getD s u [] at t
+
+-- the schedule has every status that the marks fix
+abbrev pub Follows : Marks → Schedule → Type 0
+Follows m s = (u t : ℕ) → T (allows (m u t) (on (out s u t)))
+
+-- it agrees with all that stands above a node
+abbrev pub Agrees : Above → Schedule → Type 0
+Agrees A s = Follows (A .marks) s
+
+-- the leaves of a tree: those of a split's first tree and those of its second
+abbrev pub LeafOf : Tree → Type 0
+LeafOf (split U t x y) = LeafOf x ⊎ LeafOf y
+LeafOf (short t) = Unit {0}
+LeafOf (stuck U) = Unit {0}
+LeafOf (price q s) = Unit {0}
+
+-- what stands above a leaf, when A stands above the tree
+abbrev pub above : Above → (t : Tree) → LeafOf t → Above
+above A (split U t x y) (inl l) = above (fix U t false A) x l
+above A (split U t x y) (inr l) = above (fix U t true A) y l
+above A (short t) l = A
+above A (stuck U) l = A
+above A (price q s) l = A
+
+-- the leaf itself
+abbrev pub leaf-at : (t : Tree) → LeafOf t → Tree
+leaf-at (split U t x y) (inl l) = leaf-at x l
+leaf-at (split U t x y) (inr l) = leaf-at y l
+leaf-at (short t) l = short t
+leaf-at (stuck U) l = stuck U
+leaf-at (price q s) l = price q s
+
+-- of the leaves of a tree, the schedule agrees with one and with no other
+pub record OneLeaf (A : Above) (t : Tree) (s : Schedule) : Type 0 where
+  pub leaf : LeafOf t
+  pub agrees : Agrees (above A t leaf) s
+  pub only : (l : LeafOf t) → Agrees (above A t l) s → l ≡ leaf
