@@ -1,0 +1,137 @@
+//! Makes inputs of the listing program from a seed, answers them and counts the kinds of answers.
+//!
+//! `generate SEED COUNT DIR` writes NNNNN.txt and NNNNN.out; `generate SEED COUNT` only counts.
+
+use std::collections::BTreeMap;
+use std::path::Path;
+use std::process::ExitCode;
+use std::{env, fs, io};
+
+use second::{inputs, listing};
+
+/// From this many inputs on, every kind of answer must come.
+const ENOUGH_INPUTS: u64 = 500;
+const LEAST_OF_EACH: u64 = 5;
+
+const REFUSALS: [&str; 16] = [
+    "12", "13", "14", "15", "21", "22", "23", "24", "25", "31", "32", "33", "34", "35", "41", "42",
+];
+
+const ACCEPTED: [&str; 7] = [
+    "held problem",
+    "held schedule",
+    "held tree",
+    "passed schedule",
+    "passed tree",
+    "bound never",
+    "bound negative",
+];
+
+/// How often each kind of answer came.
+#[derive(Default)]
+struct Table(BTreeMap<String, u64>);
+
+impl Table {
+    fn add(&mut self, kind: &str) {
+        *self.0.entry(kind.to_string()).or_default() += 1;
+    }
+
+    fn of(&self, kind: &str) -> u64 {
+        self.0.get(kind).copied().unwrap_or(0)
+    }
+
+    fn add_output(&mut self, output: &str) {
+        for line in output.lines() {
+            if let Some(answer) = line.strip_prefix("answer=") {
+                self.add_answer(answer);
+            }
+        }
+    }
+
+    fn add_answer(&mut self, answer: &str) {
+        let words: Vec<&str> = answer.split(',').collect();
+        if words[0] == "refused" {
+            self.add(&format!("refused {}", words[1]));
+            return;
+        }
+        let text = ["problem", "schedule", "", "tree"][words.len() - 1];
+        self.add(&format!("{} {text}", words[0]));
+        if text == "tree" && words[1] == "never" {
+            self.add("bound never");
+        }
+        if text == "tree" && words[1].starts_with('-') {
+            self.add("bound negative");
+        }
+    }
+
+    /// The kinds that came too seldom.
+    fn lacking(&self) -> Vec<String> {
+        let refusals = REFUSALS.iter().map(|number| format!("refused {number}"));
+        let accepted = ACCEPTED.iter().map(|kind| kind.to_string());
+        refusals
+            .chain(accepted)
+            .filter(|kind| self.of(kind) < LEAST_OF_EACH)
+            .collect()
+    }
+
+    fn print(&self) {
+        for (kind, count) in &self.0 {
+            println!("{count:8} {kind}");
+        }
+    }
+}
+
+fn main() -> ExitCode {
+    let words: Vec<String> = env::args().skip(1).collect();
+    let Some((seed, count, directory)) = understood(&words) else {
+        eprintln!("generate SEED COUNT [DIR]");
+        return ExitCode::from(2);
+    };
+    match run(seed, count, directory) {
+        Ok(table) => judged(&table, count),
+        Err(error) => {
+            eprintln!("generate: {error}");
+            ExitCode::from(2)
+        }
+    }
+}
+
+fn understood(words: &[String]) -> Option<(u64, u64, Option<&Path>)> {
+    match words {
+        [seed, count] => Some((seed.parse().ok()?, count.parse().ok()?, None)),
+        [seed, count, directory] => Some((
+            seed.parse().ok()?,
+            count.parse().ok()?,
+            Some(Path::new(directory)),
+        )),
+        _ => None,
+    }
+}
+
+/// Makes and answers all inputs, and writes them if a directory is given.
+fn run(seed: u64, count: u64, directory: Option<&Path>) -> io::Result<Table> {
+    let mut table = Table::default();
+    if let Some(directory) = directory {
+        fs::create_dir_all(directory)?;
+    }
+    for index in 0..count {
+        let input = inputs::input(seed, index);
+        let output = listing(&input);
+        table.add_output(&String::from_utf8_lossy(&output));
+        if let Some(directory) = directory {
+            fs::write(directory.join(format!("{index:05}.txt")), &input)?;
+            fs::write(directory.join(format!("{index:05}.out")), &output)?;
+        }
+    }
+    Ok(table)
+}
+
+fn judged(table: &Table, count: u64) -> ExitCode {
+    table.print();
+    let lacking = table.lacking();
+    if count < ENOUGH_INPUTS || lacking.is_empty() {
+        return ExitCode::SUCCESS;
+    }
+    eprintln!("fewer than {LEAST_OF_EACH} times: {}", lacking.join("; "));
+    ExitCode::FAILURE
+}

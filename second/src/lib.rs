@@ -1,0 +1,29 @@
+//! A second unit commitment docket, written from document 01 alone so that another one can be
+//! compared with it. It is plain rather than quick.
+//!
+//! - `text`: lines and numerals; `refusal`: numbers and places
+//! - `generator`, `problem`: what a problem text gives
+//! - `schedule`: the rules for a schedule and its cost
+//! - `minimum`: the least value of one unit under multipliers
+//! - `leaf`: when a leaf holds and what it is worth
+//! - `tree`: nodes and the bound
+//! - `docket`: what is held, and the report
+//! - `listing`: the listing program on bytes
+//! - `inputs`: inputs of the listing program from a seed, to compare with
+
+pub mod docket;
+pub mod generator;
+pub mod inputs;
+pub mod leaf;
+pub mod listing;
+pub mod minimum;
+pub mod problem;
+pub mod refusal;
+pub mod schedule;
+pub mod text;
+pub mod tree;
+
+pub use docket::{fresh, lodge, report, Answer, Docket, Figures, HeldBound, HeldCost};
+pub use listing::listing;
+pub use refusal::Refusal;
+pub use tree::Bound;

@@ -1,0 +1,155 @@
+//! Trees: reading, leaves and the bound (document 01, "Texts" and "Rules for a leaf").
+
+use std::fmt;
+
+use crate::leaf::{short_holds, stuck_holds, Pricing};
+use crate::problem::Problem;
+use crate::refusal::Refusal;
+use crate::schedule::MOST_WRITER;
+use crate::text::{Line, Reader};
+
+/// A split at a larger depth is refused by 32. The root has depth 0.
+const DEEPEST_SPLIT: usize = 63;
+const MOST_MULTIPLIER: i64 = 1_000_000_000;
+
+/// What a tree shows: that no schedule costs less than a number, or that there is none at all.
+/// `Never` comes last and so lies above every number.
+#[derive(Clone, Copy, Debug, PartialEq, Eq, PartialOrd, Ord)]
+pub enum Bound {
+    Number(i64),
+    Never,
+}
+
+impl fmt::Display for Bound {
+    fn fmt(&self, to: &mut fmt::Formatter) -> fmt::Result {
+        match self {
+            Bound::Number(number) => write!(to, "{number}"),
+            Bound::Never => write!(to, "never"),
+        }
+    }
+}
+
+/// An accepted tree: its bound, and its split lines and leaves counted.
+#[derive(Clone, Copy, Debug, PartialEq, Eq)]
+pub struct Tree {
+    pub writer: i64,
+    pub bound: Bound,
+    pub splits: usize,
+    pub leaves: usize,
+}
+
+/// Reads the lines after `kind=tree`, judging each node as it comes.
+pub fn read(problem: &Problem, reader: &mut Reader) -> Result<Tree, Refusal> {
+    let writer = reader.take_one("writer", 1, MOST_WRITER)?;
+    let mut walk = Walk {
+        problem,
+        fixed: vec![vec![None; problem.periods()]; problem.units.len()],
+        pricing: Pricing::of(problem),
+        tree: Tree {
+            writer,
+            bound: Bound::Never,
+            splits: 0,
+            leaves: 0,
+        },
+    };
+    walk.read_node(reader, 0)?;
+    reader.take_end("end=tree")?;
+    Ok(walk.tree)
+}
+
+/// The reading of one tree.
+struct Walk<'a> {
+    problem: &'a Problem,
+    /// Statuses fixed by the splits above the node being read, by unit and period from 0.
+    fixed: Vec<Vec<Option<bool>>>,
+    pricing: Pricing<'a>,
+    /// The bound and the counts of what has been read.
+    tree: Tree,
+}
+
+impl Walk<'_> {
+    fn read_node(&mut self, reader: &mut Reader, depth: usize) -> Result<(), Refusal> {
+        let line = reader.take()?;
+        if line.has_key("split") {
+            self.read_split(reader, line, depth)
+        } else if line.has_key("short") {
+            self.read_short(line)
+        } else if line.has_key("stuck") {
+            self.read_stuck(line)
+        } else if line.has_key("price") {
+            self.read_price(reader, line)
+        } else {
+            Err(line.refuse(12))
+        }
+    }
+
+    /// `split=U,P`: 12, 14, 13, 31, 32, then the tree with U off in P and the one with U on.
+    fn read_split(&mut self, reader: &mut Reader, line: Line, depth: usize) -> Result<(), Refusal> {
+        let values = line.values("split", None)?;
+        line.check_count(&values, 2)?;
+        let unit = self.unit_named(line, values[0])?;
+        let period = self.period_named(line, values[1])?;
+        if self.fixed[unit][period].is_some() {
+            return Err(line.refuse(31));
+        }
+        if depth > DEEPEST_SPLIT {
+            return Err(line.refuse(32));
+        }
+        self.tree.splits += 1;
+        for status in [false, true] {
+            self.fixed[unit][period] = Some(status);
+            self.read_node(reader, depth + 1)?;
+        }
+        self.fixed[unit][period] = None;
+        Ok(())
+    }
+
+    /// `short=P`: all units that may be on in P together cannot give D + R (else 33).
+    fn read_short(&mut self, line: Line) -> Result<(), Refusal> {
+        let values = line.values("short", None)?;
+        line.check_count(&values, 1)?;
+        let period = self.period_named(line, values[0])?;
+        if !short_holds(self.problem, &self.fixed, period) {
+            return Err(line.refuse(33));
+        }
+        self.tree.leaves += 1;
+        Ok(())
+    }
+
+    /// `stuck=U`: the fixed statuses leave U no run (else 34).
+    fn read_stuck(&mut self, line: Line) -> Result<(), Refusal> {
+        let values = line.values("stuck", None)?;
+        line.check_count(&values, 1)?;
+        let unit = self.unit_named(line, values[0])?;
+        if !stuck_holds(self.problem, &self.fixed, unit) {
+            return Err(line.refuse(34));
+        }
+        self.tree.leaves += 1;
+        Ok(())
+    }
+
+    /// `price=` and the `reserve=` line after it; 35 stands at the latter.
+    fn read_price(&mut self, reader: &mut Reader, line: Line) -> Result<(), Refusal> {
+        let periods = self.problem.periods();
+        let prices = line.row("price", periods, 0, MOST_MULTIPLIER)?;
+        let line = reader.take()?;
+        let reserves = line.row("reserve", periods, 0, MOST_MULTIPLIER)?;
+        let value = self.pricing.value(&self.fixed, &prices, &reserves);
+        let value = value.ok_or(line.refuse(35))?;
+        self.tree.bound = self.tree.bound.min(Bound::Number(value));
+        self.tree.leaves += 1;
+        Ok(())
+    }
+
+    /// The unit (from 0) that a number from 1 to I names, else 13.
+    fn unit_named(&self, line: Line, number: i64) -> Result<usize, Refusal> {
+        line.check_range(number, 1, self.problem.units.len() as i64)?;
+        Ok(number as usize - 1)
+    }
+
+    /// The period (from 0) that a number from 1 to T names, else 13.
+    fn period_named(&self, line: Line, number: i64) -> Result<usize, Refusal> {
+        line.check_range(number, 1, self.problem.periods() as i64)?;
+        Ok(number as usize - 1)
+    }
+}
