@@ -15,7 +15,7 @@ pub record First {A : Type 0} (better : A → A → Bool) (h : A) (l : List A) :
   pub worse : (x : A) → List·Memᴰ x before → T (better h x)
   pub no-better : (x : A) → List·Memᴰ x after → T (not (better x h))
 
--- a cost, and a bound, never being above every number
+-- whether the first bound is above the second, never being above every number
 abbrev pub higher : Bound → Bound → Bool
 higher never never = false
 higher never (number y) = true

@@ -84,7 +84,7 @@ any-stuck n (g ∷ gs) m = is-stuck n g (m 0) || any-stuck n gs (rest m)
 abbrev pub minℤ : ℤ → ℤ → ℤ
 minℤ x y = cond (leZ x y) x y
 
--- the least of a list; of an empty one, which no leaf has, 0
+-- the least of a list; of an empty one 0 (a good unit that is not stuck has a row)
 abbrev pub least : List ℤ → ℤ
 least [] = pos 0
 least (x ∷ []) = x

@@ -11,3 +11,5 @@ pub mod Leaf
 pub mod Tree
 pub mod Agreement
 pub mod Best
+pub mod Examples
+pub mod TreeExamples

@@ -46,7 +46,8 @@ fn holds_both(x: bool, y: bool) -> bool
 }
 
 impl Generator {
-    // a, Hsc, Csc and Dc are at most this, and so on for the others.
+    // MOST_COST is for a, Hsc, Csc and Dc; LEAST_OUTPUT and MOST_OUTPUT are for pL, pU, DR and UR; the times are TU and TD, and
+    // MOST_TIME is Tcold's too.
     pub const MOST_COST: u64 = 1_000_000_000;
 
     pub const MOST_B: u64 = 10_000_000;

@@ -4,7 +4,7 @@ ghost use Prim.Native.Nat.{ℕ};
 ghost use Rattle.model.specs.Held.{blank-problem};
 use crate::generator::Generator;
 
-// A problem of at most 48 periods and 32 generators; what lies beyond its periods and units is 0.
+// A problem of at most 48 periods and 32 generators; the arrays begin with the problem's own.
 pub struct Problem {
     pub periods: usize,
     pub units: usize,

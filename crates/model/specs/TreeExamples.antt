@@ -1,0 +1,153 @@
+-- Document 01, Specimens and Wrong turns: what the definitions of leaves and trees give on numbers. Every line is found by
+-- computing, a price leaf's value by trying every row.
+use mathlib.Core.Path.{_≡_, refl, subst, subst⁻¹}
+use mathlib.Core.Bool.{Bool, true, false, not}
+use mathlib.Core.List.{List, [], _∷_, map, List·Memᴰ·eq-of-singleton}
+use Prim.Native.Nat.{ℕ}
+use lib.Dec.{T, ltb, lit<, lit≤, lt→ltb, le→leb}
+use lib.IntN.{ℤ, pos, negℤ}
+use lib.ListN.{getD, replicate}
+use Rattle.model.specs.declared.generator.Generator.{Generator}
+use Rattle.model.specs.Instance.{Instance, _at_}
+use Rattle.model.specs.Cost.{row-cost}
+use Rattle.model.specs.Above.{Mark, free, fixed, root, fix}
+use Rattle.model.specs.Leaf.{available, rows-of, is-stuck, revenue, value, unit-least, units-least, requirement, leaf-value}
+use Rattle.model.specs.Tree.{Tree, split, short, stuck, price, Limits, Holds, Bound, never, number, bound, splits, leaves, depth}
+use Rattle.model.specs.Best.{higher, FirstLeast}
+use Rattle.model.specs.Examples.{line, with-spare, example, timed, square, three}
+
+-- ---- Above and Leaf
+
+-- in period 2, nothing fixed, unit 2 fixed off, fixed on; and in period 1 with unit 2 off in period 2: a free unit counts
+short-sums : (map (λ A. available (example .units) (A .marks) 1) (root ∷ fix 1 1 false root ∷ fix 1 1 true root ∷ []) ≡ 130 ∷ 80 ∷ 130 ∷ [])
+    × (available (example .units) (fix 1 1 false root .marks) 0 ≡ 130)
+unfolding available
+short-sums = (refl, refl)
+
+-- document 01, Specimens: a lone `short=2` does not hold, nor one with 130 to be had and D + R = 130
+not-short : (Holds example root (short 1) → ⊥) × (Holds (with-spare 30) root (short 1) → ⊥)
+unfolding Holds available
+not-short = ((λ h. lt→ltb 130 110 (h .1)), (λ h. lt→ltb 130 130 (h .1)))
+
+-- TD 3 and Tini -1: nothing fixed, on in period 2, on in period 3, off in all
+stuck-by-times : map (λ l. is-stuck 3 (timed 1 3 0 false 1) (λ t. getD l t free)) (
+    [] ∷ (free ∷ fixed true ∷ []) ∷ (free ∷ free ∷ fixed true ∷ []) ∷ replicate 3 (fixed false) ∷ []) ≡ false ∷ true ∷ false ∷ false ∷ []
+unfolding is-stuck
+stuck-by-times = refl
+
+-- TU 2, off long before: off, on, off; then off, on, free, off
+stuck-by-run : map (λ l. is-stuck 4 (timed 2 2 0 false 9) (λ t. getD l t free)) (
+    (fixed false ∷ fixed true ∷ fixed false ∷ []) ∷ (fixed false ∷ fixed true ∷ free ∷ fixed false ∷ []) ∷ []) ≡ true ∷ false ∷ []
+unfolding is-stuck
+stuck-by-run = refl
+
+-- 5·p·p less 36·p is least at 3.6. Of 3 to 5, 4 gives -64 where 3 gives -63; then 3 alone, and 5 alone
+whole-output : map (λ g. unit-least 1 (λ t. 36) (λ t. 0) g (λ t. free)) (square 3 5 true 1 ∷ square 3 3 true 1 ∷ square 5 5 true 1 ∷ [])
+    ≡ negℤ (pos 64) ∷ negℤ (pos 63) ∷ negℤ (pos 55) ∷ []
+unfolding unit-least value revenue rows-of row-cost
+whole-output = refl
+
+-- c = 0, b = 2, outputs 3 to 5: the price 10 wants pU; the price 1 wants off, or pL where on is fixed
+straight : map (λ q. map (λ x. unit-least 1 (λ t. q) (λ t. 0) (line 0 2 0 3 5 1 1 true 1 1 1 0 0 0 0) (λ t. x)) (free ∷ fixed true ∷ [])) (10 ∷ 1 ∷ [])
+    ≡ (negℤ (pos 40) ∷ negℤ (pos 40) ∷ []) ∷ (pos 0 ∷ pos 3 ∷ []) ∷ []
+unfolding unit-least value revenue rows-of row-cost
+straight = refl
+
+-- a start is taken off the gain: 20 after one period off; 90, more than the gain, after two. s·pU adds to it
+start-and-spare : map (λ k. map (λ s. unit-least 1 (λ t. 36) (λ t. s) (square 3 5 false k) (λ t. free)) (0 ∷ 2 ∷ [])) (1 ∷ 2 ∷ [])
+    ≡ (negℤ (pos 44) ∷ negℤ (pos 54) ∷ []) ∷ (pos 0 ∷ pos 0 ∷ []) ∷ []
+unfolding unit-least value revenue rows-of row-cost
+start-and-spare = refl
+
+-- UR is 1, yet the best outputs of two periods are taken together, 3 and 5
+no-ramps : unit-least 2 (λ t. (30 ∷ 50 ∷ []) at t) (λ t. 0) (square 3 5 true 1) (λ t. free) ≡ negℤ (pos 170)
+unfolding unit-least value revenue rows-of row-cost
+no-ramps = refl
+
+-- D = 7 and R = 2 at the prices 36 and 2: -74 for the unit, and 36·7 + 2·9
+abbrev tiny : ℕ → ℕ → Instance
+tiny D R = record { periods = 1; demand = D ∷ []; spare = R ∷ []; units = square 3 5 true 1 ∷ [] }
+
+spare-priced : leaf-value (tiny 7 2) (root .marks) (λ t. 36) (λ t. 2) ≡ pos 196
+unfolding leaf-value units-least unit-least value revenue requirement rows-of row-cost
+spare-priced = refl
+
+-- ---- Tree
+
+-- document 01, Specimens: the tree of the listing, and a lone price leaf
+abbrev tree : Tree
+tree = split 1 1 (short 1) (price (10 ∷ 14 ∷ []) (0 ∷ 0 ∷ []))
+
+specimen-bounds : map (bound example root) (tree ∷ price (10 ∷ 14 ∷ []) (0 ∷ 2 ∷ []) ∷ []) ≡ number (pos 1980) ∷ number (pos 1940) ∷ []
+unfolding bound leaf-value units-least unit-least value revenue requirement rows-of row-cost
+specimen-bounds = refl
+
+tree-holds : Holds example root tree
+unfolding Holds available is-stuck
+tree-holds = ((lit< tt, lit< tt), tt)
+
+-- the smallest leaf may be the last or the first, and below 0; without a price leaf the bound is never
+abbrev halves : ℕ → ℕ → Tree
+halves q q′ = split 0 0 (price (q ∷ []) (0 ∷ [])) (price (q′ ∷ []) (0 ∷ []))
+
+smallest : (map (bound (tiny 7 0) root) (halves 36 36 ∷ halves 1 36 ∷ short 0 ∷ []) ≡ number (pos 188) ∷ number (pos 7) ∷ never ∷ [])
+    × (bound (tiny 0 0) root (halves 36 36) ≡ number (negℤ (pos 64)))
+unfolding bound leaf-value units-least unit-least value revenue requirement rows-of row-cost
+smallest = (refl, refl)
+
+-- split lines, leaves, depth; a price leaf is one leaf
+counts : (splits tree ≡ 1) × (leaves tree ≡ 2) × (depth tree ≡ 1) × (leaves (price [] []) ≡ 1)
+unfolding splits leaves depth
+counts = (refl, refl, refl, refl)
+
+-- two units, the second with TD 3 and Tini -1: with it on in period 2 `stuck=2` holds, `stuck=1` and a price leaf do not
+abbrev late : Instance
+late = three 0 0 (timed 1 1 0 false 1 ∷ timed 1 3 0 false 1 ∷ [])
+
+stuck-there : Holds late (fix 1 1 true root) (stuck 1) × (Holds late (fix 1 1 true root) (stuck 0) → ⊥) × (Holds late (fix 1 1 true root) (price [] []) → ⊥)
+unfolding Holds is-stuck
+stuck-there = (tt, (λ h. h), (λ h. h))
+
+-- with nothing fixed, or the first on in period 2, no unit is stuck
+stuck-nowhere : Holds late root (price [] []) × Holds late (fix 0 1 true root) (price [] []) × (Holds late root (stuck 1) → ⊥)
+unfolding Holds is-stuck
+stuck-nowhere = (tt, tt, (λ h. h))
+
+-- 32: a split may stand at depth 63; not at 64, in either tree of one at 63
+depth-63 : Limits example root 63 (split 0 0 (short 0) (short 1))
+unfolding Limits
+depth-63 = (lit< tt, lit< tt, refl, lit≤ tt, lit< tt, lit< tt)
+
+depth-64 : (x y z : Tree) → (Limits example root 63 (split 0 0 (split 0 1 x y) z) → ⊥) × (Limits example root 63 (split 0 0 z (split 0 1 x y)) → ⊥)
+unfolding Limits
+depth-64 x y z = ((λ h. le→leb 64 63 (h .4 .3)), (λ h. le→leb 64 63 (h .5 .3)))
+
+-- 31: no status is split twice, in either tree; the same unit may be split in another period
+abbrev Fixed : Mark → Type 0
+Fixed free = ⊥
+Fixed (fixed b) = Unit {0}
+
+twice : (x y z : Tree) → (Limits example root 0 (split 1 1 (split 1 1 x y) z) → ⊥) × (Limits example root 0 (split 1 1 z (split 1 1 x y)) → ⊥)
+unfolding Limits
+twice x y z = ((λ h. subst Fixed (h .4 .2) tt), (λ h. subst Fixed (h .5 .2) tt))
+
+other-period : Limits example (fix 1 1 false root) 1 (split 1 0 (short 0) (stuck 1))
+unfolding Limits
+other-period = (lit< tt, lit< tt, refl, lit≤ tt, lit< tt, lit< tt)
+
+-- ---- Best
+
+-- never is above every number, and not above itself; equal bounds are not above each other; -3 is above -4
+above : (higher never (number (pos 9)) ≡ true) × (higher (number (pos 9)) never ≡ false) × (higher never never ≡ false)
+    × (higher (number (pos 9)) (number (pos 9)) ≡ false) × (higher (number (negℤ (pos 3))) (number (negℤ (pos 4))) ≡ true)
+above = (refl, refl, refl, refl, refl)
+
+-- of the costs 3, 1, 1 by the writers 7, 8, 9 the first least is that of 8
+first-least : FirstLeast (λ (x : ℕ × ℕ). x .0) (1, 8) ((3, 7) ∷ (1, 8) ∷ (1, 9) ∷ [])
+first-least = record {
+  before = (3, 7) ∷ [];
+  after = (1, 9) ∷ [];
+  parts = refl;
+  worse = λ x m. subst⁻¹ (λ (y : ℕ × ℕ). T (ltb 1 (y .0))) (List·Memᴰ·eq-of-singleton m) tt;
+  no-better = λ x m. subst⁻¹ (λ (y : ℕ × ℕ). T (not (ltb (y .0) 1))) (List·Memᴰ·eq-of-singleton m) tt;
+}
