@@ -1,0 +1,4 @@
+-- The source paper's equations.
+pub mod Source
+pub mod Sentences
+pub mod Least
