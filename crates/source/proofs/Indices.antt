@@ -40,6 +40,10 @@ pub Σᵢ-same : (f f′ : ℕ → Generator → ℕ) (gs : List Generator) → 
 Σᵢ-same f f′ [] e = refl
 Σᵢ-same f f′ (g ∷ gs) e = ap₂ _+_ (e .0) (Σᵢ-same (λ i h. f (suc i) h) (λ i h. f′ (suc i) h) gs (e .1))
 
+pub Σᵢ-le : (f f′ : ℕ → Generator → ℕ) (gs : List Generator) → Every (λ i g. f i g ≤ f′ i g) gs → Σᵢ f gs ≤ Σᵢ f′ gs
+Σᵢ-le f f′ [] e = omega arith
+Σᵢ-le f f′ (g ∷ gs) e = omega (arith, e .0, Σᵢ-le (λ i h. f (suc i) h) (λ i h. f′ (suc i) h) gs (e .1))
+
 pub every-all : (R : ℕ → Generator → Type 0) (gs : List Generator) → ((i : ℕ) (g : Generator) → R i g) → Every R gs
 every-all R [] f = tt
 every-all R (g ∷ gs) f = (f 1 g, every-all (λ i h. R (suc i) h) gs (λ i h. f (suc i) h))

@@ -105,7 +105,7 @@ source-status n g u p R S t l m = eq4-status g (u t) (p t) (R .low) (S .eq22 t l
 
 -- the equations look at u and p in the periods 1 to T only
 module _ (n : ℕ) (g : Generator) (u v : ℕ → ℕ) (e : (t : ℕ) → 1 ≤ t → t ≤ n → u t ≡ v t) where
-  updown-same : ToT n g u → ToT n g v
+  pub updown-same : ToT n g u → ToT n g v
   updown-same S = record {
     eq5 = λ h t l k m. sym (e t l m) ∙ S .eq5 h t l k m;
     eq6 = λ h t l k m. sym (e t l m) ∙ S .eq6 h t l k m;

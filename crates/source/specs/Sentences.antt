@@ -39,6 +39,10 @@ abbrev pub surcharge : Generator → (ℕ → ℕ) → ℕ → ℕ
 surcharge g u zero = 0
 surcharge g u (suc t) = too-soon g (suc t) (from g u t) (downtime g u (suc t)) (u (suc t)) * (g .Csc - g .Hsc)
 
--- over a schedule
+-- cu with (15) as printed
+abbrev pub printed-cost : Generator → (ℕ → ℕ) → ℕ → ℕ
+printed-cost g u t = start-cost g u t + surcharge g u t
+
+-- the surcharges of a schedule
 unfoldable pub surcharges : Instance → Schedule → ℕ
 surcharges P s = sum-units (λ g r. Σ₁ (P .periods) (surcharge g (u-row r))) (P .units) s
