@@ -10,11 +10,10 @@ use lib.IntN.{pos, _+ℤ_}
 use lib.Signed.{_<ℤ_}
 use Rattle.model.specs.declared.generator.Generator.{Generator}
 use Rattle.model.specs.Instance.{Tini}
-use Rattle.source.specs.Source.{Σ₁, num, from, idle, longer, downs, downtime, Fifteen, Sentence15, Charges}
+use Rattle.source.specs.Source.{Bits, Σ₁, num, from, idle, longer, downs, downtime, Fifteen, Sentence15, Charges}
 use Rattle.source.specs.Sentences.{starting, stopping, start-cost, stop-cost}
 use Rattle.source.proofs.Before.{off-below, off-of, on-of, either-of}
 use Rattle.source.proofs.Stays.{num-le}
-use Rattle.source.proofs.UpDown.{Bits}
 use Rattle.source.proofs.Downtime.{long-down, idle-on, prev-off, sum16}
 
 -- one form of (15) for another

@@ -10,9 +10,8 @@ use lib.IntN.{pos, _+ℤ_, _-ℤ_}
 use lib.Signed.{_≤ℤ_, _<ℤ_}
 use Rattle.model.specs.declared.generator.Generator.{Generator}
 use Rattle.model.specs.Instance.{Tini}
-use Rattle.source.specs.Source.{UpDown, ToT, Letter}
+use Rattle.source.specs.Source.{UpDown, ToT, Letter, SomePast, Bits}
 use Rattle.source.proofs.Before.{off-of, on-of, end5, end6}
-use Rattle.source.proofs.UpDown.{Bits}
 use Rattle.source.proofs.Rows.{updown-same}
 
 abbrev kept : ℕ → (ℕ → ℕ) → ℕ → ℕ
@@ -93,12 +92,6 @@ letter→updown n g u L = record {
   eq9 = λ t l m j i k e. L .eq9 t l m j i k tt;
   eq10 = λ h j i k e. L .eq10 h j i k tt;
 }
-
--- some statuses past T with which u obeys (5) to (10) to the letter
-pub record SomePast (T : ℕ) (g : Generator) (u : ℕ → ℕ) : Type 0 where
-  pub past : ℕ → ℕ
-  pub same : (t : ℕ) → 1 ≤ t → t ≤ T → past t ≡ u t
-  pub letter : Letter T g past
 
 pub letter-is : (n : ℕ) (g : Generator) (u : ℕ → ℕ) → 1 ≤ n → Bits n u → SomePast n g u ↔ ToT n g u
 letter-is n g u N bits = (

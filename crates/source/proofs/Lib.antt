@@ -15,3 +15,6 @@ pub mod Repaired
 pub mod Printed
 pub mod Horizon
 pub mod Solutions
+pub mod BoundOfSource
+pub mod ShownFifteen
+pub mod Conditions

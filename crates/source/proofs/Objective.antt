@@ -7,13 +7,12 @@ use native.Mathlib.Omega.{arith}
 use Rattle.model.specs.declared.generator.Generator.{Generator}
 use Rattle.model.specs.Instance.{Instance}
 use Rattle.model.specs.Rules.{on}
-use Rattle.source.specs.Source.{Σ₁, Σᵢ, Every, UnitSource, Source, num, Fifteen, Sentence15, Charges, Costs, term, objective}
+use Rattle.source.specs.Source.{Bits, Σ₁, Σᵢ, Every, UnitSource, Source, num, Fifteen, Sentence15, Charges, Costs, term, objective}
 use Rattle.source.specs.Sentences.{start-cost, stop-cost}
 use Rattle.source.specs.Least.{LeastWith}
 use Rattle.source.proofs.Indices.{Σ₁-le, Σᵢ-same, Σᵢ-le, every-all, every-map, every-both}
 use Rattle.source.proofs.Ranged.{Ranged, AllRanged}
 use Rattle.source.proofs.Stays.{num-le}
-use Rattle.source.proofs.UpDown.{Bits}
 use Rattle.source.proofs.Rows.{source-status}
 use Rattle.source.proofs.Schedules.{problem-same, statuses-are}
 use Rattle.source.proofs.Charges.{charges-allowed, start-below, stop-below, start-same, stop-same}

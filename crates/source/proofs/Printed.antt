@@ -13,12 +13,11 @@ use Rattle.model.specs.Ranges.{WellFormed}
 use Rattle.model.specs.Rules.{Meets}
 use Rattle.model.specs.Cost.{row-cost, cost}
 use Rattle.model.proofs.Sums.{sum-add}
-use Rattle.source.specs.Source.{Σ₁, Σᵢ, nth, from, downtime, Printed15, Sentence15, Charges, term, u-row, p-of, u-of}
+use Rattle.source.specs.Source.{Bits, Σ₁, Σᵢ, nth, from, downtime, Printed15, Sentence15, Charges, term, u-row, p-of, u-of}
 use Rattle.source.specs.Sentences.{starting, start-cost, stop-cost, too-soon, surcharge, printed-cost, surcharges}
 use Rattle.source.specs.Least.{LeastWith}
 use Rattle.source.proofs.Indices.{Σ₁-same, Shape, shape-of}
 use Rattle.source.proofs.Ranged.{formed→ranged}
-use Rattle.source.proofs.UpDown.{Bits}
 use Rattle.source.proofs.Downtime.{prev-off, sum15}
 use Rattle.source.proofs.Schedules.{meets→source}
 use Rattle.source.proofs.Charges.{charges-map, charges-allowed, start-below, downtime-same, from-same, start-same}

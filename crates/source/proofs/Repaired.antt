@@ -6,10 +6,9 @@ use mathlib.Core.Logic.{_↔_}
 use Prim.Native.Nat.{ℕ, zero, suc, _+_, _*_, _-_, _≤_, _<_}
 use native.Mathlib.Omega.{arith}
 use Rattle.model.specs.declared.generator.Generator.{Generator}
-use Rattle.source.specs.Source.{Σ₁, num, from, idle, longer, downs, downtime, Repaired15, Sentence15}
+use Rattle.source.specs.Source.{Bits, Σ₁, num, from, idle, longer, downs, downtime, Repaired15, Sentence15}
 use Rattle.source.specs.Sentences.{start-cost, stop-cost}
 use Rattle.source.proofs.Indices.{Σ₁-same}
-use Rattle.source.proofs.UpDown.{Bits}
 use Rattle.source.proofs.Downtime.{sum→down, down→sum}
 use Rattle.source.proofs.Charges.{charges-map}
 use Rattle.source.proofs.Objective.{LeastStart, sentence-least}

@@ -11,9 +11,9 @@ use lib.ListN.{length, length-map, List·getD-map}
 use Rattle.model.specs.declared.generator.Generator.{Generator}
 use Rattle.model.specs.Instance.{_at_}
 use Rattle.model.specs.Rules.{on, statuses, Within, Ramp, Row}
-use Rattle.source.specs.Source.{nth, UpDown, ToT, UnitSource, num, from, u-row}
+use Rattle.source.specs.Source.{nth, UpDown, ToT, Bits, UnitSource, num, from, u-row}
 use Rattle.source.proofs.Stays.{num-le, Reads}
-use Rattle.source.proofs.UpDown.{Bits, keeps→updown, updown→keeps}
+use Rattle.source.proofs.UpDown.{keeps→updown, updown→keeps}
 use Rattle.source.proofs.Ranged.{Ranged}
 
 -- ---- (4), of one output

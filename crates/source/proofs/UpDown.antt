@@ -13,16 +13,13 @@ use lib.Signed.{_<ℤ_}
 use Rattle.model.specs.declared.generator.Generator.{Generator}
 use Rattle.model.specs.Instance.{Tini}
 use Rattle.model.specs.Rules.{keeps}
-use Rattle.source.specs.Source.{UpDown, ToT, num, from}
+use Rattle.source.specs.Source.{UpDown, ToT, Bits, num, from}
 use Rattle.source.proofs.Before.{off-of, on-of, either-of, end5, end6}
 use Rattle.source.proofs.Stays.{Stays, num-le, Reads, keeps→stays, stays→keeps}
 
 pub from-is : (g : Generator) (u : ℕ → ℕ) (t : ℕ) → 1 ≤ t → from g u t ≡ u t
 from-is g u zero l = absurd (omega arith)
 from-is g u (suc t) l = refl
-
-abbrev pub Bits : ℕ → (ℕ → ℕ) → Type 0
-Bits n u = (t : ℕ) → 1 ≤ t → t ≤ n → u t ≤ 1
 
 module _ (n : ℕ) (g : Generator) (u : ℕ → ℕ) (S : ToT n g u) (bits : Bits n u) where
   stays-bits : (t : ℕ) → t ≤ n → from g u t ≤ 1

@@ -52,13 +52,23 @@ ToT T g u = UpDown (λ t. t ≤ T) T g u
 abbrev pub Letter : ℕ → Generator → (ℕ → ℕ) → Type 0
 Letter T g u = UpDown (λ t. Unit {0}) T g u
 
+-- u obeys them to the letter with some statuses past T
+pub record SomePast (T : ℕ) (g : Generator) (u : ℕ → ℕ) : Type 0 where
+  pub past : ℕ → ℕ
+  pub same : (t : ℕ) → 1 ≤ t → t ≤ T → past t ≡ u t
+  pub letter : Letter T g past
+
+-- (22): a status is 0 or 1
+abbrev pub Bits : ℕ → (ℕ → ℕ) → Type 0
+Bits T u = (t : ℕ) → 1 ≤ t → t ≤ T → u t ≤ 1
+
 -- (4) to (12) and (22)
 pub record UnitSource (T : ℕ) (g : Generator) (u p : ℕ → ℕ) : Type 0 where
   pub eq4 : (t : ℕ) → 1 ≤ t → t ≤ T → (u t * g .pL ≤ p t) × (p t ≤ g .pU * u t)
   pub eq5-10 : ToT T g u
   pub eq11 : (t : ℕ) → 2 ≤ t → t ≤ T → p (t - 1) ≤ p t + g .DR * u (t - 1) + g .pU * (1 - u t)
   pub eq12 : (t : ℕ) → 2 ≤ t → t ≤ T → p t ≤ p (t - 1) + g .UR * u (t - 1) + g .pU * (1 - u (t - 1))
-  pub eq22 : (t : ℕ) → 1 ≤ t → t ≤ T → u t ≤ 1
+  pub eq22 : Bits T u
 
 -- ---- a problem, with u i t and p i t: (2) to (12) and (22)
 
