@@ -18,3 +18,4 @@ pub mod Solutions
 pub mod BoundOfSource
 pub mod ShownFifteen
 pub mod Conditions
+pub mod WholeOutputs
