@@ -10,7 +10,7 @@ use lib.IntN.{pos, _+ℤ_}
 use lib.Signed.{_<ℤ_}
 use Rattle.model.specs.declared.generator.Generator.{Generator}
 use Rattle.model.specs.Instance.{Tini}
-use Rattle.source.specs.Source.{Bits, Σ₁, num, from, idle, longer, downs, downtime, Fifteen, Sentence15, Charges}
+use Rattle.source.specs.Source.{Bits, Σ₁, num, from, idle, longer, downtime, Fifteen, Sentence15, Charges}
 use Rattle.source.specs.Sentences.{starting, stopping, start-cost, stop-cost}
 use Rattle.source.proofs.Before.{off-below, off-of, on-of, either-of}
 use Rattle.source.proofs.Stays.{num-le}

@@ -2,7 +2,7 @@
 use mathlib.Core.Path.{_≡_, refl}
 use mathlib.Core.Bool.{Bool, true, false}
 use mathlib.Core.List.{List, [], _∷_}
-use Prim.Native.Nat.{ℕ, zero, suc, _+_, _*_, _≤_, _<_}
+use Prim.Native.Nat.{ℕ, zero, suc, _*_, _≤_}
 use native.Mathlib.Omega.{arith}
 use lib.Dec.{T, lit<, lit≤}
 use lib.ListN.{length}
@@ -11,7 +11,7 @@ use lib.Signed.{_<ℤ_}
 use Rattle.model.specs.declared.generator.Generator.{Generator}
 use Rattle.model.specs.Instance.{Tini}
 use Rattle.model.specs.Rules.{statuses, keeps, Row}
-use Rattle.source.specs.Source.{nth, UpDown, Letter, Bits, UnitSource, u-row, Printed15, Sentence15, Charges}
+use Rattle.source.specs.Source.{nth, Letter, Bits, UnitSource, u-row, Printed15, Sentence15, Charges}
 use Rattle.source.specs.Sentences.{start-cost, stop-cost, printed-cost}
 use Rattle.source.proofs.Ranged.{Ranged}
 use Rattle.source.proofs.Rows.{source→row, source-status, source-same}

@@ -2,7 +2,7 @@
 -- model's, and the costs of starts and stops are.
 use mathlib.Core.Path.{_≡_, refl, sym, _∙_, ap, ap₂, subst}
 use mathlib.Core.List.{List, [], _∷_}
-use Prim.Native.Nat.{ℕ, zero, suc, _+_, _*_, _≤_, _<_}
+use Prim.Native.Nat.{ℕ, zero, suc, _+_, _*_}
 use native.Mathlib.Omega.{arith}
 use lib.ListN.{length}
 use Rattle.model.specs.declared.generator.Generator.{Generator}
@@ -18,7 +18,7 @@ use Rattle.source.proofs.Indices.{Σ₁-same, Σᵢ-is, Shape, shape-of
 use Rattle.source.proofs.Ranged.{formed→ranged}
 use Rattle.source.proofs.Schedules.{meets→source}
 use Rattle.source.proofs.SwitchCosts.{switch-costs-are}
-use Rattle.source.proofs.Objective.{Charge, LeastStart, unit-value, sentence-least, least-with}
+use Rattle.source.proofs.Objective.{Charge, unit-value, sentence-least, least-with}
 
 -- ---- a row
 

@@ -1,12 +1,12 @@
 -- Sums and ranges that begin with 1, against the model's, which begin with 0: each law is one step along the periods or along the units.
 use mathlib.Core.Path.{_≡_, refl, ap, ap₂}
 use mathlib.Core.List.{List, [], _∷_}
-use Prim.Native.Nat.{ℕ, zero, suc, _+_, _≤_, _<_}
+use Prim.Native.Nat.{ℕ, zero, suc, _+_, _≤_}
 use native.Mathlib.Omega.{arith}
 use native.Mathlib.Nat.{suc-inj}
 use lib.ListN.{length, getD}
 use Rattle.model.specs.declared.generator.Generator.{Generator}
-use Rattle.model.specs.Instance.{Instance, Schedule, sum, sum-units, Each}
+use Rattle.model.specs.Instance.{Instance, Schedule, sum-units, Each}
 use Rattle.model.specs.Ranges.{All, Shaped}
 use Rattle.model.specs.Rules.{Row, Meets}
 use Rattle.source.specs.Source.{Σ₁, Σᵢ, Every}

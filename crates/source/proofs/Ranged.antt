@@ -1,9 +1,8 @@
 -- What the laws need of document 01's ranges, each a field of its own, and that well-formed problems have it.
-use mathlib.Core.List.{List, [], _∷_}
-use Prim.Native.Nat.{ℕ, _≤_}
+use Prim.Native.Nat.{_≤_}
 use Rattle.model.specs.declared.generator.Generator.{Generator}
 use Rattle.model.specs.Instance.{Instance}
-use Rattle.model.specs.Ranges.{All, GoodUnit, WellFormed}
+use Rattle.model.specs.Ranges.{GoodUnit, WellFormed}
 use Rattle.source.specs.Source.{Every}
 use Rattle.source.proofs.Indices.{every-map, all→every}
 

@@ -1,17 +1,16 @@
 -- One unit: a row of outputs obeys the model's rules exactly if (4) to (12) hold for it, u being 1 where the output is above 0.
 -- Output by output (4) fixes u, and (11) and (12) say nothing unless both outputs are above 0.
 use mathlib.Core.Path.{_≡_, refl, sym, _∙_, ap}
-use mathlib.Core.Bool.{Bool, true, false}
 use mathlib.Core.Logic.{_↔_}
-use mathlib.Core.List.{List, [], _∷_}
-use Prim.Native.Nat.{ℕ, zero, suc, _+_, _*_, _-_, _≤_, _<_}
+use mathlib.Core.List.{List}
+use Prim.Native.Nat.{ℕ, zero, suc, _+_, _*_, _-_, _≤_}
 use native.Mathlib.Omega.{arith}
 use lib.Dec.{T}
 use lib.ListN.{length, length-map, List·getD-map}
 use Rattle.model.specs.declared.generator.Generator.{Generator}
 use Rattle.model.specs.Instance.{_at_}
 use Rattle.model.specs.Rules.{on, statuses, Within, Ramp, Row}
-use Rattle.source.specs.Source.{nth, UpDown, ToT, Bits, UnitSource, num, from, u-row}
+use Rattle.source.specs.Source.{nth, ToT, Bits, UnitSource, num, from, u-row}
 use Rattle.source.proofs.Stays.{num-le, Reads}
 use Rattle.source.proofs.UpDown.{keeps→updown, updown→keeps}
 use Rattle.source.proofs.Ranged.{Ranged}

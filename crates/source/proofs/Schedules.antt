@@ -2,15 +2,14 @@
 -- and the sums of (2) and (3) are the model's.
 use mathlib.Core.Path.{_≡_, refl, ap}
 use mathlib.Core.Logic.{_↔_}
-use mathlib.Core.List.{List, [], _∷_}
-use Prim.Native.Nat.{ℕ, zero, suc, _+_, _*_, _≤_, _<_}
+use mathlib.Core.List.{[]}
+use Prim.Native.Nat.{ℕ, zero, suc, _+_, _*_, _≤_}
 use native.Mathlib.Omega.{arith}
 use lib.ListN.{length, getD}
-use Rattle.model.specs.declared.generator.Generator.{Generator}
-use Rattle.model.specs.Instance.{Instance, Schedule, _at_, Each}
+use Rattle.model.specs.Instance.{Instance, Schedule, _at_}
 use Rattle.model.specs.Ranges.{Shaped, WellFormed}
 use Rattle.model.specs.Rules.{on, if-on, Row, output, capacity, Meets}
-use Rattle.source.specs.Source.{Σᵢ, Every, nth, UnitSource, Source, num, u-row, p-of, u-of}
+use Rattle.source.specs.Source.{Σᵢ, Every, nth, UnitSource, Source, num, p-of, u-of}
 use Rattle.source.proofs.Indices.{Σᵢ-same, Σᵢ-is, every-all, every-map, every-both, each→every, every→each, Shape, shape-of, shaped→shape, shape→shaped}
 use Rattle.source.proofs.Ranged.{Ranged, AllRanged, formed→ranged}
 use Rattle.source.proofs.Rows.{row→source, source→row, source-status, source-same}

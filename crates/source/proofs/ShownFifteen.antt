@@ -11,7 +11,7 @@ use Rattle.model.specs.Instance.{Instance, Schedule}
 use Rattle.model.specs.Rules.{statuses, keeps}
 use Rattle.model.specs.Cost.{row-cost, cost}
 use Rattle.model.proofs.Integers.{ltZ→nat}
-use Rattle.source.specs.Source.{Σ₁, downtime, Fifteen, Printed15, Sentence15, Charges, Costs, objective, u-row, p-of, u-of}
+use Rattle.source.specs.Source.{Σ₁, downtime, Fifteen, Printed15, Charges, Costs, objective, u-row, p-of, u-of}
 use Rattle.source.specs.Sentences.{start-cost, stop-cost, printed-cost, surcharges}
 
 -- TD + Tcold = 2, Hsc 10, Csc 20; on or off for k periods before period 1

@@ -11,9 +11,9 @@ use Rattle.model.specs.Instance.{Instance, Schedule, _at_, Each}
 use Rattle.model.specs.Ranges.{WellFormed}
 use Rattle.model.specs.Rules.{Meets}
 use Rattle.model.specs.Cost.{cost}
-use Rattle.source.specs.Source.{Σ₁, Σᵢ, Every, nth, Source, Fifteen, Printed15, Repaired15, Sentence15, Charges, Costs, term, objective, p-of, u-of}
+use Rattle.source.specs.Source.{Σ₁, Σᵢ, Every, nth, Source, Fifteen, Printed15, Repaired15, Sentence15, Costs, term, objective, p-of, u-of}
 use Rattle.source.specs.Sentences.{start-cost, printed-cost, surcharges}
-use Rattle.source.specs.Least.{LeastWith, LeastObjective, LeastCost}
+use Rattle.source.specs.Least.{LeastObjective, LeastCost}
 use Rattle.source.proofs.Indices.{Σ₁-same, Σᵢ-same, every-all, every-map, Shape, shape-of}
 use Rattle.source.proofs.Ranged.{AllRanged, formed→ranged}
 use Rattle.source.proofs.Schedules.{Same, problem-same, statuses-are, meets→source, source→meets}
@@ -110,15 +110,15 @@ module _ (F : Fifteen) (c : Charge) (L : LeastStart F c) (P : Instance) (A : All
   least→objective : (v : ℕ) → LeastCost P k v → LeastObjective F P v
   least→objective v O =
       let W = least-with F c L P (p-of (O .s)) A (u-of (O .s)) (meets→source P (O .s) (O .meets)) in record {
-    u = W .u;
-    p = p-of (O .s);
-    cu = W .cu;
-    cd = W .cd;
-    source = W .source;
-    costs = W .costs;
-    value = W .value ∙ is (O .s) (shape-of P (O .s) (O .meets)) ∙ O .value;
-    least = λ u p cu cd S C. omega (arith, solution-below u p cu cd S C, O .least (schedule-of P p) (solution-meets P p u A S));
-  }
+        u = W .u;
+        p = p-of (O .s);
+        cu = W .cu;
+        cd = W .cd;
+        source = W .source;
+        costs = W .costs;
+        value = W .value ∙ is (O .s) (shape-of P (O .s) (O .meets)) ∙ O .value;
+        least = λ u p cu cd S C. omega (arith, solution-below u p cu cd S C, O .least (schedule-of P p) (solution-meets P p u A S));
+      }
 
   objective→least : (v : ℕ) → LeastObjective F P v → LeastCost P k v
   objective→least v O = let M = solution-meets P (O .p) (O .u) A (O .source) in record {

@@ -130,8 +130,12 @@ keeps→stays g b k [] x e0 r h = record {
     bits (suc t) l = absurd (omega arith)
 keeps→stays g b k (d ∷ run) x e0 r h =
     let e1 : x 1 ≡ num d = r 0 (omega arith) in
-    back g k (length run) x b d (record { e0 = e0; e1 = e1; rest = keeps→stays g d (spent b k d) run (λ t. x (suc t)) e1 (λ t l. r (suc t) (omega arith))
-    (T-and-r (permits g b k d) (keeps g d (spent b k d) run) h) }) (T-and-l (permits g b k d) (keeps g d (spent b k d) run) h)
+    back g k (length run) x b d (record {
+      e0 = e0;
+      e1 = e1;
+      rest = keeps→stays g d (spent b k d) run (λ t. x (suc t)) e1 (λ t l. r (suc t) (omega arith))
+          (T-and-r (permits g b k d) (keeps g d (spent b k d) run) h);
+    }) (T-and-l (permits g b k d) (keeps g d (spent b k d) run) h)
 
 pub stays→keeps : (g : Generator) (b : Bool) (k : ℕ) (run : List Bool) (x : ℕ → ℕ) → x 0 ≡ num b → Reads x run → Stays g k (length run) x
     → T (keeps g b k run)

@@ -8,12 +8,12 @@ use Prim.Native.Nat.{ℕ, zero, suc, _+_, _-_, _≤_, _<_}
 use native.Mathlib.Omega.{arith}
 use lib.Dec.{T}
 use lib.ListN.{length}
-use lib.IntN.{ℤ, pos}
+use lib.IntN.{pos}
 use lib.Signed.{_<ℤ_}
 use Rattle.model.specs.declared.generator.Generator.{Generator}
 use Rattle.model.specs.Instance.{Tini}
 use Rattle.model.specs.Rules.{keeps}
-use Rattle.source.specs.Source.{UpDown, ToT, Bits, num, from}
+use Rattle.source.specs.Source.{ToT, Bits, num, from}
 use Rattle.source.proofs.Before.{off-of, on-of, either-of, end5, end6}
 use Rattle.source.proofs.Stays.{Stays, num-le, Reads, keeps→stays, stays→keeps}
 

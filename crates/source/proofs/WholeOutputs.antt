@@ -1,11 +1,11 @@
 -- The paper's p is continuous, the model's is whole, and the least costs differ: two units of cost p·p, from 1 to 3, with a demand of 3.
 use mathlib.Core.Path.{_≡_, refl}
-use mathlib.Core.Bool.{Bool, true, false}
+use mathlib.Core.Bool.{true}
 use mathlib.Core.List.{List, [], _∷_}
 use Prim.Native.Nat.{ℕ, zero, suc, _+_, _*_, _≤_, _<_}
 use native.Mathlib.Nat.{mul-le-mul}
 use native.Mathlib.Omega.{arith}
-use lib.Dec.{T, lit<, lit≤}
+use lib.Dec.{lit<, lit≤}
 use lib.ListN.{length}
 use lib.IntN.{pos}
 use Rattle.model.specs.declared.generator.Generator.{Generator}
@@ -14,7 +14,7 @@ use Rattle.model.specs.Rules.{Within, output, capacity, Row, Meets}
 use Rattle.model.specs.Cost.{row-cost, cost}
 use Rattle.model.specs.Above.{root}
 use Rattle.model.specs.Leaf.{rows-of, is-stuck, revenue, value, unit-least, units-least, requirement, leaf-value}
-use Rattle.model.specs.Tree.{price, Holds, Bound, number, bound}
+use Rattle.model.specs.Tree.{price, Holds, number, bound}
 use Rattle.source.specs.Least.{LeastCost}
 
 abbrev square : Generator

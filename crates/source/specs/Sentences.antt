@@ -1,6 +1,5 @@
 -- The costs of starts and stops in the paper's words, and what (15) as printed adds to them.
-use mathlib.Core.Bool.{Bool, true, false, cond, _&&_}
-use mathlib.Core.List.{List}
+use mathlib.Core.Bool.{cond, _&&_}
 use Prim.Native.Nat.{ℕ, zero, suc, _+_, _*_, _-_}
 use lib.Dec.{leb, ltb, eqb}
 use Rattle.model.specs.declared.generator.Generator.{Generator}
