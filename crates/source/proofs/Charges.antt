@@ -12,6 +12,7 @@ use Rattle.model.specs.declared.generator.Generator.{Generator}
 use Rattle.model.specs.Instance.{Tini}
 use Rattle.source.specs.Source.{Bits, Σ₁, num, from, idle, longer, downtime, Fifteen, Sentence15, Charges}
 use Rattle.source.specs.Sentences.{starting, stopping, start-cost, stop-cost}
+use Rattle.source.proofs.Indices.{from-two}
 use Rattle.source.proofs.Before.{off-below, off-of, on-of, either-of}
 use Rattle.source.proofs.Stays.{num-le}
 use Rattle.source.proofs.Downtime.{long-down, idle-on, prev-off, sum16}
@@ -49,11 +50,8 @@ stop-le g (suc (suc v)) w l = absurd (omega arith)
 
 module _ (n : ℕ) (g : Generator) (u : ℕ → ℕ) (H : g .Hsc ≤ g .Csc) (bits : Bits n u) where
   start-13 : (t : ℕ) → 2 ≤ t → t ≤ n → u t * g .Hsc ≤ start-cost g u t + u (t - 1) * g .Hsc
-  start-13 zero l m = absurd (omega arith)
-  start-13 (suc zero) l m = absurd (omega arith)
-  start-13 (suc (suc t)) l m =
-      let q : suc (suc t) - 1 ≡ suc t = omega arith in
-      rw q (hot-le g H (u (suc t)) (downtime g u (suc (suc t))) (u (suc (suc t))) (bits (suc (suc t)) (omega arith) m))
+  start-13 = from-two n (λ s t. u t * g .Hsc ≤ start-cost g u t + u s * g .Hsc)
+      (λ t m. hot-le g H (u (suc t)) (downtime g u (suc (suc t))) (u (suc (suc t))) (bits (suc (suc t)) (omega arith) m))
 
   start-14 : Tini g <ℤ pos 0 → 1 ≤ n → u 1 * g .Hsc ≤ start-cost g u 1
   start-14 h l =
@@ -79,11 +77,8 @@ module _ (n : ℕ) (g : Generator) (u : ℕ → ℕ) (H : g .Hsc ≤ g .Csc) (bi
       go (suc (suc w)) e z f = absurd (omega (arith, bits t l m))
 
   stop-18 : (t : ℕ) → 2 ≤ t → t ≤ n → u (t - 1) * g .Dc ≤ stop-cost g u t + u t * g .Dc
-  stop-18 zero l m = absurd (omega arith)
-  stop-18 (suc zero) l m = absurd (omega arith)
-  stop-18 (suc (suc t)) l m =
-      let q : suc (suc t) - 1 ≡ suc t = omega arith in
-      rw q (stop-le g (u (suc t)) (u (suc (suc t))) (bits (suc t) (omega arith) (omega arith)))
+  stop-18 = from-two n (λ s t. u s * g .Dc ≤ stop-cost g u t + u t * g .Dc)
+      (λ t m. stop-le g (u (suc t)) (u (suc (suc t))) (bits (suc t) (omega arith) (omega arith)))
 
   stop-19 : pos 0 <ℤ Tini g → 1 ≤ n → (1 - u 1) * g .Dc ≤ stop-cost g u 1
   stop-19 h l = subst (λ (b : Bool). (1 - u 1) * g .Dc ≤ stopping g (num b) (u 1)) (sym (on-of g h .state)) (go (u 1))

@@ -11,14 +11,14 @@ use Rattle.model.specs.Ranges.{WellFormed}
 use Rattle.model.specs.Rules.{on, Meets}
 use Rattle.model.specs.Cost.{fuel-cost, row-cost, cost}
 use Rattle.model.proofs.Sums.{sum-add}
-use Rattle.source.specs.Source.{Σ₁, Σᵢ, nth, num, Sentence15, term, u-row, p-of, u-of}
+use Rattle.source.specs.Source.{Σ₁, Σᵢ, nth, num, Fifteen, Sentence15, term, u-row, p-of, u-of}
 use Rattle.source.specs.Sentences.{start-cost, stop-cost}
 use Rattle.source.specs.Least.{LeastWith}
 use Rattle.source.proofs.Indices.{Σ₁-same, Σᵢ-is, Shape, shape-of}
 use Rattle.source.proofs.Ranged.{formed→ranged}
 use Rattle.source.proofs.Schedules.{meets→source}
 use Rattle.source.proofs.SwitchCosts.{switch-costs-are}
-use Rattle.source.proofs.Objective.{Charge, unit-value, sentence-least, least-with}
+use Rattle.source.proofs.Objective.{Charge, LeastStart, unit-value, sentence-least, least-with}
 
 -- ---- a row
 
@@ -54,11 +54,16 @@ value-is c F P s w f =
     (λ g r. length r ≡ P .periods) w (λ i g. refl)
     ∙ units-same (λ g r. unit-value c (P .periods) g (nth r)) F (λ g r. length r ≡ P .periods) f (P .units) s w
 
+-- if k is that sum for every schedule, k is the least objective with its outputs
+pub least-is : (F : Fifteen) (c : Charge) → LeastStart F c → (P : Instance) (k : Schedule → ℕ)
+    → ((s : Schedule) → Shape P s → Σᵢ (λ i g. unit-value c (P .periods) g (p-of s i)) (P .units) ≡ k s) → WellFormed P → (s : Schedule) → Meets P s
+    → LeastWith F P (p-of s) (k s)
+least-is F c L P k is W s M =
+    subst (λ (v : ℕ). LeastWith F P (p-of s) v) (is s (shape-of P s M)) (least-with F c L P (p-of s) (formed→ranged P W) (u-of s) (meets→source P s M))
+
 pub cost-value : (P : Instance) (s : Schedule) → Shape P s → Σᵢ (λ i g. unit-value start-cost (P .periods) g (p-of s i)) (P .units) ≡ cost P s
 unfolding cost
 cost-value P s w = value-is start-cost (row-cost (P .periods)) P s w (row-value (P .periods))
 
-pub cost-is-least : (P : Instance) (s : Schedule) → WellFormed P → Meets P s → LeastWith Sentence15 P (p-of s) (cost P s)
-cost-is-least P s W M =
-    subst (λ (v : ℕ). LeastWith Sentence15 P (p-of s) v) (cost-value P s (shape-of P s M))
-    (least-with Sentence15 start-cost sentence-least P (p-of s) (formed→ranged P W) (u-of s) (meets→source P s M))
+pub cost-is-least : (P : Instance) → WellFormed P → (s : Schedule) → Meets P s → LeastWith Sentence15 P (p-of s) (cost P s)
+cost-is-least P = least-is Sentence15 start-cost sentence-least P (cost P) (cost-value P)

@@ -1,7 +1,7 @@
 -- Sums and ranges that begin with 1, against the model's, which begin with 0: each law is one step along the periods or along the units.
 use mathlib.Core.Path.{_≡_, refl, ap, ap₂}
 use mathlib.Core.List.{List, [], _∷_}
-use Prim.Native.Nat.{ℕ, zero, suc, _+_, _≤_}
+use Prim.Native.Nat.{ℕ, zero, suc, _+_, _-_, _≤_, _<_}
 use native.Mathlib.Omega.{arith}
 use native.Mathlib.Nat.{suc-inj}
 use lib.ListN.{length, getD}
@@ -10,6 +10,17 @@ use Rattle.model.specs.Instance.{Instance, Schedule, sum-units, Each}
 use Rattle.model.specs.Ranges.{All, Shaped}
 use Rattle.model.specs.Rules.{Row, Meets}
 use Rattle.source.specs.Source.{Σ₁, Σᵢ, Every}
+
+-- ---- a rule for t = 1, 2, .., n, and one for t = 2, 3, .., n of two periods in a row
+
+pub from-one : (n : ℕ) (Q : ℕ → Type 0) → ((t : ℕ) → t < n → Q (suc t)) → (t : ℕ) → 1 ≤ t → t ≤ n → Q t
+from-one n Q f zero l m = absurd (omega arith)
+from-one n Q f (suc t) l m = f t m
+
+pub from-two : (n : ℕ) (Q : ℕ → ℕ → Type 0) → ((t : ℕ) → suc t < n → Q (suc t) (suc (suc t))) → (t : ℕ) → 2 ≤ t → t ≤ n → Q (t - 1) t
+from-two n Q f zero l m = absurd (omega arith)
+from-two n Q f (suc zero) l m = absurd (omega arith)
+from-two n Q f (suc (suc t)) l m = let q : suc (suc t) - 1 ≡ suc t = omega arith in rw q (f t m)
 
 -- ---- over periods
 

@@ -19,3 +19,4 @@ pub mod BoundOfSource
 pub mod ShownFifteen
 pub mod Conditions
 pub mod WholeOutputs
+pub mod Leaves

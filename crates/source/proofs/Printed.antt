@@ -13,16 +13,14 @@ use Rattle.model.specs.Ranges.{WellFormed}
 use Rattle.model.specs.Rules.{Meets}
 use Rattle.model.specs.Cost.{row-cost, cost}
 use Rattle.model.proofs.Sums.{sum-add}
-use Rattle.source.specs.Source.{Bits, Σ₁, Σᵢ, nth, from, downtime, Printed15, Sentence15, Charges, term, u-row, p-of, u-of}
+use Rattle.source.specs.Source.{Bits, Σ₁, Σᵢ, nth, from, downtime, Printed15, Sentence15, Charges, term, u-row, p-of}
 use Rattle.source.specs.Sentences.{starting, start-cost, stop-cost, too-soon, surcharge, printed-cost, surcharges}
 use Rattle.source.specs.Least.{LeastWith}
-use Rattle.source.proofs.Indices.{Σ₁-same, Shape, shape-of}
-use Rattle.source.proofs.Ranged.{formed→ranged}
+use Rattle.source.proofs.Indices.{Σ₁-same, Shape}
 use Rattle.source.proofs.Downtime.{prev-off, sum15}
-use Rattle.source.proofs.Schedules.{meets→source}
 use Rattle.source.proofs.Charges.{charges-map, charges-allowed, start-below, downtime-same, from-same, start-same}
-use Rattle.source.proofs.Objective.{LeastStart, unit-value, least-with}
-use Rattle.source.proofs.CostOfRows.{row-value, value-is}
+use Rattle.source.proofs.Objective.{LeastStart, unit-value}
+use Rattle.source.proofs.CostOfRows.{row-value, value-is, least-is}
 
 -- it asks no less than its sentence
 pub printed→sentence : (n : ℕ) (g : Generator) (u cu : ℕ → ℕ) → Printed15 n g u cu → Sentence15 n g u cu
@@ -141,7 +139,5 @@ printed-value P s w =
     ∙ units-add (row-cost (P .periods)) (λ g r. Σ₁ (P .periods) (surcharge g (u-row r))) (P .units) s
 
 -- with (15) as printed, the least objective with a schedule's outputs is its cost and its surcharges
-pub printed-is-least : (P : Instance) (s : Schedule) → WellFormed P → Meets P s → LeastWith Printed15 P (p-of s) (cost P s + surcharges P s)
-printed-is-least P s W M =
-    subst (λ (v : ℕ). LeastWith Printed15 P (p-of s) v) (printed-value P s (shape-of P s M))
-    (least-with Printed15 printed-cost printed-least P (p-of s) (formed→ranged P W) (u-of s) (meets→source P s M))
+pub printed-is-least : (P : Instance) → WellFormed P → (s : Schedule) → Meets P s → LeastWith Printed15 P (p-of s) (cost P s + surcharges P s)
+printed-is-least P = least-is Printed15 printed-cost printed-least P (λ s. cost P s + surcharges P s) (printed-value P)

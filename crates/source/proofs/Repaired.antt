@@ -6,12 +6,18 @@ use mathlib.Core.Logic.{_↔_}
 use Prim.Native.Nat.{ℕ, zero, suc, _+_, _*_, _-_, _≤_, _<_}
 use native.Mathlib.Omega.{arith}
 use Rattle.model.specs.declared.generator.Generator.{Generator}
-use Rattle.source.specs.Source.{Bits, Σ₁, num, from, idle, longer, downs, downtime, Repaired15, Sentence15}
+use Rattle.model.specs.Instance.{Instance, Schedule}
+use Rattle.model.specs.Ranges.{WellFormed}
+use Rattle.model.specs.Rules.{Meets}
+use Rattle.model.specs.Cost.{cost}
+use Rattle.source.specs.Source.{Bits, Σ₁, num, from, idle, longer, downs, downtime, Repaired15, Sentence15, p-of}
 use Rattle.source.specs.Sentences.{start-cost, stop-cost}
+use Rattle.source.specs.Least.{LeastWith}
 use Rattle.source.proofs.Indices.{Σ₁-same}
 use Rattle.source.proofs.Downtime.{sum→down, down→sum}
 use Rattle.source.proofs.Charges.{charges-map}
 use Rattle.source.proofs.Objective.{LeastStart, sentence-least}
+use Rattle.source.proofs.CostOfRows.{cost-value, least-is}
 
 -- u a period later, with the status before period 1 as its first
 abbrev later : Generator → (ℕ → ℕ) → ℕ → ℕ
@@ -70,3 +76,6 @@ repaired-least = record {
       (charges-map Repaired15 Sentence15 n g u cu cd (repaired-is n g u cu (R .started) bits .0) C);
   same = sentence-least .same;
 }
+
+pub repaired-is-least : (P : Instance) → WellFormed P → (s : Schedule) → Meets P s → LeastWith Repaired15 P (p-of s) (cost P s)
+repaired-is-least P = least-is Repaired15 start-cost repaired-least P (cost P) (cost-value P)

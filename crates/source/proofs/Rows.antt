@@ -3,7 +3,7 @@
 use mathlib.Core.Path.{_≡_, refl, sym, _∙_, ap}
 use mathlib.Core.Logic.{_↔_}
 use mathlib.Core.List.{List}
-use Prim.Native.Nat.{ℕ, zero, suc, _+_, _*_, _-_, _≤_}
+use Prim.Native.Nat.{ℕ, zero, suc, _+_, _*_, _-_, _≤_, _<_}
 use native.Mathlib.Omega.{arith}
 use lib.Dec.{T}
 use lib.ListN.{length, length-map, List·getD-map}
@@ -11,6 +11,7 @@ use Rattle.model.specs.declared.generator.Generator.{Generator}
 use Rattle.model.specs.Instance.{_at_}
 use Rattle.model.specs.Rules.{on, statuses, Within, Ramp, Row}
 use Rattle.source.specs.Source.{nth, ToT, Bits, UnitSource, num, from, u-row}
+use Rattle.source.proofs.Indices.{from-one, from-two}
 use Rattle.source.proofs.Stays.{num-le, Reads}
 use Rattle.source.proofs.UpDown.{keeps→updown, updown→keeps}
 use Rattle.source.proofs.Ranged.{Ranged}
@@ -60,28 +61,18 @@ row-reads g r t l = ap num (sym (List·getD-map on r t 0))
 pub row-bits : (n : ℕ) (r : List ℕ) → Bits n (u-row r)
 row-bits n r t l m = num-le (on (nth r t))
 
--- a rule for t = 2, 3, ..
-from-two : (n : ℕ) (Q : ℕ → ℕ → Type 0) → ((s : ℕ) → suc (suc s) ≤ n → Q (suc s) (suc (suc s))) → (t : ℕ) → 2 ≤ t → t ≤ n → Q (t - 1) t
-from-two n Q f zero l m = absurd (omega arith)
-from-two n Q f (suc zero) l m = absurd (omega arith)
-from-two n Q f (suc (suc s)) l m = let q : suc (suc s) - 1 ≡ suc s = omega arith in rw q (f s m)
-
 module _ (n : ℕ) (g : Generator) (r : List ℕ) where
   pub row→source : Row n g r → UnitSource n g (u-row r) (nth r)
   row→source R = record {
-    eq4 = four;
+    eq4 = from-one n _ (λ t l. within→eq4 g (r at t) (R .limits t l));
     eq5-10 = keeps→updown n g (u-row r) (statuses r) (length-map r on ∙ R .long) (row-reads g r) (R .updown);
-    eq11 = from-two n (λ s t. Eq11 g (nth r s) (nth r t)) (λ s l. ramps s l .0);
-    eq12 = from-two n (λ s t. Eq12 g (nth r s) (nth r t)) (λ s l. ramps s l .1);
+    eq11 = from-two n (λ s t. Eq11 g (nth r s) (nth r t)) (λ t l. ramps t l .0);
+    eq12 = from-two n (λ s t. Eq12 g (nth r s) (nth r t)) (λ t l. ramps t l .1);
     eq22 = row-bits n r;
   }
     where
-      four : (t : ℕ) → 1 ≤ t → t ≤ n → (u-row r t * g .pL ≤ nth r t) × (nth r t ≤ g .pU * u-row r t)
-      four zero l m = absurd (omega arith)
-      four (suc t) l m = within→eq4 g (r at t) (R .limits t m)
-
-      ramps : (s : ℕ) → suc (suc s) ≤ n → Eq11 g (r at s) (r at suc s) × Eq12 g (r at s) (r at suc s)
-      ramps s l = ramp→eq g (r at s) (r at suc s) (R .limits s (omega arith)) (R .limits (suc s) l) (R .ramps s l)
+      ramps : (t : ℕ) → suc t < n → Eq11 g (r at t) (r at suc t) × Eq12 g (r at t) (r at suc t)
+      ramps t l = ramp→eq g (r at t) (r at suc t) (R .limits t (omega arith)) (R .limits (suc t) l) (R .ramps t l)
 
   pub source→row : 1 ≤ g .since → length r ≡ n → UnitSource n g (u-row r) (nth r) → Row n g r
   source→row started e S = record {

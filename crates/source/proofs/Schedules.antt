@@ -3,14 +3,14 @@
 use mathlib.Core.Path.{_≡_, refl, ap}
 use mathlib.Core.Logic.{_↔_}
 use mathlib.Core.List.{[]}
-use Prim.Native.Nat.{ℕ, zero, suc, _+_, _*_, _≤_}
+use Prim.Native.Nat.{ℕ, zero, suc, _*_, _≤_}
 use native.Mathlib.Omega.{arith}
 use lib.ListN.{length, getD}
 use Rattle.model.specs.Instance.{Instance, Schedule, _at_}
 use Rattle.model.specs.Ranges.{Shaped, WellFormed}
 use Rattle.model.specs.Rules.{on, if-on, Row, output, capacity, Meets}
-use Rattle.source.specs.Source.{Σᵢ, Every, nth, UnitSource, Source, num, p-of, u-of}
-use Rattle.source.proofs.Indices.{Σᵢ-same, Σᵢ-is, every-all, every-map, every-both, each→every, every→each, Shape, shape-of, shaped→shape, shape→shaped}
+use Rattle.source.specs.Source.{Σᵢ, Every, UnitSource, Source, num, p-of, u-of}
+use Rattle.source.proofs.Indices.{from-one, Σᵢ-same, Σᵢ-is, every-all, every-map, every-both, each→every, every→each, Shape, shape-of, shaped→shape, shape→shaped}
 use Rattle.source.proofs.Ranged.{Ranged, AllRanged, formed→ranged}
 use Rattle.source.proofs.Rows.{row→source, source→row, source-status, source-same}
 
@@ -34,19 +34,11 @@ capacity-is P s t w =
 
 pub meets→source : (P : Instance) (s : Schedule) → Meets P s → Source P (u-of s) (p-of s)
 meets→source P s M = record {
-  eq2 = two;
-  eq3 = three;
+  eq2 = from-one (P .periods) _ (λ t l. omega (arith, M .meets-demand t l, output-is P s t (shape-of P s M)));
+  eq3 = from-one (P .periods) _ (λ t l. omega (arith, M .meets-spare t l, capacity-is P s t (shape-of P s M)));
   eq4-12 = each→every (P .units) s (λ i g. Unit {0}) (λ i g. UnitSource (P .periods) g (u-of s i) (p-of s i)) (Row (P .periods))
       (λ i g k R. row→source (P .periods) g (getD s i []) R) (every-all (λ i g. Unit {0}) (P .units) (λ i g. tt)) (M .rows);
 }
-  where
-    two : (t : ℕ) → 1 ≤ t → t ≤ P .periods → nth (P .demand) t ≤ Σᵢ (λ i g. p-of s i t) (P .units)
-    two zero l m = absurd (omega arith)
-    two (suc t) l m = omega (arith, M .meets-demand t m, output-is P s t (shape-of P s M))
-
-    three : (t : ℕ) → 1 ≤ t → t ≤ P .periods → nth (P .demand) t + nth (P .spare) t ≤ Σᵢ (λ i g. g .pU * u-of s i t) (P .units)
-    three zero l m = absurd (omega arith)
-    three (suc t) l m = omega (arith, M .meets-spare t m, capacity-is P s t (shape-of P s M))
 
 -- ---- and back
 

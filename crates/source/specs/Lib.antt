@@ -2,3 +2,4 @@
 pub mod Source
 pub mod Sentences
 pub mod Least
+pub mod Leaves

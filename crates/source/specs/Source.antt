@@ -1,6 +1,7 @@
--- The source paper's section III as printed, each equation under its own number: (1) to (14), (16), (18), (19), (22), and three forms of (15).
--- As there, periods are t = 1, .., T and units i = 1, .., I. What the paper subtracts on one side is added here on the other; `1 - u` is exact, for u is 0 or 1.
--- u, p, cu and cd are whole numbers, so that (17), (20) and (21), which keep cu, cd and p from falling below 0, hold by their type.
+-- The source paper's section III as printed, each equation under its own number, and three forms of (15).
+-- As there, periods are t = 1, .., T and units i = 1, .., I. What the paper subtracts on one side is added here on the other; the differences
+-- that are left, t - 1, t - j, TU - 1, TD - 1 and 1 - u, are never below 0.
+-- u, p, cu and cd are whole numbers. So (17), (20) and (21), by which cu, cd and p are not below 0, hold by their type.
 use mathlib.Core.Path.{_≡_}
 use mathlib.Core.Bool.{Bool, true, false}
 use mathlib.Core.List.{List, [], _∷_}
@@ -35,7 +36,8 @@ nth l (suc t) = l at t
 
 -- ---- one unit, with its u and p
 
--- Minimum up and down times. `Known t` says for which t there is a u t, where a range leads past T.
+-- Minimum up and down times: (5), (6) for a stretch that began before period 1, (7), (8) for a start and (9), (10) for a stop, in period t or in
+-- period 1. Their ranges lead past T: `Known t` says for which t there is a u t.
 pub record UpDown (Known : ℕ → Type 0) (T : ℕ) (g : Generator) (u : ℕ → ℕ) : Type 0 where
   pub eq5 : Tini g <ℤ pos 0 → (t : ℕ) → 1 ≤ t → pos t ≤ℤ (pos (g .TD) +ℤ Tini g) → Known t → u t ≡ 0
   pub eq6 : pos 0 <ℤ Tini g → (t : ℕ) → 1 ≤ t → pos t ≤ℤ (pos (g .TU) -ℤ Tini g) → Known t → u t ≡ 1
@@ -44,15 +46,15 @@ pub record UpDown (Known : ℕ → Type 0) (T : ℕ) (g : Generator) (u : ℕ �
   pub eq9 : (t : ℕ) → 2 ≤ t → t ≤ T → (j : ℕ) → 1 ≤ j → j ≤ g .TD - 1 → Known (t + j) → u (t + j) + u (t - 1) ≤ u t + 1
   pub eq10 : pos 0 <ℤ Tini g → (j : ℕ) → 1 ≤ j → j ≤ g .TD - 1 → Known (1 + j) → u (1 + j) ≤ u 1
 
--- the paper has variables for t ≤ T only
+-- with the paper's variables, u 1 to u T
 abbrev pub ToT : ℕ → Generator → (ℕ → ℕ) → Type 0
 ToT T g u = UpDown (λ t. t ≤ T) T g u
 
--- its ranges to the letter, with a u t for every t
+-- to the letter, with a u t for every t
 abbrev pub Letter : ℕ → Generator → (ℕ → ℕ) → Type 0
 Letter T g u = UpDown (λ t. Unit {0}) T g u
 
--- u obeys them to the letter with some statuses past T
+-- to the letter, with some statuses past T
 pub record SomePast (T : ℕ) (g : Generator) (u : ℕ → ℕ) : Type 0 where
   pub past : ℕ → ℕ
   pub same : (t : ℕ) → 1 ≤ t → t ≤ T → past t ≡ u t
@@ -62,7 +64,7 @@ pub record SomePast (T : ℕ) (g : Generator) (u : ℕ → ℕ) : Type 0 where
 abbrev pub Bits : ℕ → (ℕ → ℕ) → Type 0
 Bits T u = (t : ℕ) → 1 ≤ t → t ≤ T → u t ≤ 1
 
--- (4) to (12) and (22)
+-- with the limits of outputs, (4), and the ramps, (11) and (12)
 pub record UnitSource (T : ℕ) (g : Generator) (u p : ℕ → ℕ) : Type 0 where
   pub eq4 : (t : ℕ) → 1 ≤ t → t ≤ T → (u t * g .pL ≤ p t) × (p t ≤ g .pU * u t)
   pub eq5-10 : ToT T g u
@@ -70,14 +72,15 @@ pub record UnitSource (T : ℕ) (g : Generator) (u p : ℕ → ℕ) : Type 0 whe
   pub eq12 : (t : ℕ) → 2 ≤ t → t ≤ T → p t ≤ p (t - 1) + g .UR * u (t - 1) + g .pU * (1 - u (t - 1))
   pub eq22 : Bits T u
 
--- ---- a problem, with u i t and p i t: (2) to (12) and (22)
+-- ---- a problem, with u i t and p i t
 
+-- with demand, (2), and spinning reserve, (3)
 pub record Source (P : Instance) (u p : ℕ → ℕ → ℕ) : Type 0 where
   pub eq2 : (t : ℕ) → 1 ≤ t → t ≤ P .periods → nth (P .demand) t ≤ Σᵢ (λ i g. p i t) (P .units)
   pub eq3 : (t : ℕ) → 1 ≤ t → t ≤ P .periods → nth (P .demand) t + nth (P .spare) t ≤ Σᵢ (λ i g. g .pU * u i t) (P .units)
   pub eq4-12 : Every (λ i g. UnitSource (P .periods) g (u i) (p i)) (P .units)
 
--- ---- start and stop, with cu and cd
+-- ---- the costs of starts and stops, cu and cd
 
 -- a status as 0 or 1
 abbrev pub num : Bool → ℕ
@@ -105,7 +108,7 @@ downs d u zero = 0
 downs d u (suc zero) = d
 downs d u (suc (suc t)) = longer (u (suc t)) (downs d u (suc t))
 
--- the paper's downtime in period t
+-- the paper's downtime, in period t
 abbrev pub downtime : Generator → (ℕ → ℕ) → ℕ → ℕ
 downtime g u t = downs (idle (g .on) (g .since)) u t
 
@@ -117,15 +120,15 @@ Fifteen = ℕ → Generator → (ℕ → ℕ) → (ℕ → ℕ) → Type 0
 abbrev pub Printed15 : Fifteen
 Printed15 T g u cu = (t : ℕ) → g .TD + g .Tcold < t → t ≤ T → u t * g .Csc ≤ cu t + Σ₁ (g .TD + g .Tcold) (λ j. u (t - j)) * g .Csc
 
--- (15) repaired: j = 1, .., TD + Tcold + 1, for the same t
+-- (15) repaired: j = 1, .., TD + Tcold + 1, for the same t, u 0 being the status before period 1
 abbrev pub Repaired15 : Fifteen
 Repaired15 T g u cu = (t : ℕ) → g .TD + g .Tcold < t → t ≤ T → u t * g .Csc ≤ cu t + Σ₁ (suc (g .TD + g .Tcold)) (λ j. from g u (t - j)) * g .Csc
 
--- what the sentence before (15) has it say: a unit on in t whose downtime exceeds TD + Tcold costs Csc at least
+-- (15) by its sentence: in period t, a unit on after a downtime of more than TD + Tcold costs Csc or more
 abbrev pub Sentence15 : Fifteen
 Sentence15 T g u cu = (t : ℕ) → g .TD + g .Tcold < t → t ≤ T → u t ≡ 1 → g .TD + g .Tcold < downtime g u t → g .Csc ≤ cu t
 
--- (13), (14), (16), (18), (19), and a form of (15)
+-- Hsc for a start, (13), (14); Csc for a cold one, (15), (16); Dc for a stop, (18), (19)
 pub record Charges (F : Fifteen) (T : ℕ) (g : Generator) (u cu cd : ℕ → ℕ) : Type 0 where
   pub eq13 : (t : ℕ) → 2 ≤ t → t ≤ T → u t * g .Hsc ≤ cu t + u (t - 1) * g .Hsc
   pub eq14 : Tini g <ℤ pos 0 → 1 ≤ T → u 1 * g .Hsc ≤ cu 1
