@@ -46,6 +46,13 @@ stop-le g (suc zero) zero l = omega arith
 stop-le g (suc zero) (suc w) l = omega arith
 stop-le g (suc (suc v)) w l = absurd (omega arith)
 
+-- the inequality of (15) and (16), with the status w and the sum z: it asks for C where w is 1 and z is 0
+pub cold-if : (w z C x : ℕ) → w ≤ 1 → (w ≡ 1 → z ≡ 0 → C ≤ x) → w * C ≤ x + z * C
+cold-if zero z C x l f = omega arith
+cold-if (suc zero) zero C x l f = omega (arith, f refl refl)
+cold-if (suc zero) (suc z) C x l f = omega arith
+cold-if (suc (suc w)) z C x l f = absurd (omega arith)
+
 -- ---- they satisfy the inequalities
 
 module _ (n : ℕ) (g : Generator) (u : ℕ → ℕ) (H : g .Hsc ≤ g .Csc) (bits : Bits n u) where
@@ -66,16 +73,6 @@ module _ (n : ℕ) (g : Generator) (u : ℕ → ℕ) (H : g .Hsc ≤ g .Csc) (bi
   start-cold zero l m e h = absurd (omega arith)
   start-cold (suc t) l m e h = cold-le g (from g u t) (downtime g u (suc t)) (u (suc t)) (prev-off g u t (omega arith)) e h
 
-  start-16 : Tini g <ℤ pos 0 → (t : ℕ) → 1 ≤ t → (pos (g .TD + g .Tcold) +ℤ Tini g +ℤ pos 1) <ℤ pos t → t ≤ g .TD + g .Tcold → t ≤ n
-      → u t * g .Csc ≤ start-cost g u t + Σ₁ (t - 1) (λ j. u (t - j)) * g .Csc
-  start-16 h t l r k m = go (u t) refl (Σ₁ (t - 1) (λ j. u (t - j))) refl
-    where
-      go : (w : ℕ) → u t ≡ w → (z : ℕ) → Σ₁ (t - 1) (λ j. u (t - j)) ≡ z → w * g .Csc ≤ start-cost g u t + z * g .Csc
-      go zero e z f = omega arith
-      go (suc zero) e zero f = omega (arith, start-cold t l m e (sum16 g u t l k (off-of g h) .0 (r, f)))
-      go (suc zero) e (suc z) f = omega arith
-      go (suc (suc w)) e z f = absurd (omega (arith, bits t l m))
-
   stop-18 : (t : ℕ) → 2 ≤ t → t ≤ n → u (t - 1) * g .Dc ≤ stop-cost g u t + u t * g .Dc
   stop-18 = from-two n (λ s t. u s * g .Dc ≤ stop-cost g u t + u t * g .Dc)
       (λ t m. stop-le g (u (suc t)) (u (suc (suc t))) (bits (suc t) (omega arith) (omega arith)))
@@ -92,7 +89,8 @@ module _ (n : ℕ) (g : Generator) (u : ℕ → ℕ) (H : g .Hsc ≤ g .Csc) (bi
     eq13 = start-13;
     eq14 = start-14;
     eq15 = λ t l m e h. start-cold t (omega arith) m e h;
-    eq16 = start-16;
+    eq16 = λ h t l r k m. cold-if (u t) (Σ₁ (t - 1) (λ j. u (t - j))) (g .Csc) (start-cost g u t) (bits t l m)
+        (λ e f. start-cold t l m e (sum16 g u t l (omega arith) (off-of g h) .0 (r, f)));
     eq18 = stop-18;
     eq19 = stop-19;
   }

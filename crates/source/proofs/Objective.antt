@@ -1,6 +1,6 @@
 -- (1) with given outputs: its least value has for every unit the least cu and cd, and the statuses of the outputs. This holds for every form
 -- of (15) for which least costs of starts are known.
-use mathlib.Core.Path.{_≡_, refl, sym, ap, subst}
+use mathlib.Core.Path.{_≡_, refl, sym, ap, ap₂, subst}
 use mathlib.Core.List.{List, [], _∷_}
 use Prim.Native.Nat.{ℕ, zero, suc, _*_, _≤_}
 use native.Mathlib.Omega.{arith}
@@ -104,7 +104,8 @@ module _ (F : Fifteen) (c : Charge) (L : LeastStart F c) where
     value-attained : objective P (λ i. status (p i)) p (charge-of c) (charge-of stop-cost) ≡ Σᵢ (λ i g. unit-value c (P .periods) g (p i)) (P .units)
     value-attained =
         Σᵢ-same (λ i g. Σ₁ (P .periods) (λ t. term g (status (p i) t) (p i t) (charge-of c i t) (charge-of stop-cost i t)))
-        (λ i g. unit-value c (P .periods) g (p i)) (P .units) (every-map _ _ (P .units) (λ i g h. rw (h .0, h .1)) charges-are)
+        (λ i g. unit-value c (P .periods) g (p i)) (P .units) (every-map _ _ (P .units)
+        (λ i g h. ap₂ (λ (x y : ℕ → ℕ). Σ₁ (P .periods) (λ t. term g (status (p i) t) (p i t) (x t) (y t))) (h .0) (h .1)) charges-are)
 
     pub value-below : (u cu cd : ℕ → ℕ → ℕ) → Source P u p → Costs F P u cu cd
         → Σᵢ (λ i g. unit-value c (P .periods) g (p i)) (P .units) ≤ objective P u p cu cd

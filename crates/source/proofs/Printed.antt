@@ -18,7 +18,7 @@ use Rattle.source.specs.Sentences.{starting, start-cost, stop-cost, too-
 use Rattle.source.specs.Least.{LeastWith}
 use Rattle.source.proofs.Indices.{Σ₁-same, Shape}
 use Rattle.source.proofs.Downtime.{prev-off, sum15}
-use Rattle.source.proofs.Charges.{charges-map, charges-allowed, start-below, downtime-same, from-same, start-same}
+use Rattle.source.proofs.Charges.{charges-map, cold-if, charges-allowed, start-below, downtime-same, from-same, start-same}
 use Rattle.source.proofs.Objective.{LeastStart, unit-value}
 use Rattle.source.proofs.CostOfRows.{row-value, value-is, least-is}
 
@@ -45,23 +45,16 @@ soon-le g H t v d w e f l h =
     go true true false i j k = let q : d ≤ N = i tt in absurd (k (omega arith))
 
 module _ (n : ℕ) (g : Generator) (u : ℕ → ℕ) (H : g .Hsc ≤ g .Csc) (D : 1 ≤ g .TD) (bits : Bits n u) where
-  printed-15 : Printed15 n g u (printed-cost g u)
-  printed-15 zero l m = absurd (omega arith)
-  printed-15 (suc t) l m = go (u (suc t)) refl (Σ₁ (g .TD + g .Tcold) (λ j. u (suc t - j))) refl
-    where
-      go : (w : ℕ) → u (suc t) ≡ w → (z : ℕ) → Σ₁ (g .TD + g .Tcold) (λ j. u (suc t - j)) ≡ z → w * g .Csc ≤ printed-cost g u (suc t) + z * g .Csc
-      go zero e z f = omega arith
-      go (suc zero) e (suc z) f = omega arith
-      go (suc zero) e zero f =
-          let h : g .TD + g .Tcold ≤ downtime g u (suc t) = sum15 g u (suc t) l .0 f in
-          omega (arith, soon-le g H (suc t) (from g u t) (downtime g u (suc t)) (u (suc t)) (prev-off g u t (omega arith)) e l h)
-      go (suc (suc w)) e z f = absurd (omega (arith, bits (suc t) (omega arith) m))
+  printed-15 : (t : ℕ) → g .TD + g .Tcold < t → u t ≡ 1 → g .TD + g .Tcold ≤ downtime g u t → g .Csc ≤ printed-cost g u t
+  printed-15 zero l e h = absurd (omega arith)
+  printed-15 (suc t) l e h = soon-le g H (suc t) (from g u t) (downtime g u (suc t)) (u (suc t)) (prev-off g u t (omega arith)) e l h
 
   pub printed-allowed : Charges Printed15 n g u (printed-cost g u) (stop-cost g u)
   printed-allowed = let C = charges-allowed n g u H bits in record {
     eq13 = λ t l m. omega (arith, C .eq13 t l m);
     eq14 = λ h l. omega (arith, C .eq14 h l);
-    eq15 = printed-15;
+    eq15 = λ t l m. cold-if (u t) (Σ₁ (g .TD + g .Tcold) (λ j. u (t - j))) (g .Csc) (printed-cost g u t) (bits t (omega arith) m)
+        (λ e f. printed-15 t l e (sum15 g u t l .0 f));
     eq16 = λ h t l r k m. omega (arith, C .eq16 h t l r k m);
     eq18 = C .eq18;
     eq19 = C .eq19;

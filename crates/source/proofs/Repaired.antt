@@ -15,7 +15,7 @@ use Rattle.source.specs.Sentences.{start-cost, stop-cost}
 use Rattle.source.specs.Least.{LeastWith}
 use Rattle.source.proofs.Indices.{Σ₁-same}
 use Rattle.source.proofs.Downtime.{sum→down, down→sum}
-use Rattle.source.proofs.Charges.{charges-map}
+use Rattle.source.proofs.Charges.{charges-map, cold-if}
 use Rattle.source.proofs.Objective.{LeastStart, sentence-least}
 use Rattle.source.proofs.CostOfRows.{cost-value, least-is}
 
@@ -57,15 +57,9 @@ repaired-sum g u f (suc t) l = (
 pub repaired-is : (n : ℕ) (g : Generator) (u cu : ℕ → ℕ) → 1 ≤ g .since → Bits n u → Repaired15 n g u cu ↔ Sentence15 n g u cu
 repaired-is n g u cu f bits = (
   λ R t l m e h. omega (arith, rw (e, repaired-sum g u f t l .1 h) at (R t l m)),
-  λ S t l m. go t l (u t) refl (Σ₁ (suc (g .TD + g .Tcold)) (λ j. from g u (t - j))) refl (bits t (omega arith) m) (λ e h. S t l m e h),
+  λ S t l m. cold-if (u t) (Σ₁ (suc (g .TD + g .Tcold)) (λ j. from g u (t - j))) (g .Csc) (cu t) (bits t (omega arith) m)
+      (λ e z. S t l m e (repaired-sum g u f t l .0 z)),
 )
-  where
-    go : (t : ℕ) → g .TD + g .Tcold < t → (w : ℕ) → u t ≡ w → (z : ℕ) → Σ₁ (suc (g .TD + g .Tcold)) (λ j. from g u (t - j)) ≡ z → u t ≤ 1
-        → (u t ≡ 1 → g .TD + g .Tcold < downtime g u t → g .Csc ≤ cu t) → w * g .Csc ≤ cu t + z * g .Csc
-    go t l zero e z i b s = omega arith
-    go t l (suc zero) e zero i b s = omega (arith, s e (repaired-sum g u f t l .0 i))
-    go t l (suc zero) e (suc z) i b s = omega arith
-    go t l (suc (suc w)) e z i b s = absurd (omega arith)
 
 -- so its least costs of starts are those of the sentence
 pub repaired-least : LeastStart Repaired15 start-cost
