@@ -52,4 +52,7 @@ module _
           → z ≤ℤ pos (objective P u p cu cd)
       bound-printed z e u p cu cd S C =
           below z e u p (objective P u p cu cd) S
-          (omega (arith, solution-below Printed15 printed-cost printed-least P (formed→ranged P W) (λ s. cost P s + surcharges P s) (printed-value P) u p cu cd S C))
+          (omega (
+            arith,
+            solution-below Printed15 printed-cost printed-least P (formed→ranged P W) (λ s. cost P s + surcharges P s) (printed-value P) u p cu cd S C,
+          ))

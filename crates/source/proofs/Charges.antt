@@ -18,7 +18,8 @@ use Rattle.source.proofs.Stays.{num-le}
 use Rattle.source.proofs.Downtime.{long-down, idle-on, prev-off, sum16}
 
 -- one form of (15) for another
-pub charges-map : (F F′ : Fifteen) (n : ℕ) (g : Generator) (u cu cd : ℕ → ℕ) → (F n g u cu → F′ n g u cu) → Charges F n g u cu cd → Charges F′ n g u cu cd
+pub charges-map : (F F′ : Fifteen) (n : ℕ) (g : Generator) (u cu cd : ℕ → ℕ) → (F n g u cu → F′ n g u cu)
+    → Charges F n g u cu cd → Charges F′ n g u cu cd
 charges-map F F′ n g u cu cd f C = record { eq13 = C .eq13; eq14 = C .eq14; eq15 = f (C .eq15); eq16 = C .eq16; eq18 = C .eq18; eq19 = C .eq19 }
 
 -- ---- of one change

@@ -1,4 +1,4 @@
--- What the ranges of document 01 are for: each law that uses one has a counterexample without it.
+-- What the ranges of document 01 are for: each law that uses one has, without it, a counterexample that keeps the others.
 use mathlib.Core.Path.{_≡_, refl}
 use mathlib.Core.Bool.{Bool, true, false}
 use mathlib.Core.List.{List, [], _∷_}
@@ -31,7 +31,8 @@ unit l d b k h c =
     record { a = 7; b = 1; c = 0; pL = l; pU = 9; TU = 2; TD = d; on = b; since = k; DR = 9; UR = 9; Hsc = h; Csc = c; Tcold = 0; Dc = 0 }
 
 -- one period of output 0, with a constant status, after no time off
-idle-source : (g : Generator) (v : ℕ) → v ≤ 1 → v * g .pL ≤ 0 → (Tini g <ℤ pos 0 → ⊥) → (pos 0 <ℤ Tini g → v ≡ 1) → UnitSource 1 g (λ t. v) (nth (0 ∷ []))
+idle-source : (g : Generator) (v : ℕ) → v ≤ 1 → v * g .pL ≤ 0 → (Tini g <ℤ pos 0 → ⊥) → (pos 0 <ℤ Tini g → v ≡ 1)
+    → UnitSource 1 g (λ t. v) (nth (0 ∷ []))
 idle-source g v b l f h = record {
   eq4 = λ t i m. (omega (arith, none t), omega (arith, none t));
   eq5-10 = record {
@@ -53,29 +54,31 @@ idle-source g v b l f h = record {
     none (suc (suc t)) = refl
 
 -- with Tini = 0 the paper asks nothing of period 1, whatever went before
-pub started-needed : RowsOf (λ g. 1 ≤ g .pL) → ⊥
+pub started-needed : RowsOf (λ g. (1 ≤ g .pL) × (1 ≤ g .TD) × (g .Hsc ≤ g .Csc)) → ⊥
 started-needed f =
     let g = unit 1 1 true 0 10 20 in
-    f 1 g (λ t. 0) (0 ∷ []) (lit≤ tt) refl (idle-source g 0 (lit≤ tt) (omega arith) (λ h. h .lt) (λ h. absurd (h .lt))) .updown
+    f 1 g (λ t. 0) (0 ∷ []) (lit≤ tt, lit≤ tt, lit≤ tt) refl (idle-source g 0 (lit≤ tt) (omega arith) (λ h. h .lt) (λ h. absurd (h .lt))) .updown
 
 -- with pL = 0 a unit may be on at output 0, and the outputs do not tell the statuses: this one has to stay on
-pub low-needed : RowsOf (λ g. 1 ≤ g .since) → ⊥
+pub low-needed : RowsOf (λ g. (1 ≤ g .since) × (1 ≤ g .TD) × (g .Hsc ≤ g .Csc)) → ⊥
 low-needed f =
     let g = unit 0 1 true 1 10 20 in
-    f 1 g (λ t. 1) (0 ∷ []) (lit≤ tt) refl (idle-source g 1 (lit≤ tt) (omega arith) (λ h. h .lt) (λ h. refl)) .updown
+    f 1 g (λ t. 1) (0 ∷ []) (lit≤ tt, lit≤ tt, lit≤ tt) refl (idle-source g 1 (lit≤ tt) (omega arith) (λ h. h .lt) (λ h. refl)) .updown
 
 -- ---- Hsc at most Csc (refusal 15): that the costs of the paper's words satisfy (13) to (20). (14) has Hsc for a start that costs Csc
 
-pub hot-cold-needed : ((n : ℕ) (g : Generator) (u : ℕ → ℕ) → 1 ≤ g .since → 1 ≤ g .TD → Bits n u → Charges Sentence15 n g u (start-cost g u) (stop-cost g u)) → ⊥
+pub hot-cold-needed : ((n : ℕ) (g : Generator) (u : ℕ → ℕ) → (1 ≤ g .since) × (1 ≤ g .pL) × (1 ≤ g .TD) → Bits n u
+    → Charges Sentence15 n g u (start-cost g u) (stop-cost g u)) → ⊥
 hot-cold-needed f =
-    let C = f 1 (unit 1 1 false 5 20 10) (λ t. 1) (lit≤ tt) (lit≤ tt) (λ t l m. lit≤ tt) in
+    let C = f 1 (unit 1 1 false 5 20 10) (λ t. 1) (lit≤ tt, lit≤ tt, lit≤ tt) (λ t l m. lit≤ tt) in
     omega (arith, C .eq14 (record { lt = tt }) (lit≤ tt))
 
--- ---- TD from 1 (refusal 13): that (15) as printed charges nothing but starts. With TD + Tcold = 0 its sum is empty, and it has Csc for every period on
+-- ---- TD from 1 (refusal 13): that (15) as printed charges starts alone. With TD + Tcold = 0 its sum is empty, and it has Csc for every period on
 
-pub down-needed : ((n : ℕ) (g : Generator) (u : ℕ → ℕ) → 1 ≤ g .since → g .Hsc ≤ g .Csc → Bits n u → Charges Printed15 n g u (printed-cost g u) (stop-cost g u)) → ⊥
+pub down-needed : ((n : ℕ) (g : Generator) (u : ℕ → ℕ) → (1 ≤ g .since) × (1 ≤ g .pL) × (g .Hsc ≤ g .Csc) → Bits n u
+    → Charges Printed15 n g u (printed-cost g u) (stop-cost g u)) → ⊥
 down-needed f =
-    let C = f 1 (unit 1 0 true 1 10 20) (λ t. 1) (lit≤ tt) (lit≤ tt) (λ t l m. lit≤ tt) in
+    let C = f 1 (unit 1 0 true 1 10 20) (λ t. 1) (lit≤ tt, lit≤ tt, lit≤ tt) (λ t l m. lit≤ tt) in
     omega (arith, C .eq15 1 (lit< tt) (lit≤ tt))
 
 -- ---- past T: a start in the last period, with TU = 2. The model permits it ..

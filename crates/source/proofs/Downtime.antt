@@ -77,7 +77,8 @@ prev-off g u zero h = ap num (idle-on g h .0)
 prev-off g u (suc t) h = longer-off (u (suc t)) (downtime g u (suc t)) 0 h .0
 
 -- in the range of (15), its printed sum is 0, so that Csc is charged, where the downtime is TD + Tcold or more
-pub sum15 : (g : Generator) (u : ℕ → ℕ) (t : ℕ) → g .TD + g .Tcold < t → (Σ₁ (g .TD + g .Tcold) (λ j. u (t - j)) ≡ 0) ↔ (g .TD + g .Tcold ≤ downtime g u t)
+pub sum15 : (g : Generator) (u : ℕ → ℕ) (t : ℕ) → g .TD + g .Tcold < t
+    → (Σ₁ (g .TD + g .Tcold) (λ j. u (t - j)) ≡ 0) ↔ (g .TD + g .Tcold ≤ downtime g u t)
 sum15 g u zero l = absurd (omega arith)
 sum15 g u (suc t) l = let d = idle (g .on) (g .since) in
     (sum→down d u t (g .TD + g .Tcold) (omega arith), down→sum d u t (g .TD + g .Tcold) (omega arith))

@@ -1,11 +1,15 @@
--- That the model reads them rightly.
+-- That the model reads the paper's equations rightly.
 pub mod Indices
+pub mod Ranged
 pub mod Before
+-- the rules, (2) to (12)
 pub mod Stays
 pub mod UpDown
-pub mod Ranged
 pub mod Rows
 pub mod Schedules
+pub mod Horizon
+pub mod Leaves
+-- the costs, (13) to (20), and (1)
 pub mod Downtime
 pub mod Charges
 pub mod SwitchCosts
@@ -13,10 +17,9 @@ pub mod Objective
 pub mod CostOfRows
 pub mod Repaired
 pub mod Printed
-pub mod Horizon
 pub mod Solutions
 pub mod BoundOfSource
+-- computed examples and counterexamples
 pub mod ShownFifteen
 pub mod Conditions
 pub mod WholeOutputs
-pub mod Leaves

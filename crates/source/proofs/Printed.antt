@@ -94,7 +94,8 @@ printed-below n g u cu cd f bits K (suc t) l m = go (from g u t) (u (suc t)) ref
     go zero (suc zero) e i h =
         start (leb d N) (ltb N (suc t)) (eqb d N) (λ c. nleb→lt d N c) (λ c. ltb→lt N (suc t) c) (λ c. eqb→eq d N c) i (rw (e, i) at h)
 
-printed-same : (n : ℕ) (g : Generator) (u v : ℕ → ℕ) → ((t : ℕ) → 1 ≤ t → t ≤ n → u t ≡ v t) → (t : ℕ) → 1 ≤ t → t ≤ n → printed-cost g u t ≡ printed-cost g v t
+printed-same : (n : ℕ) (g : Generator) (u v : ℕ → ℕ) → ((t : ℕ) → 1 ≤ t → t ≤ n → u t ≡ v t) → (t : ℕ) → 1 ≤ t → t ≤ n
+    → printed-cost g u t ≡ printed-cost g v t
 printed-same n g u v e zero l m = refl
 printed-same n g u v e (suc t) l m =
     ap₂ _+_ (start-same g n u v e (suc t) l m) (rw (from-same g n u v e t (omega arith), downtime-same g n u v e t (omega arith), e (suc t) l m))

@@ -25,7 +25,8 @@ later g u zero = 0
 later g u (suc t) = from g u t
 
 -- counted from a period earlier, the downtime is the same
-downs-later : (g : Generator) (u : ℕ → ℕ) (d t : ℕ) → longer (num (g .on)) d ≡ idle (g .on) (g .since) → downs d (later g u) (suc (suc t)) ≡ downtime g u (suc t)
+downs-later : (g : Generator) (u : ℕ → ℕ) (d t : ℕ) → longer (num (g .on)) d ≡ idle (g .on) (g .since)
+    → downs d (later g u) (suc (suc t)) ≡ downtime g u (suc t)
 downs-later g u d zero e = e
 downs-later g u d (suc t) e = ap (longer (u (suc t))) (downs-later g u d t e)
 

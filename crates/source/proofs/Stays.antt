@@ -1,4 +1,4 @@
--- (5) to (10) between the paper's form and the model's: the status before period 1 is x 0, so that (7) and (8) are one rule, and (9) and (10) another.
+-- (5) to (10) between the paper's form and the model's: the status before period 1 is x 0, so that (7) and (8) are one rule, (9) and (10) another.
 -- Such statuses keep the rules exactly if the first is permitted and the rest keep them, a period later: that is the model's `keeps`.
 use mathlib.Core.Path.{_≡_}
 use mathlib.Core.Bool.{Bool, true, false, not}

@@ -53,7 +53,8 @@ module _ (n : ℕ) (g : Generator) (u : ℕ → ℕ) (S : ToT n g u) (bits : Bit
       )
 
   -- (10), (9)
-  stays-falls : (Tini g <ℤ pos 0) ⊎ (pos 0 <ℤ Tini g) → (t e : ℕ) → suc t < e → e < suc t + g .TD → e ≤ n → from g u e + from g u t ≤ from g u (suc t) + 1
+  stays-falls : (Tini g <ℤ pos 0) ⊎ (pos 0 <ℤ Tini g) → (t e : ℕ) → suc t < e → e < suc t + g .TD → e ≤ n
+      → from g u e + from g u t ≤ from g u (suc t) + 1
   stays-falls (inl h) zero e i j l =
       omega (arith, ap num (off-of g h .state), from-is g u e (omega arith), bits e (omega arith) (omega arith))
   stays-falls (inr h) zero e i j l =

@@ -1,6 +1,6 @@
 -- The source paper's section III as printed, each equation under its own number, and three forms of (15).
 -- As there, periods are t = 1, .., T and units i = 1, .., I. What the paper subtracts on one side is added here on the other; the differences
--- that are left, t - 1, t - j, TU - 1, TD - 1 and 1 - u, are never below 0.
+-- that are left, t - 1, t - j, TU - 1, TD - 1 and 1 - u, are not below 0 in document 01's ranges.
 -- u, p, cu and cd are whole numbers. So (17), (20) and (21), by which cu, cd and p are not below 0, hold by their type.
 use mathlib.Core.Path.{_≡_}
 use mathlib.Core.Bool.{Bool, true, false}
