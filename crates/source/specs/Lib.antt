@@ -1,0 +1,5 @@
+-- The source paper's equations.
+pub mod Source
+pub mod Sentences
+pub mod Least
+pub mod Leaves
