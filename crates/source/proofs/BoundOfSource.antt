@@ -5,13 +5,13 @@ use Prim.Native.Nat.{ℕ, _+_, _≤_}
 use native.Mathlib.Omega.{arith}
 use lib.IntN.{ℤ, pos}
 use lib.Signed.{_≤ℤ_}
-use Rattle.model.specs.Instance.{Instance, Schedule}
+use Rattle.model.specs.Instance.{Instance}
 use Rattle.model.specs.Ranges.{WellFormed}
-use Rattle.model.specs.Rules.{Meets}
 use Rattle.model.specs.Cost.{cost}
 use Rattle.model.specs.Above.{root}
 use Rattle.model.specs.Tree.{Tree, Holds, never, number, bound}
 use Rattle.model.proofs.Integers.{nat→le, ≤ℤ-trans}
+use Rattle.model.proofs.Soundness.{number-sound, never-sound}
 use Rattle.source.specs.Source.{Source, Printed15, Repaired15, Sentence15, Costs, objective}
 use Rattle.source.specs.Sentences.{start-cost, printed-cost, surcharges}
 use Rattle.source.proofs.Ranged.{formed→ranged}
@@ -21,38 +21,33 @@ use Rattle.source.proofs.Printed.{printed-least, printed-value}
 use Rattle.source.proofs.Repaired.{repaired-least}
 use Rattle.source.proofs.Solutions.{schedule-of, solution-meets, solution-below}
 
--- `sound` and `never-sound` are the model's: a tree's bound is below every cost
-module _
-    (sound : (P : Instance) (t : Tree) (z : ℤ) → Holds P root t → bound P root t ≡ number z → (s : Schedule) → Meets P s → z ≤ℤ pos (cost P s))
-    (never-sound : (P : Instance) (t : Tree) → Holds P root t → bound P root t ≡ never → (s : Schedule) → Meets P s → ⊥)
-  where
-    module _ (P : Instance) (t : Tree) (W : WellFormed P) (h : Holds P root t) where
-      -- a tree of `never`: no u and p solve (2) to (12)
-      pub never-source : bound P root t ≡ never → (u p : ℕ → ℕ → ℕ) → Source P u p → ⊥
-      never-source e u p S = never-sound P t h e (schedule-of P p) (solution-meets P p u (formed→ranged P W) S)
+module _ (P : Instance) (t : Tree) (W : WellFormed P) (h : Holds P root t) where
+  -- a tree of `never`: no u and p solve (2) to (12)
+  pub never-source : bound P root t ≡ never → (u p : ℕ → ℕ → ℕ) → Source P u p → ⊥
+  never-source e u p S = never-sound P t h e (schedule-of P p) (solution-meets P p u (formed→ranged P W) S)
 
-      below : (z : ℤ) → bound P root t ≡ number z → (u p : ℕ → ℕ → ℕ) (v : ℕ) → Source P u p → cost P (schedule-of P p) ≤ v → z ≤ℤ pos v
-      below z e u p v S l =
-          let c = cost P (schedule-of P p) in
-          ≤ℤ-trans z (pos c) (pos v) (sound P t z h e (schedule-of P p) (solution-meets P p u (formed→ranged P W) S)) (nat→le (pos c) (pos v) (omega arith))
+  below : (z : ℤ) → bound P root t ≡ number z → (u p : ℕ → ℕ → ℕ) (v : ℕ) → Source P u p → cost P (schedule-of P p) ≤ v → z ≤ℤ pos v
+  below z e u p v S l =
+      let c = cost P (schedule-of P p) in
+      ≤ℤ-trans z (pos c) (pos v) (number-sound P t h z e (schedule-of P p) (solution-meets P p u (formed→ranged P W) S)) (nat→le (pos c) (pos v) (omega arith))
 
-      pub bound-sentence : (z : ℤ) → bound P root t ≡ number z → (u p cu cd : ℕ → ℕ → ℕ) → Source P u p → Costs Sentence15 P u cu cd
-          → z ≤ℤ pos (objective P u p cu cd)
-      bound-sentence z e u p cu cd S C =
-          below z e u p (objective P u p cu cd) S
-          (solution-below Sentence15 start-cost sentence-least P (formed→ranged P W) (cost P) (cost-value P) u p cu cd S C)
+  pub bound-sentence : (z : ℤ) → bound P root t ≡ number z → (u p cu cd : ℕ → ℕ → ℕ) → Source P u p → Costs Sentence15 P u cu cd
+      → z ≤ℤ pos (objective P u p cu cd)
+  bound-sentence z e u p cu cd S C =
+      below z e u p (objective P u p cu cd) S
+      (solution-below Sentence15 start-cost sentence-least P (formed→ranged P W) (cost P) (cost-value P) u p cu cd S C)
 
-      pub bound-repaired : (z : ℤ) → bound P root t ≡ number z → (u p cu cd : ℕ → ℕ → ℕ) → Source P u p → Costs Repaired15 P u cu cd
-          → z ≤ℤ pos (objective P u p cu cd)
-      bound-repaired z e u p cu cd S C =
-          below z e u p (objective P u p cu cd) S
-          (solution-below Repaired15 start-cost repaired-least P (formed→ranged P W) (cost P) (cost-value P) u p cu cd S C)
+  pub bound-repaired : (z : ℤ) → bound P root t ≡ number z → (u p cu cd : ℕ → ℕ → ℕ) → Source P u p → Costs Repaired15 P u cu cd
+      → z ≤ℤ pos (objective P u p cu cd)
+  bound-repaired z e u p cu cd S C =
+      below z e u p (objective P u p cu cd) S
+      (solution-below Repaired15 start-cost repaired-least P (formed→ranged P W) (cost P) (cost-value P) u p cu cd S C)
 
-      pub bound-printed : (z : ℤ) → bound P root t ≡ number z → (u p cu cd : ℕ → ℕ → ℕ) → Source P u p → Costs Printed15 P u cu cd
-          → z ≤ℤ pos (objective P u p cu cd)
-      bound-printed z e u p cu cd S C =
-          below z e u p (objective P u p cu cd) S
-          (omega (
-            arith,
-            solution-below Printed15 printed-cost printed-least P (formed→ranged P W) (λ s. cost P s + surcharges P s) (printed-value P) u p cu cd S C,
-          ))
+  pub bound-printed : (z : ℤ) → bound P root t ≡ number z → (u p cu cd : ℕ → ℕ → ℕ) → Source P u p → Costs Printed15 P u cu cd
+      → z ≤ℤ pos (objective P u p cu cd)
+  bound-printed z e u p cu cd S C =
+      below z e u p (objective P u p cu cd) S
+      (omega (
+        arith,
+        solution-below Printed15 printed-cost printed-least P (formed→ranged P W) (λ s. cost P s + surcharges P s) (printed-value P) u p cu cd S C,
+      ))
