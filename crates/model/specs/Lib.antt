@@ -7,5 +7,7 @@ pub mod Cost
 pub mod Breach
 pub mod Above
 pub mod Leaf
+pub mod Walk
+pub mod Prices
 pub mod Tree
 pub mod Best
