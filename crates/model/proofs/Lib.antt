@@ -5,3 +5,10 @@ pub mod Sums
 pub mod Members
 pub mod Coded
 pub mod WalkRuns
+pub mod Candidates
+pub mod WalkRows
+pub mod Stuck
+pub mod Leasts
+pub mod LeastWalks
+pub mod Caps
+pub mod BestOutputs

@@ -12,7 +12,7 @@ use Rattle.model.specs.Walk.{walk}
 -- ---- one period on
 
 -- what a unit on at p costs, where each unit of output costs x and each unit short of pU costs y
-abbrev pub on-value : Generator → ℕ → ℕ → ℕ → ℕ
+unfoldable pub on-value : Generator → ℕ → ℕ → ℕ → ℕ
 on-value g x y p = g .a + x * p + g .c * p * p + y * (g .pU - p)
 
 -- the smallest p with x + c·(2p + 1) at least y, brought back to pL .. pU: one more unit of output costs the one and saves
