@@ -12,3 +12,5 @@ pub mod Leasts
 pub mod LeastWalks
 pub mod Caps
 pub mod BestOutputs
+pub mod PriceWalks
+pub mod BoundExamples

@@ -1,9 +1,11 @@
 -- What the code follows for a price leaf: the best output of a period on, the walk of a unit, and the sums over units.
 -- (q + s)·pU is added to every period of a unit, so that no term is negative; `offset` is what was added.
-use mathlib.Core.Bool.{Bool, true, false, cond}
+use mathlib.Core.Bool.{Bool, true, false, cond, _||_}
+use mathlib.Core.Option.{Option, none, some}
 use mathlib.Core.List.{List, [], _∷_}
-use Prim.Native.Nat.{ℕ, suc, _+_, _*_, _-_, _/_, _≤_, _<_, min}
+use Prim.Native.Nat.{ℕ, zero, suc, _+_, _*_, _-_, _/_, _≤_, _<_, min}
 use lib.Dec.{leb, eqb}
+use lib.IntN.{ℤ, pos, _-ℤ_}
 use Rattle.model.specs.declared.generator.Generator.{Generator}
 use Rattle.model.specs.Instance.{sum}
 use Rattle.model.specs.Above.{Mark, Marks, rest}
@@ -51,7 +53,17 @@ price-walk n q s g m = walk n g m (λ t. worth g (q t) (s t)) (g .on) (g .since)
 unfoldable pub offset : ℕ → (ℕ → ℕ) → (ℕ → ℕ) → Generator → ℕ
 offset n q s g = sum n (λ t. (q t + s t) * g .pU)
 
+-- a coded value less what was added to it
+abbrev pub decoded : ℕ → ℕ → Option ℤ
+decoded zero K = none
+decoded (suc v) K = some (pos v -ℤ pos K)
+
 -- ---- all units
+
+-- whether a unit's walk finds nothing
+unfoldable pub price-stuck : ℕ → (ℕ → ℕ) → (ℕ → ℕ) → List Generator → Marks → Bool
+price-stuck n q s [] m = false
+price-stuck n q s (g ∷ gs) m = eqb (price-walk n q s g (m 0)) 0 || price-stuck n q s gs (rest m)
 
 -- the sum of the values, where no unit is stuck
 unfoldable pub price-walks : ℕ → (ℕ → ℕ) → (ℕ → ℕ) → List Generator → Marks → ℕ

@@ -1,0 +1,98 @@
+-- Document 01's example problem and its trees: their bounds, through the walks (quick) and not by trying all rows.
+use mathlib.Core.Path.{_≡_, refl, sym, _∙_, ap}
+use mathlib.Core.Bool.{Bool, true, false}
+use mathlib.Core.List.{List, [], _∷_}
+use Prim.Native.Nat.{ℕ, _+_, _≤_, _<_}
+use lib.Dec.{T, lit<, lit≤}
+use lib.IntN.{ℤ, pos}
+use Rattle.model.specs.declared.generator.Generator.{Generator}
+use Rattle.model.specs.Instance.{Instance, _at_}
+use Rattle.model.specs.Ranges.{Between, All, InRange, Ordered, GoodUnit, WellFormed}
+use Rattle.model.specs.Above.{root, fix}
+use Rattle.model.specs.Leaf.{available, is-stuck, requirement, leaf-value}
+use Rattle.model.specs.Tree.{Tree, split, short, price, Limits, Holds, Bound, number, bound, splits, leaves}
+use Rattle.model.specs.Walk.{plus, lesser, back, walk}
+use Rattle.model.specs.Prices.{on-value, best-at, price-walk, offset, price-walks, offsets}
+use Rattle.model.proofs.PriceWalks.{leaf-is}
+
+-- ---- the problem
+
+abbrev pub unit-1 : Generator
+unit-1 = record { a = 100; b = 10; c = 0; pL = 20; pU = 80; TU = 2; TD = 2; on = true; since = 3; DR = 30; UR = 30; Hsc = 50; Csc = 90; Tcold = 1; Dc = 5 }
+
+abbrev pub unit-2 : Generator
+unit-2 = record { a = 40; b = 14; c = 0; pL = 10; pU = 50; TU = 1; TD = 1; on = false; since = 2; DR = 50; UR = 50; Hsc = 20; Csc = 60; Tcold = 0; Dc = 0 }
+
+abbrev pub example : Instance
+example = record { periods = 2; demand = 60 ∷ (100 ∷ []); spare = 10 ∷ (10 ∷ []); units = unit-1 ∷ (unit-2 ∷ []) }
+
+good-1 : GoodUnit unit-1
+good-1 = record {
+  in-range = record {
+    a-in = (lit≤ tt, lit≤ tt);
+    b-in = (lit≤ tt, lit≤ tt);
+    c-in = (lit≤ tt, lit≤ tt);
+    pL-in = (lit≤ tt, lit≤ tt);
+    pU-in = (lit≤ tt, lit≤ tt);
+    TU-in = (lit≤ tt, lit≤ tt);
+    TD-in = (lit≤ tt, lit≤ tt);
+    since-in = (lit≤ tt, lit≤ tt);
+    DR-in = (lit≤ tt, lit≤ tt);
+    UR-in = (lit≤ tt, lit≤ tt);
+    Hsc-in = (lit≤ tt, lit≤ tt);
+    Csc-in = (lit≤ tt, lit≤ tt);
+    Tcold-in = (lit≤ tt, lit≤ tt);
+    Dc-in = (lit≤ tt, lit≤ tt);
+  };
+  ordered = record { limits = lit≤ tt; starts = lit≤ tt };
+}
+
+good-2 : GoodUnit unit-2
+good-2 = record {
+  in-range = record {
+    a-in = (lit≤ tt, lit≤ tt);
+    b-in = (lit≤ tt, lit≤ tt);
+    c-in = (lit≤ tt, lit≤ tt);
+    pL-in = (lit≤ tt, lit≤ tt);
+    pU-in = (lit≤ tt, lit≤ tt);
+    TU-in = (lit≤ tt, lit≤ tt);
+    TD-in = (lit≤ tt, lit≤ tt);
+    since-in = (lit≤ tt, lit≤ tt);
+    DR-in = (lit≤ tt, lit≤ tt);
+    UR-in = (lit≤ tt, lit≤ tt);
+    Hsc-in = (lit≤ tt, lit≤ tt);
+    Csc-in = (lit≤ tt, lit≤ tt);
+    Tcold-in = (lit≤ tt, lit≤ tt);
+    Dc-in = (lit≤ tt, lit≤ tt);
+  };
+  ordered = record { limits = lit≤ tt; starts = lit≤ tt };
+}
+
+pub example-well-formed : WellFormed example
+example-well-formed = record {
+  periods-in = (lit≤ tt, lit≤ tt);
+  units-in = (lit≤ tt, lit≤ tt);
+  demand-long = refl;
+  demand-in = ((lit≤ tt, lit≤ tt), ((lit≤ tt, lit≤ tt), tt));
+  spare-long = refl;
+  spare-in = ((lit≤ tt, lit≤ tt), ((lit≤ tt, lit≤ tt), tt));
+  units-good = (good-1, (good-2, tt));
+}
+
+-- ---- its tree, and a lone price leaf
+
+abbrev pub example-tree : Tree
+example-tree = split 1 1 (short 1) (price (10 ∷ (14 ∷ [])) (0 ∷ (0 ∷ [])))
+
+abbrev pub lone-leaf : Tree
+lone-leaf = price (10 ∷ (14 ∷ [])) (0 ∷ (2 ∷ []))
+
+pub example-bound : bound example root example-tree ≡ number (pos 1980)
+unfolding bound requirement is-stuck price-walks offsets price-walk offset walk back plus lesser on-value best-at
+example-bound =
+    ap number (leaf-is example (example-well-formed .units-good) (fix 1 1 true root .marks) (λ t. (10 ∷ (14 ∷ [])) at t) (λ t. (0 ∷ (0 ∷ [])) at t) tt)
+
+pub lone-bound : bound example root lone-leaf ≡ number (pos 1940)
+unfolding bound requirement is-stuck price-walks offsets price-walk offset walk back plus lesser on-value best-at
+lone-bound =
+    ap number (leaf-is example (example-well-formed .units-good) (root .marks) (λ t. (10 ∷ (14 ∷ [])) at t) (λ t. (0 ∷ (2 ∷ [])) at t) tt)
