@@ -14,3 +14,5 @@ pub mod Caps
 pub mod BestOutputs
 pub mod PriceWalks
 pub mod BoundExamples
+pub mod UnitLeasts
+pub mod WalkSizes
