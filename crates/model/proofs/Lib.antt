@@ -16,3 +16,5 @@ pub mod PriceWalks
 pub mod BoundExamples
 pub mod UnitLeasts
 pub mod WalkSizes
+pub mod LeafSizes
+pub mod CostSizes
