@@ -18,3 +18,7 @@ pub mod UnitLeasts
 pub mod WalkSizes
 pub mod LeafSizes
 pub mod CostSizes
+pub mod WalkPeriods
+pub mod Tables
+pub mod GoodUnits
+pub mod WrongOutputs

@@ -9,5 +9,6 @@ pub mod Above
 pub mod Leaf
 pub mod Walk
 pub mod Prices
+pub mod Table
 pub mod Tree
 pub mod Best

@@ -1,0 +1,89 @@
+-- The walk by the period's own number, as a loop from the last period to the first has it; and a walk sees no period past the
+-- last.
+use mathlib.Core.Path.{_≡_, refl, sym, _∙_, ap, ap₂, fun-ext}
+use mathlib.Core.Bool.{Bool, true, false}
+use Prim.Native.Nat.{ℕ, zero, suc, _+_, _-_, _≤_, _<_}
+use native.Mathlib.Nat.{zero-add, add-zero, add-suc, suc-add}
+use native.Mathlib.Omega.{arith}
+use Rattle.model.specs.declared.generator.Generator.{Generator}
+use Rattle.model.specs.Ranges.{GoodUnit, GoodPrice}
+use Rattle.model.specs.Rules.{spent}
+use Rattle.model.specs.Above.{Mark}
+use Rattle.model.specs.Walk.{Values, move, back, walk}
+use Rattle.model.specs.Prices.{worth, price-walk, offset}
+use Rattle.model.specs.Table.{price-values}
+use Rattle.model.proofs.WalkRuns.{later}
+use Rattle.model.proofs.Caps.{Settled, walk-settled}
+use Rattle.model.proofs.WalkSizes.{walk-fits}
+
+-- ---- periods past the last
+
+pub walk-ext : (n : ℕ) (g : Generator) (m m′ : ℕ → Mark) (w w′ : ℕ → Bool → ℕ) → ((t : ℕ) → t < n → m t ≡ m′ t) → ((t : ℕ) → t < n → (d : Bool) → w t d ≡ w′ t d)
+    → (b : Bool) (k : ℕ) → walk n g m w b k ≡ walk n g m′ w′ b k
+unfolding walk back
+walk-ext zero g m m′ w w′ h i b k = refl
+walk-ext (suc n) g m m′ w w′ h i b k =
+    rw (
+      h 0 (omega arith),
+      i 0 (omega arith) false,
+      i 0 (omega arith) true,
+      walk-ext n g (later m) (later m′) (later w) (later w′) (λ t l. h (suc t) (omega arith)) (λ t l. i (suc t) (omega arith)) false (spent b k false),
+      walk-ext n g (later m) (later m′) (later w) (later w′) (λ t l. h (suc t) (omega arith)) (λ t l. i (suc t) (omega arith)) true (spent b k true),
+    )
+
+pub price-walk-ext : (n : ℕ) (q q′ s s′ : ℕ → ℕ) (g : Generator) (m m′ : ℕ → Mark) → ((t : ℕ) → t < n → q t ≡ q′ t) → ((t : ℕ) → t < n → s t ≡ s′ t)
+    → ((t : ℕ) → t < n → m t ≡ m′ t) → price-walk n q s g m ≡ price-walk n q′ s′ g m′
+unfolding price-walk
+price-walk-ext n q q′ s s′ g m m′ hq hs hm =
+    walk-ext n g m m′ (λ t. worth g (q t) (s t)) (λ t. worth g (q′ t) (s′ t)) hm (λ t l d. ap₂ (λ (x y : ℕ). worth g x y d) (hq t l) (hs t l)) (g .on) (g .since)
+
+-- ---- by the period's number
+
+-- from the period t on
+abbrev pub from : {A : Type 0} → ℕ → (ℕ → A) → ℕ → A
+from t f i = f (t + i)
+
+from-later : {A : Type 0} (t : ℕ) (f : ℕ → A) → later (from t f) ≡ from (suc t) f
+from-later t f = fun-ext (λ i. ap f (next i))
+  where
+    next : (i : ℕ) → t + suc i ≡ suc t + i
+    next i = omega arith
+
+pub walk-from : (n t : ℕ) (g : Generator) (m : ℕ → Mark) (w : ℕ → Bool → ℕ) (b : Bool) (k : ℕ)
+    → walk (suc n) g (from t m) (from t w) b k ≡ back g (m t) (w t) (walk n g (from (suc t) m) (from (suc t) w)) b k
+unfolding walk
+walk-from n t g m w b k = rw (from-later t m, from-later t w, add-zero t)
+
+pub walk-from-zero : (n : ℕ) (g : Generator) (m : ℕ → Mark) (w : ℕ → Bool → ℕ) (b : Bool) (k : ℕ) → walk n g (from 0 m) (from 0 w) b k ≡ walk n g m w b k
+walk-from-zero n g m w b k = walk-ext n g (from 0 m) m (from 0 w) w (λ t l. ap m (zero-add t)) (λ t l d. ap (λ (x : ℕ). w x d) (zero-add t)) b k
+
+-- ---- in prices
+
+module _ (n : ℕ) (q s : ℕ → ℕ) (g : Generator) (m : ℕ → Mark) where
+  -- after the last period there is nothing to pay
+  pub price-values-end : (b : Bool) (k : ℕ) → price-values n q s g m n b k ≡ 1
+  unfolding price-values walk
+  price-values-end b k = let e : n - n ≡ 0 = omega arith in rw e
+
+  -- one period back
+  pub price-values-back : (t : ℕ) → t < n → (b : Bool) (k : ℕ)
+      → price-values n q s g m t b k ≡ back g (m t) (worth g (q t) (s t)) (price-values n q s g m (suc t)) b k
+  unfolding price-values
+  price-values-back t l b k =
+      let e : n - t ≡ suc (n - suc t) = omega arith in
+      rw e (walk-from (n - suc t) t g m (λ t. worth g (q t) (s t)) b k)
+
+  -- before the first it is the walk
+  pub price-values-start : price-values n q s g m 0 (g .on) (g .since) ≡ price-walk n q s g m
+  unfolding price-values price-walk
+  price-values-start = let e : n - 0 ≡ n = omega arith in rw e (walk-from-zero n g m (λ t. worth g (q t) (s t)) (g .on) (g .since))
+
+  pub price-values-settled : (t : ℕ) → Settled g (price-values n q s g m t)
+  unfolding price-values
+  price-values-settled t = walk-settled (n - t) g (from t m) (λ i. worth g (q (t + i)) (s (t + i)))
+
+  pub price-values-fit : GoodUnit g → n ≤ 48 → ((t : ℕ) → t < n → GoodPrice (q t)) → ((t : ℕ) → t < n → GoodPrice (s t)) → (t : ℕ) (b : Bool) (k : ℕ)
+      → price-values n q s g m t b k ≤ 1_000_000_000_000_000
+  unfolding price-values
+  price-values-fit good h hq hs t b k =
+      walk-fits g good (n - t) (omega arith) (λ i. q (t + i)) (λ i. s (t + i)) (λ i l. hq (t + i) (omega arith)) (λ i l. hs (t + i) (omega arith)) (from t m) b k
