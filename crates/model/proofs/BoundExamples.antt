@@ -7,12 +7,13 @@ use lib.Dec.{T, lit<, lit≤}
 use lib.IntN.{ℤ, pos}
 use Rattle.model.specs.declared.generator.Generator.{Generator}
 use Rattle.model.specs.Instance.{Instance, _at_}
-use Rattle.model.specs.Ranges.{Between, All, InRange, Ordered, GoodUnit, WellFormed}
+use Rattle.model.specs.Ranges.{GoodUnit, WellFormed, in-range, costs-in-range, outputs-in-range, times-in-range, ordered}
 use Rattle.model.specs.Above.{root, fix}
 use Rattle.model.specs.Leaf.{available, is-stuck, requirement, leaf-value}
 use Rattle.model.specs.Tree.{Tree, split, short, price, Limits, Holds, Bound, number, bound, splits, leaves}
 use Rattle.model.specs.Walk.{plus, lesser, back, walk}
 use Rattle.model.specs.Prices.{on-value, best-at, price-walk, offset, price-walks, offsets}
+use Rattle.model.proofs.GoodUnits.{good-unit}
 use Rattle.model.proofs.PriceWalks.{leaf-is}
 
 -- ---- the problem
@@ -27,46 +28,12 @@ abbrev pub example : Instance
 example = record { periods = 2; demand = 60 ∷ (100 ∷ []); spare = 10 ∷ (10 ∷ []); units = unit-1 ∷ (unit-2 ∷ []) }
 
 good-1 : GoodUnit unit-1
-good-1 = record {
-  in-range = record {
-    a-in = (lit≤ tt, lit≤ tt);
-    b-in = (lit≤ tt, lit≤ tt);
-    c-in = (lit≤ tt, lit≤ tt);
-    pL-in = (lit≤ tt, lit≤ tt);
-    pU-in = (lit≤ tt, lit≤ tt);
-    TU-in = (lit≤ tt, lit≤ tt);
-    TD-in = (lit≤ tt, lit≤ tt);
-    since-in = (lit≤ tt, lit≤ tt);
-    DR-in = (lit≤ tt, lit≤ tt);
-    UR-in = (lit≤ tt, lit≤ tt);
-    Hsc-in = (lit≤ tt, lit≤ tt);
-    Csc-in = (lit≤ tt, lit≤ tt);
-    Tcold-in = (lit≤ tt, lit≤ tt);
-    Dc-in = (lit≤ tt, lit≤ tt);
-  };
-  ordered = record { limits = lit≤ tt; starts = lit≤ tt };
-}
+unfolding in-range costs-in-range outputs-in-range times-in-range ordered
+good-1 = good-unit unit-1 tt tt
 
 good-2 : GoodUnit unit-2
-good-2 = record {
-  in-range = record {
-    a-in = (lit≤ tt, lit≤ tt);
-    b-in = (lit≤ tt, lit≤ tt);
-    c-in = (lit≤ tt, lit≤ tt);
-    pL-in = (lit≤ tt, lit≤ tt);
-    pU-in = (lit≤ tt, lit≤ tt);
-    TU-in = (lit≤ tt, lit≤ tt);
-    TD-in = (lit≤ tt, lit≤ tt);
-    since-in = (lit≤ tt, lit≤ tt);
-    DR-in = (lit≤ tt, lit≤ tt);
-    UR-in = (lit≤ tt, lit≤ tt);
-    Hsc-in = (lit≤ tt, lit≤ tt);
-    Csc-in = (lit≤ tt, lit≤ tt);
-    Tcold-in = (lit≤ tt, lit≤ tt);
-    Dc-in = (lit≤ tt, lit≤ tt);
-  };
-  ordered = record { limits = lit≤ tt; starts = lit≤ tt };
-}
+unfolding in-range costs-in-range outputs-in-range times-in-range ordered
+good-2 = good-unit unit-2 tt tt
 
 pub example-well-formed : WellFormed example
 example-well-formed = record {
@@ -86,6 +53,26 @@ example-tree = split 1 1 (short 1) (price (10 ∷ (14 ∷ [])) (0 ∷ (0 ∷ [])
 
 abbrev pub lone-leaf : Tree
 lone-leaf = price (10 ∷ (14 ∷ [])) (0 ∷ (2 ∷ []))
+
+-- its nodes are within the limits, its leaves hold, and it has one split line and two leaves
+pub example-limits : Limits example root 0 example-tree
+unfolding Limits
+example-limits = (
+  lit< tt,
+  lit< tt,
+  refl,
+  lit≤ tt,
+  lit< tt,
+  ((refl, ((lit≤ tt, lit≤ tt), ((lit≤ tt, lit≤ tt), tt))), (refl, ((lit≤ tt, lit≤ tt), ((lit≤ tt, lit≤ tt), tt)))),
+)
+
+pub example-holds : Holds example root example-tree
+unfolding Holds available is-stuck
+example-holds = ((lit< tt, lit< tt), tt)
+
+pub example-counts : (splits example-tree ≡ 1) × (leaves example-tree ≡ 2)
+unfolding splits leaves
+example-counts = (refl, refl)
 
 pub example-bound : bound example root example-tree ≡ number (pos 1980)
 unfolding bound requirement is-stuck price-walks offsets price-walk offset walk back plus lesser on-value best-at
