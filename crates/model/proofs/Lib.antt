@@ -22,3 +22,4 @@ pub mod WalkPeriods
 pub mod Tables
 pub mod GoodUnits
 pub mod WrongOutputs
+pub mod Extents
