@@ -42,13 +42,13 @@ pub good-unit : (g : Generator) → T (in-range g) → T (ordered g) → GoodUni
 unfolding in-range costs-in-range outputs-in-range times-in-range ordered
 good-unit g t o =
     let costs = facts (claim 0 (g .a) 1000000000)
-        (claim 0 (g .b) 10000000 ∷ (claim 0 (g .c) 10000 ∷ (claim 0 (g .Hsc) 1000000000 ∷ (claim 0 (g .Csc) 1000000000 ∷ (claim 0 (g .Dc) 1000000000 ∷ [])))))
-        (T-and-l (costs-in-range g) (outputs-in-range g && times-in-range g) t) in
+    (claim 0 (g .b) 10000000 ∷ (claim 0 (g .c) 10000 ∷ (claim 0 (g .Hsc) 1000000000 ∷ (claim 0 (g .Csc) 1000000000 ∷ (claim 0 (g .Dc) 1000000000 ∷ [])))))
+    (T-and-l (costs-in-range g) (outputs-in-range g && times-in-range g) t) in
     let rest : T (outputs-in-range g && times-in-range g) = T-and-r (costs-in-range g) (outputs-in-range g && times-in-range g) t in
     let outputs = facts (claim 1 (g .pL) 10000) (claim 1 (g .pU) 10000 ∷ (claim 1 (g .DR) 10000 ∷ (claim 1 (g .UR) 10000 ∷ [])))
-        (T-and-l (outputs-in-range g) (times-in-range g) rest) in
+    (T-and-l (outputs-in-range g) (times-in-range g) rest) in
     let times = facts (claim 1 (g .TU) 48) (claim 1 (g .TD) 48 ∷ (claim 1 (g .since) 1000 ∷ (claim 0 (g .Tcold) 48 ∷ [])))
-        (T-and-r (outputs-in-range g) (times-in-range g) rest) in
+    (T-and-r (outputs-in-range g) (times-in-range g) rest) in
     record {
       in-range = record {
         a-in = costs .0;

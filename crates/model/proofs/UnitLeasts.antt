@@ -32,8 +32,8 @@ module _ (n : ℕ) (q s : ℕ → ℕ) (g : Generator) (m : ℕ → Mark) where
   pub candidate : GoodUnit g → T (not (is-stuck n g m)) → (r : List ℕ) × Candidate n g m r
   candidate good t =
       let a = walk-attained g (omega (arith, good .in-range .pL-in .0)) n m (λ t. shifted g (q t) (s t)) (λ t. worth g (q t) (s t)) (λ t. best-output g (q t))
-          (λ t. shifted-cheapest g (omega (arith, good .in-range .pL-in .0)) (good .ordered .limits) (q t) (s t))
-          (not-stuck-walk n g m t (λ t. worth g (q t) (s t))) in
+      (λ t. shifted-cheapest g (omega (arith, good .in-range .pL-in .0)) (good .ordered .limits) (q t) (s t))
+      (not-stuck-walk n g m t (λ t. worth g (q t) (s t))) in
       (a .0, a .1)
 
   -- and one of its rows has the least value

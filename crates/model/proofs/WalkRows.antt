@@ -118,8 +118,7 @@ module _ (g : Generator) (positive : 0 < g .pL) (n : ℕ) (m : ℕ → Mark) (c 
       let a = walk-attained-run n g m w (g .on) (g .since) h in
       let run : List Bool = a .0 in
       let e : statuses (row-of o run) ≡ run = row-of-statuses g positive o (λ t. cheapest t .low) run in
-      let l : length run ≡ n = a .1 .long in
-      (
+      let l : length run ≡ n = a .1 .long in (
         row-of o run,
         record {
           long = row-of-long g positive o run ∙ l;
