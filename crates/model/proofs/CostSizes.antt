@@ -14,7 +14,8 @@ use Rattle.model.specs.Rules.{on, if-on, statuses, spent, Within, output
 use Rattle.model.specs.Cost.{switch-costs, fuel-cost, row-cost, cost}
 use Rattle.model.specs.Above.{Mark, free, fixed, Marks, rest}
 use Rattle.model.specs.Leaf.{unless-off, available}
-use Rattle.model.proofs.WalkSizes.{sum-most, switch-cost-fits}
+use Rattle.model.proofs.PeriodSums.{sum-most}
+use Rattle.model.proofs.WalkSizes.{switch-cost-fits}
 use Rattle.model.proofs.LeafSizes.{all-at}
 
 -- ---- one row

@@ -17,8 +17,9 @@ use Rattle.model.specs.Leaf.{unless-off, available, is-stuck, stuck-at, 
 use Rattle.model.specs.Tree.{Tree, split, short, stuck, price, Holds, Bound, number, lower, bound}
 use Rattle.model.specs.Walk.{walk}
 use Rattle.model.specs.Prices.{price-walk, offset, decoded}
+use Rattle.model.proofs.PeriodSums.{sum-eq}
 use Rattle.model.proofs.Stuck.{is-stuck-is}
-use Rattle.model.proofs.PriceWalks.{sum-eq, unit-decoded}
+use Rattle.model.proofs.PriceWalks.{unit-decoded}
 use Rattle.model.proofs.UnitLeasts.{stuck-least}
 use Rattle.model.proofs.WalkPeriods.{walk-ext, price-walk-ext}
 

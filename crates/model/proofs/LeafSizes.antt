@@ -17,7 +17,8 @@ use Rattle.model.specs.Leaf.{minℤ, unit-least, units-least, requiremen
 use Rattle.model.specs.Tree.{Tree, split, short, stuck, price, Multipliers, Limits, Bound, never, number, lower, bound}
 use Rattle.model.specs.Prices.{price-walk, offset, price-walks, offsets}
 use Rattle.model.proofs.Integers.{up, down, +ℤ-nat}
-use Rattle.model.proofs.WalkSizes.{sum-most, price-walk-fits, offset-fits, unit-least-fits}
+use Rattle.model.proofs.PeriodSums.{sum-most}
+use Rattle.model.proofs.WalkSizes.{price-walk-fits, offset-fits, unit-least-fits}
 
 -- what a list of numbers in range has in a period
 pub all-at : (M : ℕ) (l : List ℕ) → All (λ v. Between 0 v M) l → (t : ℕ) → Between 0 (l at t) M

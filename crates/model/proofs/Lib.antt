@@ -3,6 +3,7 @@ pub mod Integers
 pub mod Tests
 pub mod Sums
 pub mod Members
+pub mod PeriodSums
 pub mod Coded
 pub mod WalkRuns
 pub mod Candidates

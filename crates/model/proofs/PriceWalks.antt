@@ -19,6 +19,7 @@ use Rattle.model.specs.Leaf.{is-stuck, any-stuck, revenue, value, unit-l
 use Rattle.model.specs.Prices.{on-value, BestAt, priced, best-output, worth, price-walk, offset, decoded, price-stuck, price-walks, offsets}
 use Rattle.model.proofs.Integers.{up, down, +ℤ-nat, -ℤ-nat, nat→eq}
 use Rattle.model.proofs.Sums.{sum-add}
+use Rattle.model.proofs.PeriodSums.{sum-eq}
 use Rattle.model.proofs.Candidates.{Candidate}
 use Rattle.model.proofs.WalkRows.{row-total, Cheapest}
 use Rattle.model.proofs.Stuck.{is-stuck-is}
@@ -56,10 +57,6 @@ shifted-is g q s (suc p) w =
     omega arith
 
 -- ---- one row
-
-pub sum-eq : (n : ℕ) (f h : ℕ → ℕ) → ((t : ℕ) → t < n → f t ≡ h t) → sum n f ≡ sum n h
-sum-eq zero f h k = refl
-sum-eq (suc n) f h k = omega (arith, k 0 (omega arith), sum-eq n (λ t. f (suc t)) (λ t. h (suc t)) (λ t l. k (suc t) (omega arith)))
 
 module _ (n : ℕ) (q s : ℕ → ℕ) (g : Generator) where
   row-shifted : (r : List ℕ) → ((t : ℕ) → t < n → Within g (r at t))

@@ -7,7 +7,7 @@ use Prim.Native.Nat.{ℕ, zero, suc, _+_, _-_, _≤_, _<_, min}
 use native.Mathlib.Nat.{zero-add}
 use native.Mathlib.Omega.{arith}
 use lib.Dec.{T, leb, eqb, leb→le, nleb→lt}
-use lib.ListN.{length, getD}
+use lib.ListN.{length, getD, List·getD-eq-default}
 use borrow.Author.Tests.{eq-eqb, ne-eqb, le-leb, lt-leb}
 use Rattle.model.specs.declared.generator.Generator.{Generator}
 use Rattle.model.specs.Above.{Mark, allows}
@@ -19,16 +19,24 @@ use Rattle.model.proofs.Caps.{Settled, settled-cap}
 -- a state's value, from the table
 pub tabled-at : (g : Generator) (X : Values) (b : Bool) (l : List ℕ) → Settled g X → Tabled g X b l → (k : ℕ) → 0 < k → 0 < cap g b
     → getD l (min k (cap g b) - 1) 0 ≡ X b k
-tabled-at g X b l h T k i j =
+tabled-at g X b l h E k i j =
     let e : suc (min k (cap g b) - 1) ≡ min k (cap g b) = omega arith in
-    T .entry (min k (cap g b) - 1) (omega arith) ∙ ap (X b) e ∙ settled-cap g X h b k
+    E .entry (min k (cap g b) - 1) (omega arith) ∙ ap (X b) e ∙ settled-cap g X h b k
+
+-- no entry, nor what is read past the last, is above M where no value is
+pub tabled-most : (g : Generator) (X : Values) (b : Bool) (l : List ℕ) → Tabled g X b l → (M : ℕ) → ((k : ℕ) → X b k ≤ M) → (k : ℕ) → getD l k 0 ≤ M
+tabled-most g X b l E M h k = go (leb (cap g b) k) (λ t. leb→le (cap g b) k t) (λ t. nleb→lt (cap g b) k t)
+  where
+    go : (c : Bool) → (T c → cap g b ≤ k) → (T (not c) → k < cap g b) → getD l k 0 ≤ M
+    go true f i = let e : length l ≤ k = omega (arith, E .long, f tt) in rw (List·getD-eq-default l 0 e) (omega arith)
+    go false f i = rw (E .entry k (i tt)) (h (suc k))
 
 -- the entry after k, or the last one again
 neighbour : (g : Generator) (X : Values) (b : Bool) (l : List ℕ) → Settled g X → Tabled g X b l → (k : ℕ) → k < cap g b
     → getD l (min (suc k) (cap g b - 1)) 0 ≡ X b (suc (suc k))
-neighbour g X b l h T k i =
+neighbour g X b l h E k i =
     let e : min (suc k) (cap g b - 1) ≡ min (suc (suc k)) (cap g b) - 1 = omega arith in
-    rw e (tabled-at g X b l h T (suc (suc k)) (omega arith) (omega arith))
+    rw e (tabled-at g X b l h E (suc (suc k)) (omega arith) (omega arith))
 
 module _ (g : Generator) (m : Mark) (w : Bool → ℕ) (X : Values) (ons offs : List ℕ) (settled : Settled g X) (A : Tabled g X true ons)
     (B : Tabled g X false offs) (TU-pos : 0 < g .TU) where

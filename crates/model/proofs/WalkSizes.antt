@@ -17,6 +17,7 @@ use Rattle.model.specs.Leaf.{is-stuck, unit-least}
 use Rattle.model.specs.Walk.{plus, Values, move, back, walk}
 use Rattle.model.specs.Prices.{on-value, BestAt, priced, best-output, worth, price-walk, offset}
 use Rattle.model.proofs.Integers.{up, down, -ℤ-nat}
+use Rattle.model.proofs.PeriodSums.{sum-most}
 use Rattle.model.proofs.Coded.{plus-most, lesser-most}
 use Rattle.model.proofs.WalkRuns.{later}
 use Rattle.model.proofs.BestOutputs.{best-at-is}
@@ -50,10 +51,6 @@ walk-most C W g h (suc n) m w l b k =
       back-most C W (suc (n * (C + W))) g h (m 0) (w 0) (l 0 (omega arith)) (walk n g (later m) (later w))
           (walk-most C W g h n (later m) (later w) (λ t i. l (suc t) (omega arith))) b k,
     )
-
-pub sum-most : (n M : ℕ) (f : ℕ → ℕ) → ((t : ℕ) → t < n → f t ≤ M) → sum n f ≤ n * M
-sum-most zero M f h = omega arith
-sum-most (suc n) M f h = omega (arith, h 0 (omega arith), sum-most n M (λ t. f (suc t)) (λ t l. h (suc t) (omega arith)))
 
 -- a less b is at most a, and at least - b
 pub less-fits : (a b : ℕ) → (up (pos a -ℤ pos b) ≤ a) × (down (pos a -ℤ pos b) ≤ b)
