@@ -12,9 +12,15 @@ use borrow.Author.Tests.{eq-eqb, ne-eqb, le-leb, lt-leb}
 use Rattle.model.specs.declared.generator.Generator.{Generator}
 use Rattle.model.specs.Above.{Mark, allows}
 use Rattle.model.specs.Walk.{plus, lesser, Values, back, cap}
-use Rattle.model.specs.Table.{Tabled, kept, leave, enter, chain-at, Chained}
+use Rattle.model.specs.Prices.{worth, price-walk}
+use Rattle.model.specs.Table.{price-values, Tabled, kept, leave, enter, chain-at, Chained}
 use Rattle.model.proofs.Coded.{lesser-comm}
 use Rattle.model.proofs.Caps.{Settled, settled-cap}
+use Rattle.model.proofs.WalkPeriods.{price-values-end, price-values-back, price-values-start, price-values-settled}
+
+-- a table of values is one of any values that are the same
+pub tabled-ext : (g : Generator) (X Y : Values) (b : Bool) (l : List ℕ) → ((k : ℕ) → X b k ≡ Y b k) → Tabled g X b l → Tabled g Y b l
+tabled-ext g X Y b l h E = record { long = E .long; entry = λ k i. E .entry k i ∙ h (suc k) }
 
 -- a state's value, from the table
 pub tabled-at : (g : Generator) (X : Values) (b : Bool) (l : List ℕ) → Settled g X → Tabled g X b l → (k : ℕ) → 0 < k → 0 < cap g b
@@ -114,3 +120,25 @@ module _ (g : Generator) (m : Mark) (w : Bool → ℕ) (X : Values) (ons offs : 
 
   pub off-chained : (new : List ℕ) → Chained offs new (g .TD) (enter (g .Hsc) m (w true) ons) (enter (g .Csc) m (w true) ons) (allows m false) (w false) → Tabled g (back g m w X) false new
   off-chained new C = record { long = C .same ∙ B .long; entry = λ k l. C .at k (rw (B .long) l) ∙ off-entry k l }
+
+-- ---- a loop from the last period to the first
+
+module _ (n : ℕ) (q s : ℕ → ℕ) (g : Generator) (m : ℕ → Mark) where
+  -- it starts with a table of ones
+  pub tabled-end : (b : Bool) (l : List ℕ) → length l ≡ cap g b → ((k : ℕ) → k < cap g b → getD l k 0 ≡ 1) → Tabled g (price-values n q s g m n) b l
+  tabled-end b l e h = record { long = e; entry = λ k i. h k i ∙ sym (price-values-end n q s g m b (suc k)) }
+
+  -- goes back one period at a time
+  pub tabled-back : (t : ℕ) → t < n → (b : Bool) (l : List ℕ) → Tabled g (back g (m t) (worth g (q t) (s t)) (price-values n q s g m (suc t))) b l
+      → Tabled g (price-values n q s g m t) b l
+  tabled-back t i b l E =
+      tabled-ext g (back g (m t) (worth g (q t) (s t)) (price-values n q s g m (suc t))) (price-values n q s g m t) b l
+      (λ k. sym (price-values-back n q s g m t i b k)) E
+
+  -- and ends with the walk
+  pub tabled-start : (b : Bool) (l : List ℕ) → g .on ≡ b → Tabled g (price-values n q s g m 0) b l → 0 < g .since → 0 < cap g b
+      → getD l (min (g .since) (cap g b) - 1) 0 ≡ price-walk n q s g m
+  tabled-start b l e E i j =
+      tabled-at g (price-values n q s g m 0) b l (price-values-settled n q s g m 0) E (g .since) i j
+      ∙ ap (λ (b : Bool). price-values n q s g m 0 b (g .since)) (sym e)
+      ∙ price-values-start n q s g m
