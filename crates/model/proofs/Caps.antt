@@ -8,12 +8,8 @@ use lib.Dec.{T, leb, leb→le, nleb→lt}
 use borrow.Author.Tests.{le-leb, lt-leb}
 use Rattle.model.specs.declared.generator.Generator.{Generator}
 use Rattle.model.specs.Above.{Mark}
-use Rattle.model.specs.Walk.{Values, back, walk, cap}
+use Rattle.model.specs.Walk.{Values, back, walk, cap, Settled}
 use Rattle.model.proofs.WalkRuns.{later}
-
--- from the cap on the values are the same
-abbrev pub Settled : Generator → Values → Type 0
-Settled g X = (b : Bool) (k k′ : ℕ) → cap g b ≤ k → cap g b ≤ k′ → X b k ≡ X b k′
 
 pub back-settled : (g : Generator) (m : Mark) (w : Bool → ℕ) (X : Values) → Settled g X → Settled g (back g m w X)
 unfolding back

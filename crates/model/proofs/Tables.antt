@@ -11,11 +11,11 @@ use lib.ListN.{length, getD, List·getD-eq-default}
 use borrow.Author.Tests.{eq-eqb, ne-eqb, le-leb, lt-leb}
 use Rattle.model.specs.declared.generator.Generator.{Generator}
 use Rattle.model.specs.Above.{Mark, allows}
-use Rattle.model.specs.Walk.{plus, lesser, Values, back, cap}
+use Rattle.model.specs.Walk.{plus, lesser, Values, back, cap, Settled}
 use Rattle.model.specs.Prices.{worth, price-walk}
 use Rattle.model.specs.Table.{price-values, Tabled, kept, leave, enter, chain-at, Chained}
 use Rattle.model.proofs.Coded.{lesser-comm}
-use Rattle.model.proofs.Caps.{Settled, settled-cap}
+use Rattle.model.proofs.Caps.{settled-cap}
 use Rattle.model.proofs.WalkPeriods.{price-values-end, price-values-back, price-values-start, price-values-settled}
 
 -- a table of values is one of any values that are the same

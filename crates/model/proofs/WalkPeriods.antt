@@ -9,11 +9,11 @@ use Rattle.model.specs.declared.generator.Generator.{Generator}
 use Rattle.model.specs.Ranges.{GoodUnit, GoodPrice}
 use Rattle.model.specs.Rules.{spent}
 use Rattle.model.specs.Above.{Mark}
-use Rattle.model.specs.Walk.{Values, move, back, walk}
+use Rattle.model.specs.Walk.{back, walk, Settled}
 use Rattle.model.specs.Prices.{worth, price-walk, offset}
 use Rattle.model.specs.Table.{price-values}
 use Rattle.model.proofs.WalkRuns.{later}
-use Rattle.model.proofs.Caps.{Settled, walk-settled}
+use Rattle.model.proofs.Caps.{walk-settled}
 use Rattle.model.proofs.WalkSizes.{walk-fits}
 
 -- ---- periods past the last

@@ -1,7 +1,8 @@
 -- What the code follows for one unit's least value: a walk over the periods left, in naturals. It is the true minimum over all
 -- rows (proofs/WalkRows), whatever a period costs on and off: a price leaf is one use (specs/Prices).
+use mathlib.Core.Path.{_≡_}
 use mathlib.Core.Bool.{Bool, true, false, cond, _&&_}
-use Prim.Native.Nat.{ℕ, zero, suc, _+_, min}
+use Prim.Native.Nat.{ℕ, zero, suc, _+_, _≤_, min}
 use Rattle.model.specs.declared.generator.Generator.{Generator}
 use Rattle.model.specs.Rules.{permits, spent}
 use Rattle.model.specs.Cost.{switch-cost}
@@ -44,3 +45,7 @@ walk (suc n) g m w b k = back g (m 0) (w 0) (walk n g (λ t. m (suc t)) (λ t. w
 abbrev pub cap : Generator → Bool → ℕ
 cap g true = g .TU
 cap g false = suc (g .TD + g .Tcold)
+
+-- from the caps on the values are the same
+abbrev pub Settled : Generator → Values → Type 0
+Settled g X = (b : Bool) (k k′ : ℕ) → cap g b ≤ k → cap g b ≤ k′ → X b k ≡ X b k′
