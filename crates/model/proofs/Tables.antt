@@ -5,6 +5,7 @@ use mathlib.Core.Bool.{Bool, true, false, not, cond, _&&_}
 use mathlib.Core.List.{List}
 use Prim.Native.Nat.{ℕ, zero, suc, _+_, _-_, _≤_, _<_, min}
 use native.Mathlib.Nat.{zero-add}
+use native.Mathlib.Numerals.{add-one}
 use native.Mathlib.Omega.{arith}
 use lib.Dec.{T, leb, eqb, leb→le, nleb→lt}
 use lib.ListN.{length, getD, List·getD-eq-default}
@@ -65,6 +66,7 @@ module _ (g : Generator) (m : Mark) (w : Bool → ℕ) (X : Values) (ons offs : 
           let i : g .TU ≤ suc k = f tt in
           rw (
             A .long,
+            add-one k,
             eq-eqb (suc k) (g .TU) (omega arith),
             le-leb (g .TU) (suc k) i,
             neighbour g X true ons settled A k l,
@@ -75,6 +77,7 @@ module _ (g : Generator) (m : Mark) (w : Bool → ℕ) (X : Values) (ons offs : 
           let i : suc k < g .TU = h tt in
           rw (
             A .long,
+            add-one k,
             ne-eqb (suc k) (g .TU) (λ e. omega arith),
             lt-leb (g .TU) (suc k) i,
             neighbour g X true ons settled A k l,
@@ -91,6 +94,7 @@ module _ (g : Generator) (m : Mark) (w : Bool → ℕ) (X : Values) (ons offs : 
           let i : cap g false ≤ suc k = f tt in
           rw (
             B .long,
+            add-one k,
             eq-eqb (suc k) (cap g false) (omega arith),
             le-leb (g .TD) (suc k) (omega arith),
             lt-leb (suc k) (g .TD + g .Tcold) (omega arith),
@@ -102,6 +106,7 @@ module _ (g : Generator) (m : Mark) (w : Bool → ℕ) (X : Values) (ons offs : 
           let i : suc k < cap g false = h tt in
           rw (
             B .long,
+            add-one k,
             ne-eqb (suc k) (cap g false) (λ e. omega arith),
             le-leb (suc k) (g .TD + g .Tcold) (omega arith),
             neighbour g X false offs settled B k l,

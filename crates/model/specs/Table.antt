@@ -35,7 +35,7 @@ enter c m v ons = kept (allows m true) (c + v) (getD ons 0 0)
 -- the new value of the state at k: leaving the status, or keeping it for v
 abbrev pub chain-at : List ℕ → ℕ → ℕ → ℕ → Bool → ℕ → ℕ → ℕ
 chain-at old need early last allowed v k =
-    lesser (gone (suc k) (length old) need early last) (kept allowed v (getD old (min (suc k) (length old - 1)) 0))
+    lesser (gone (k + 1) (length old) need early last) (kept allowed v (getD old (min (k + 1) (length old - 1)) 0))
 
 pub record Chained (old new : List ℕ) (need early last : ℕ) (allowed : Bool) (v : ℕ) : Type 0 where
   pub same : length new ≡ length old
