@@ -53,6 +53,11 @@ lesser-one (suc x) (suc y) = smaller (suc x) (suc y)
         up (inl e) = inl (omega arith)
         up (inr e) = inr (omega arith)
 
+pub lesser-none : (x : ℕ) → lesser x 0 ≡ x
+unfolding lesser
+lesser-none zero = refl
+lesser-none (suc x) = refl
+
 pub lesser-comm : (x y : ℕ) → lesser x y ≡ lesser y x
 unfolding lesser
 lesser-comm zero zero = refl

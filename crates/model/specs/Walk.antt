@@ -44,7 +44,7 @@ walk (suc n) g m w b k = back g (m 0) (w 0) (walk n g (λ t. m (suc t)) (λ t. w
 -- more periods in a status than these make no difference: TU on, TD + Tcold + 1 off
 abbrev pub cap : Generator → Bool → ℕ
 cap g true = g .TU
-cap g false = suc (g .TD + g .Tcold)
+cap g false = g .TD + g .Tcold + 1
 
 -- from the caps on the values are the same
 abbrev pub Settled : Generator → Values → Type 0
