@@ -16,7 +16,7 @@ use Rattle.model.specs.Rules.{on, if-on, statuses, Within}
 use Rattle.model.specs.Cost.{fuel-cost, switch-costs, row-cost}
 use Rattle.model.specs.Above.{Mark, Marks, rest}
 use Rattle.model.specs.Leaf.{is-stuck, any-stuck, revenue, value, unit-least, units-least, requirement, leaf-value}
-use Rattle.model.specs.Prices.{on-value, BestAt, priced, best-output, worth, price-walk, offset, decoded, price-stuck, price-walks, offsets}
+use Rattle.model.specs.Prices.{on-value, best-at, BestAt, period-worth, best-output, worth, price-walk, offset, decoded, price-stuck, price-walks, offsets}
 use Rattle.model.proofs.Integers.{up, down, +ℤ-nat, -ℤ-nat, nat→eq}
 use Rattle.model.proofs.Sums.{sum-add}
 use Rattle.model.proofs.PeriodSums.{sum-eq}
@@ -28,25 +28,33 @@ use Rattle.model.proofs.BestOutputs.{best-at-is}
 
 -- ---- one period
 
--- what an output costs, with (q + s)·pU added
-abbrev pub shifted : Generator → ℕ → ℕ → ℕ → ℕ
-shifted g q s p = cond (on p) (priced g q p) ((q + s) * g .pU)
+-- what an output costs: 0, off, costs z
+abbrev pub sloped : Generator → ℕ → ℕ → ℕ → ℕ → ℕ
+sloped g x y z p = cond (on p) (on-value g x y p) z
 
-pub shifted-cheapest : (g : Generator) → 0 < g .pL → g .pL ≤ g .pU → (q s : ℕ) → Cheapest g (shifted g q s) (worth g q s) (best-output g q)
-shifted-cheapest g positive ordered q s = record {
+-- whatever the slopes, the least of a period is at the best output
+pub sloped-cheapest : (g : Generator) → 0 < g .pL → g .pL ≤ g .pU → (x y z : ℕ) → Cheapest g (sloped g x y z) (period-worth g x y z) (best-at g x y)
+sloped-cheapest g positive ordered x y z = record {
   off = refl;
-  on = sym (shifted-on (best-output g q) (B .low));
+  on = sym (sloped-on (best-at g x y) (B .low));
   low = B .low;
   high = B .high;
-  least = λ p l h. rw (shifted-on (best-output g q) (B .low), shifted-on p l) (B .least p l h);
+  least = λ p l h. rw (sloped-on (best-at g x y) (B .low), sloped-on p l) (B .least p l h);
 }
   where
-    B : BestAt g (g .b) q (best-output g q)
-    B = best-at-is g (g .b) q ordered
+    B : BestAt g x y (best-at g x y)
+    B = best-at-is g x y ordered
 
-    shifted-on : (p : ℕ) → g .pL ≤ p → shifted g q s p ≡ priced g q p
-    shifted-on zero l = absurd (omega arith)
-    shifted-on (suc p) l = refl
+    sloped-on : (p : ℕ) → g .pL ≤ p → sloped g x y z p ≡ on-value g x y p
+    sloped-on zero l = absurd (omega arith)
+    sloped-on (suc p) l = refl
+
+-- in prices, with (q + s)·pU added
+abbrev pub shifted : Generator → ℕ → ℕ → ℕ → ℕ
+shifted g q s = sloped g (g .b) q ((q + s) * g .pU)
+
+pub shifted-cheapest : (g : Generator) → GoodUnit g → (q s : ℕ) → Cheapest g (shifted g q s) (worth g q s) (best-output g q)
+shifted-cheapest g good q s = sloped-cheapest g (good .in-range .pL-in .0) (good .ordered .limits) (g .b) q ((q + s) * g .pU)
 
 -- cost and what was added, against revenue
 pub shifted-is : (g : Generator) (q s p : ℕ) → Within g p → shifted g q s p + if-on (on p) (q * p + s * g .pU) ≡ fuel-cost g p + (q + s) * g .pU
@@ -78,8 +86,8 @@ module _ (n : ℕ) (q s : ℕ → ℕ) (g : Generator) where
     pub unit-least-is : (v : ℕ) → price-walk n q s g m ≡ suc v → unit-least n q s g m ≡ pos v -ℤ pos (offset n q s g)
     unfolding unit-least value price-walk
     unit-least-is v e =
-        least-walk n g (omega (arith, good .in-range .pL-in .0)) m (λ t. shifted g (q t) (s t)) (λ t. worth g (q t) (s t)) (λ t. best-output g (q t))
-        (λ t. shifted-cheapest g (omega (arith, good .in-range .pL-in .0)) (good .ordered .limits) (q t) (s t))
+        least-walk n g (good .in-range .pL-in .0) m (λ t. shifted g (q t) (s t)) (λ t. worth g (q t) (s t)) (λ t. best-output g (q t))
+        (λ t. shifted-cheapest g good (q t) (s t))
         (value n q s g) (offset n q s g)
         (λ r C. omega (arith, -ℤ-nat (row-cost n g r) (revenue n q s g r), row-shifted r (C .limits)))
         v e

@@ -31,8 +31,8 @@ module _ (n : ℕ) (q s : ℕ → ℕ) (g : Generator) (m : ℕ → Mark) where
   -- a unit that is not stuck has a row
   pub candidate : GoodUnit g → T (not (is-stuck n g m)) → (r : List ℕ) × Candidate n g m r
   candidate good t =
-      let a = walk-attained g (omega (arith, good .in-range .pL-in .0)) n m (λ t. shifted g (q t) (s t)) (λ t. worth g (q t) (s t)) (λ t. best-output g (q t))
-      (λ t. shifted-cheapest g (omega (arith, good .in-range .pL-in .0)) (good .ordered .limits) (q t) (s t))
+      let a = walk-attained g (good .in-range .pL-in .0) n m (λ t. shifted g (q t) (s t)) (λ t. worth g (q t) (s t)) (λ t. best-output g (q t))
+      (λ t. shifted-cheapest g good (q t) (s t))
       (not-stuck-walk n g m t (λ t. worth g (q t) (s t))) in
       (a .0, a .1)
 

@@ -31,19 +31,25 @@ pub record BestAt (g : Generator) (x y r : ℕ) : Type 0 where
   pub least : (p : ℕ) → g .pL ≤ p → p ≤ g .pU → on-value g x y r ≤ on-value g x y p
   pub first : (p : ℕ) → g .pL ≤ p → p < r → on-value g x y r < on-value g x y p
 
--- at the price q: a + b·p + c·p·p - q·p, with q·pU added
+-- what a period costs by its status: off z, on at the best output
+abbrev pub period-worth : Generator → ℕ → ℕ → ℕ → Bool → ℕ
+period-worth g x y z true = on-value g x y (best-at g x y)
+period-worth g x y z false = z
+
+-- ---- at the price q and the reserve price s
+
+-- a + b·p + c·p·p - q·p, with q·pU added
 abbrev pub priced : Generator → ℕ → ℕ → ℕ
 priced g q p = on-value g (g .b) q p
 
 abbrev pub best-output : Generator → ℕ → ℕ
 best-output g q = best-at g (g .b) q
 
--- ---- one unit
-
--- what a period costs, by its status
+-- a + b·p + c·p·p - q·p - s·pU on at the best output and 0 off, with (q + s)·pU added
 abbrev pub worth : Generator → ℕ → ℕ → Bool → ℕ
-worth g q s true = priced g q (best-output g q)
-worth g q s false = (q + s) * g .pU
+worth g q s = period-worth g (g .b) q ((q + s) * g .pU)
+
+-- ---- one unit
 
 -- a unit's walk from the state before period 1; coded
 unfoldable pub price-walk : ℕ → (ℕ → ℕ) → (ℕ → ℕ) → Generator → (ℕ → Mark) → ℕ
