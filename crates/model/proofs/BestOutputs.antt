@@ -1,6 +1,6 @@
 -- The best output in closed form is the smallest of those whose cost is least (document 01, Wrong turns): one more unit of
 -- output costs x + c·(2p + 1) and saves y, so the cost falls as long as that pays and never falls again.
-use mathlib.Core.Path.{_≡_, refl, sym, _∙_, ap}
+use mathlib.Core.Path.{_≡_, ap}
 use mathlib.Core.Bool.{Bool, true, false, not, cond}
 use Prim.Native.Nat.{ℕ, zero, suc, _+_, _*_, _-_, _/_, _%_, _≤_, _<_, min}
 use native.Mathlib.Nat.{le-refl, le-of-eq, div-add-mod', mod-lt, add-zero, add-suc, mul-le-mul-right, lt-of-mul-lt-mul-right}

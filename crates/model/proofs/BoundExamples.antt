@@ -1,16 +1,17 @@
 -- Document 01's example problem and its trees: their bounds, through the walks (quick) and not by trying all rows.
-use mathlib.Core.Path.{_≡_, refl, sym, _∙_, ap}
-use mathlib.Core.Bool.{Bool, true, false}
-use mathlib.Core.List.{List, [], _∷_}
-use Prim.Native.Nat.{ℕ, _+_, _≤_, _<_}
-use lib.Dec.{T, lit<, lit≤}
+use mathlib.Core.Path.{_≡_, refl, ap, ap₂}
+use mathlib.Core.Bool.{true, false}
+use mathlib.Core.List.{[], _∷_}
+use Prim.Native.Nat.{_+_, _*_}
+use native.Mathlib.Omega.{arith}
+use lib.Dec.{lit<, lit≤}
 use lib.IntN.{ℤ, pos}
 use Rattle.model.specs.declared.generator.Generator.{Generator}
-use Rattle.model.specs.Instance.{Instance, _at_}
+use Rattle.model.specs.Instance.{Instance, _at_, sum}
 use Rattle.model.specs.Ranges.{GoodUnit, WellFormed, in-range, costs-in-range, outputs-in-range, times-in-range, ordered}
 use Rattle.model.specs.Above.{root, fix}
-use Rattle.model.specs.Leaf.{available, is-stuck, requirement, leaf-value}
-use Rattle.model.specs.Tree.{Tree, split, short, price, Limits, Holds, Bound, number, bound, splits, leaves}
+use Rattle.model.specs.Leaf.{available, is-stuck, minℤ, requirement}
+use Rattle.model.specs.Tree.{Tree, split, short, price, Limits, Holds, number, bound, splits, leaves}
 use Rattle.model.specs.Walk.{plus, lesser, back, walk}
 use Rattle.model.specs.Prices.{on-value, best-at, price-walk, offset, price-walks, offsets}
 use Rattle.model.proofs.GoodUnits.{good-unit}
@@ -83,3 +84,24 @@ pub lone-bound : bound example root lone-leaf ≡ number (pos 1940)
 unfolding bound requirement is-stuck price-walks offsets price-walk offset walk back plus lesser on-value best-at
 lone-bound =
     ap number (leaf-is example (example-well-formed .units-good) (root .marks) (λ t. (10 ∷ (14 ∷ [])) at t) (λ t. (0 ∷ (2 ∷ [])) at t) tt)
+
+-- ---- wrong turns
+
+-- the smallest price leaf, not the last: the first gives 1940, the last 1980
+pub smallest-bound : bound example root (split 1 1 lone-leaf (price (10 ∷ (14 ∷ [])) (0 ∷ (0 ∷ [])))) ≡ number (pos 1940)
+unfolding bound requirement is-stuck price-walks offsets price-walk offset walk back plus lesser on-value best-at
+smallest-bound =
+    ap₂ (λ (x y : ℤ). number (minℤ x y))
+    (leaf-is example (example-well-formed .units-good) (fix 1 1 false root .marks) (λ t. (10 ∷ (14 ∷ [])) at t) (λ t. (0 ∷ (2 ∷ [])) at t) tt)
+    (leaf-is example (example-well-formed .units-good) (fix 1 1 true root .marks) (λ t. (10 ∷ (14 ∷ [])) at t) (λ t. (0 ∷ (0 ∷ [])) at t) tt)
+
+-- free units are not off: a lone `short=2` does not hold, 130 being no less than 110
+pub lone-short : Holds example root (short 1) → ⊥
+unfolding Holds available
+lone-short h = omega (arith, h .1)
+
+-- s·R counts: without it the lone leaf's requirement would be 20 less
+pub spare-counts : requirement example (λ t. (10 ∷ (14 ∷ [])) at t) (λ t. (0 ∷ (2 ∷ [])) at t)
+    ≡ sum 2 (λ t. (10 ∷ (14 ∷ [])) at t * example .demand at t + (0 ∷ (2 ∷ [])) at t * example .demand at t) + 20
+unfolding requirement
+spare-counts = refl

@@ -1,14 +1,14 @@
 -- "Every sum below then fits a signed 64-bit number" (document 01, Texts), for schedules: with outputs up to 10,000, as a
 -- schedule's text has them or (4) wants them, a row costs at most 52,896,000,000,000 and a period gives at most 320,000.
-use mathlib.Core.Path.{_≡_, refl, sym, _∙_, ap}
-use mathlib.Core.Bool.{Bool, true, false, cond}
+use mathlib.Core.Path.{_≡_}
+use mathlib.Core.Bool.{Bool, true, false}
 use mathlib.Core.List.{List, [], _∷_}
-use Prim.Native.Nat.{ℕ, zero, suc, _+_, _*_, _≤_, _<_}
+use Prim.Native.Nat.{ℕ, zero, suc, _*_, _≤_, _<_}
 use native.Mathlib.Nat.{mul-le-mul}
 use native.Mathlib.Omega.{arith}
 use lib.ListN.{length, length-map}
 use Rattle.model.specs.declared.generator.Generator.{Generator}
-use Rattle.model.specs.Instance.{Instance, Schedule, _at_, sum, sum-units, Each}
+use Rattle.model.specs.Instance.{Instance, Schedule, _at_, sum-units, Each}
 use Rattle.model.specs.Ranges.{All, GoodUnit, GoodOutput, WellFormed, GoodRows}
 use Rattle.model.specs.Rules.{on, if-on, statuses, spent, Within, output, capacity, Row, Meets}
 use Rattle.model.specs.Cost.{switch-costs, fuel-cost, row-cost, cost}

@@ -1,22 +1,21 @@
 -- Marks matter only at the problem's units and periods, so that an array of them will do: what a leaf says is a function of walks
 -- and sums, and these look no further.
-use mathlib.Core.Path.{_≡_, refl, sym, _∙_, ap, ap₂, subst}
-use mathlib.Core.Bool.{Bool, true, false, not, cond, _&&_, _||_}
-use mathlib.Core.Option.{Option, none, some}
+use mathlib.Core.Path.{_≡_, refl, sym, _∙_, ap, ap₂}
+use mathlib.Core.Bool.{Bool, true, false, cond, _&&_, _||_}
+use mathlib.Core.Option.{none, some}
 use mathlib.Core.List.{List, [], _∷_}
-use Prim.Native.Nat.{ℕ, zero, suc, _+_, _*_, _≤_, _<_}
+use Prim.Native.Nat.{ℕ, zero, suc, _+_, _*_, _<_}
 use native.Mathlib.Omega.{arith}
 use lib.Dec.{T, eqb}
 use lib.ListN.{length}
 use lib.IntN.{ℤ, pos, _+ℤ_}
 use Rattle.model.specs.declared.generator.Generator.{Generator}
-use Rattle.model.specs.Instance.{Instance, _at_, sum}
+use Rattle.model.specs.Instance.{Instance, _at_}
 use Rattle.model.specs.Ranges.{All, GoodUnit}
-use Rattle.model.specs.Above.{Mark, fixed, Marks, rest, Above, mark, fix}
+use Rattle.model.specs.Above.{Mark, fixed, Marks, rest, Above, fix}
 use Rattle.model.specs.Leaf.{unless-off, available, is-stuck, stuck-at, any-stuck, unit-least, units-least, requirement, leaf-value}
-use Rattle.model.specs.Tree.{Tree, split, short, stuck, price, Holds, Bound, number, lower, bound}
-use Rattle.model.specs.Walk.{walk}
-use Rattle.model.specs.Prices.{price-walk, offset, decoded}
+use Rattle.model.specs.Tree.{Tree, split, short, stuck, price, Holds, number, lower, bound}
+use Rattle.model.specs.Prices.{offset, decoded}
 use Rattle.model.proofs.PeriodSums.{sum-eq}
 use Rattle.model.proofs.Stuck.{is-stuck-is}
 use Rattle.model.proofs.PriceWalks.{unit-decoded}

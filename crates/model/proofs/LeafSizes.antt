@@ -1,21 +1,21 @@
 -- "Every sum below then fits a signed 64-bit number" (document 01, Texts), for a price leaf and a tree's bound: at most 32 units,
 -- 48 periods and what a unit or a period adds, all of it below 10^17.
-use mathlib.Core.Path.{_≡_, refl, sym, _∙_, ap}
+use mathlib.Core.Path.{_≡_}
 use mathlib.Core.Bool.{Bool, true, false, cond}
 use mathlib.Core.List.{List, [], _∷_}
-use Prim.Native.Nat.{ℕ, zero, suc, _+_, _*_, _-_, _≤_, _<_}
+use Prim.Native.Nat.{ℕ, zero, suc, _+_, _*_, _≤_, _<_}
 use native.Mathlib.Nat.{mul-le-mul}
 use native.Mathlib.Omega.{arith}
 use lib.ListN.{length}
 use lib.IntN.{ℤ, pos, negsuc, _+ℤ_}
 use lib.Signed.{leZ}
 use Rattle.model.specs.declared.generator.Generator.{Generator}
-use Rattle.model.specs.Instance.{Instance, _at_, sum}
+use Rattle.model.specs.Instance.{Instance, _at_}
 use Rattle.model.specs.Ranges.{Between, All, GoodUnit, GoodPrice, WellFormed}
 use Rattle.model.specs.Above.{Marks, rest, Above, fix}
-use Rattle.model.specs.Leaf.{minℤ, unit-least, units-least, requirement, leaf-value}
-use Rattle.model.specs.Tree.{Tree, split, short, stuck, price, Multipliers, Limits, Bound, never, number, lower, bound}
-use Rattle.model.specs.Prices.{price-walk, offset, price-walks, offsets}
+use Rattle.model.specs.Leaf.{unit-least, units-least, requirement, leaf-value}
+use Rattle.model.specs.Tree.{Tree, split, short, stuck, price, Limits, Bound, never, number, lower, bound}
+use Rattle.model.specs.Prices.{price-walks, offsets}
 use Rattle.model.proofs.Integers.{up, down, +ℤ-nat}
 use Rattle.model.proofs.PeriodSums.{sum-most}
 use Rattle.model.proofs.WalkSizes.{price-walk-fits, offset-fits, unit-least-fits}

@@ -1,13 +1,12 @@
 -- The least of a list of integers is the member that is at most every member.
-use mathlib.Core.Path.{_≡_, refl, sym, _∙_, ap, subst}
+use mathlib.Core.Path.{_≡_, refl}
 use mathlib.Core.Bool.{Bool, true, false, cond}
 use mathlib.Core.List.{List, [], _∷_, List·Memᴰ, List·Memᴰ·head, List·Memᴰ·tail, List·Memᴰ·not-nil}
-use Prim.Native.Nat.{ℕ, _+_}
 use native.Mathlib.Omega.{arith}
 use lib.IntN.{ℤ}
 use lib.Signed.{leZ, _≤ℤ_}
 use Rattle.model.specs.Leaf.{least}
-use Rattle.model.proofs.Integers.{up, down, le→nat, nat→eq, least-le}
+use Rattle.model.proofs.Integers.{le→nat, nat→eq, least-le}
 
 pub ≤ℤ-antisym : (x y : ℤ) → x ≤ℤ y → y ≤ℤ x → x ≡ y
 ≤ℤ-antisym x y h k = nat→eq x y (omega (arith, le→nat x y h, le→nat y x k))

@@ -1,26 +1,25 @@
 -- A price leaf's value from its units' walks (document 01, Rules for a leaf). With (q + s)·pU added in every period a row's
 -- value is what the row costs for the walk, so the least over all rows is the walk's value less all that was added.
-use mathlib.Core.Path.{_≡_, refl, sym, _∙_, ap, ap₂, subst}
-use mathlib.Core.Bool.{Bool, true, false, not, cond, _&&_, _||_}
-use mathlib.Core.Option.{Option, none, some}
-use mathlib.Core.List.{List, [], _∷_, map}
+use mathlib.Core.Path.{_≡_, refl, sym, _∙_, ap, ap₂}
+use mathlib.Core.Bool.{Bool, true, false, not, cond, _||_}
+use mathlib.Core.Option.{none, some}
+use mathlib.Core.List.{List, [], _∷_}
 use Prim.Native.Nat.{ℕ, zero, suc, _+_, _*_, _-_, _≤_, _<_}
 use native.Mathlib.Nat.{mul-add, sub-add-cancel}
 use native.Mathlib.Omega.{arith}
 use lib.Dec.{T, eqb, eqb·suc-zero}
 use lib.IntN.{ℤ, pos, _+ℤ_, _-ℤ_}
 use Rattle.model.specs.declared.generator.Generator.{Generator}
-use Rattle.model.specs.Instance.{Instance, _at_, sum}
+use Rattle.model.specs.Instance.{Instance, _at_}
 use Rattle.model.specs.Ranges.{All, GoodUnit}
-use Rattle.model.specs.Rules.{on, if-on, statuses, Within}
-use Rattle.model.specs.Cost.{fuel-cost, switch-costs, row-cost}
+use Rattle.model.specs.Rules.{on, if-on, Within}
+use Rattle.model.specs.Cost.{fuel-cost, row-cost}
 use Rattle.model.specs.Above.{Mark, Marks, rest}
 use Rattle.model.specs.Leaf.{is-stuck, any-stuck, revenue, value, unit-least, units-least, requirement, leaf-value}
 use Rattle.model.specs.Prices.{on-value, best-at, BestAt, period-worth, best-output, worth, price-walk, offset, decoded, price-stuck, price-walks, offsets}
 use Rattle.model.proofs.Integers.{up, down, +ℤ-nat, -ℤ-nat, nat→eq}
 use Rattle.model.proofs.Sums.{sum-add}
 use Rattle.model.proofs.PeriodSums.{sum-eq}
-use Rattle.model.proofs.Candidates.{Candidate}
 use Rattle.model.proofs.WalkRows.{row-total, Cheapest}
 use Rattle.model.proofs.Stuck.{is-stuck-is}
 use Rattle.model.proofs.LeastWalks.{least-walk}

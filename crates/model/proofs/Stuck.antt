@@ -1,17 +1,17 @@
 -- A unit is stuck just where its walk finds nothing, whatever the periods cost: a run that obeys and agrees bounds the walk, and
 -- a walk that finds something has such a run.
-use mathlib.Core.Path.{_≡_, refl, sym, _∙_, ap, ap₂}
-use mathlib.Core.Bool.{Bool, true, false, not, _&&_, _||_}
-use mathlib.Core.List.{List, [], _∷_}
-use Prim.Native.Nat.{ℕ, zero, suc, _≤_, _<_}
+use mathlib.Core.Path.{_≡_, refl, sym, _∙_, ap}
+use mathlib.Core.Bool.{Bool, true, false, not}
+use mathlib.Core.List.{List}
+use Prim.Native.Nat.{ℕ, zero, suc, _<_}
 use native.Mathlib.Omega.{arith}
 use lib.Dec.{T, eqb}
 use lib.ListN.{length}
 use borrow.Author.Tests.{eq-eqb, ne-eqb}
 use Rattle.model.specs.declared.generator.Generator.{Generator}
 use Rattle.model.specs.Rules.{keeps}
-use Rattle.model.specs.Above.{Mark, Marks, rest, agrees, obeys}
-use Rattle.model.specs.Leaf.{runs, is-stuck, any-stuck}
+use Rattle.model.specs.Above.{Mark, agrees, obeys}
+use Rattle.model.specs.Leaf.{runs, is-stuck}
 use Rattle.model.specs.Walk.{walk}
 use Rattle.model.proofs.Tests.{T-and, T-and-l, T-and-r}
 use Rattle.model.proofs.Members.{none-of-not}

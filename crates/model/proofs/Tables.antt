@@ -1,20 +1,20 @@
 -- One period back over a table of states is one period back of the walk: the last entry of a status stands for all later states,
 -- and every other looks at its neighbour.
-use mathlib.Core.Path.{_≡_, refl, sym, _∙_, ap, ap₂}
+use mathlib.Core.Path.{_≡_, sym, _∙_, ap}
 use mathlib.Core.Bool.{Bool, true, false, not, cond, _&&_}
 use mathlib.Core.List.{List}
-use Prim.Native.Nat.{ℕ, zero, suc, _+_, _-_, _≤_, _<_, min}
+use Prim.Native.Nat.{ℕ, suc, _+_, _-_, _≤_, _<_, min}
 use native.Mathlib.Nat.{zero-add}
 use native.Mathlib.Numerals.{add-one}
 use native.Mathlib.Omega.{arith}
-use lib.Dec.{T, leb, eqb, leb→le, nleb→lt}
+use lib.Dec.{T, leb, leb→le, nleb→lt}
 use lib.ListN.{length, getD, List·getD-eq-default}
 use borrow.Author.Tests.{eq-eqb, ne-eqb, le-leb, lt-leb}
 use Rattle.model.specs.declared.generator.Generator.{Generator}
 use Rattle.model.specs.Above.{Mark, allows}
 use Rattle.model.specs.Walk.{plus, lesser, Values, back, cap, Settled}
 use Rattle.model.specs.Prices.{worth, price-walk}
-use Rattle.model.specs.Table.{price-values, Tabled, kept, leave, enter, chain-at, Chained}
+use Rattle.model.specs.Table.{price-values, Tabled, leave, enter, chain-at, Chained}
 use Rattle.model.proofs.Coded.{lesser-comm}
 use Rattle.model.proofs.Caps.{settled-cap}
 use Rattle.model.proofs.WalkPeriods.{price-values-end, price-values-back, price-values-start, price-values-settled}

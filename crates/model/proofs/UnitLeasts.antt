@@ -1,14 +1,13 @@
 -- A unit's least value says what its name says: no row's value is less, and one row has it; and it is taken from no row only
 -- where the unit is stuck.
-use mathlib.Core.Path.{_≡_, refl, sym, _∙_, ap}
-use mathlib.Core.Bool.{Bool, not}
+use mathlib.Core.Path.{_≡_, refl, _∙_}
+use mathlib.Core.Bool.{not}
 use mathlib.Core.List.{List, [], _∷_, map, List·Memᴰ, List·Memᴰ·head, List·Memᴰ·not-nil, Memᴰ·map, Memᴰ·of-map}
-use Prim.Native.Nat.{ℕ, _<_}
-use lib.Dec.{T, T-not}
-use lib.ListN.{length, length-map}
-use lib.IntN.{ℤ, pos}
+use Prim.Native.Nat.{ℕ}
+use lib.Dec.{T}
+use lib.ListN.{length-map}
+use lib.IntN.{pos}
 use lib.Signed.{_≤ℤ_}
-use native.Mathlib.Omega.{arith}
 use Rattle.model.specs.declared.generator.Generator.{Generator}
 use Rattle.model.specs.Ranges.{GoodUnit}
 use Rattle.model.specs.Rules.{on, statuses}

@@ -1,16 +1,16 @@
 -- The walk by the period's own number, as a loop from the last period to the first has it; and a walk sees no period past the
 -- last.
-use mathlib.Core.Path.{_≡_, refl, sym, _∙_, ap, ap₂, fun-ext}
+use mathlib.Core.Path.{_≡_, refl, ap, ap₂, fun-ext}
 use mathlib.Core.Bool.{Bool, true, false}
 use Prim.Native.Nat.{ℕ, zero, suc, _+_, _-_, _≤_, _<_}
-use native.Mathlib.Nat.{zero-add, add-zero, add-suc, suc-add}
+use native.Mathlib.Nat.{zero-add, add-zero}
 use native.Mathlib.Omega.{arith}
 use Rattle.model.specs.declared.generator.Generator.{Generator}
 use Rattle.model.specs.Ranges.{GoodUnit, GoodPrice}
 use Rattle.model.specs.Rules.{spent}
 use Rattle.model.specs.Above.{Mark}
 use Rattle.model.specs.Walk.{back, walk, Settled}
-use Rattle.model.specs.Prices.{worth, price-walk, offset}
+use Rattle.model.specs.Prices.{worth, price-walk}
 use Rattle.model.specs.Table.{price-values}
 use Rattle.model.proofs.WalkRuns.{later}
 use Rattle.model.proofs.Caps.{walk-settled}

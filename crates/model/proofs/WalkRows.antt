@@ -1,17 +1,16 @@
 -- The walk over rows of outputs, whatever an output costs in a period: with the least cost of each period on, it is at most
 -- what any row costs, and one row costs just that. A row's statuses are a run; a run gets the best output in each period on.
 use mathlib.Core.Path.{_≡_, refl, sym, _∙_, ap, ap₂}
-use mathlib.Core.Bool.{Bool, true, false, cond, _&&_}
-use mathlib.Core.List.{List, [], _∷_, map}
+use mathlib.Core.Bool.{Bool, true, false}
+use mathlib.Core.List.{List, [], _∷_}
 use Prim.Native.Nat.{ℕ, zero, suc, _+_, _≤_, _<_}
 use native.Mathlib.Nat.{suc-inj}
 use native.Mathlib.Omega.{arith}
-use lib.Dec.{T}
 use lib.ListN.{length, length-map}
 use Rattle.model.specs.declared.generator.Generator.{Generator}
 use Rattle.model.specs.Instance.{_at_, sum}
 use Rattle.model.specs.Rules.{on, if-on, statuses, Within, spent, keeps}
-use Rattle.model.specs.Cost.{switch-cost, switch-costs}
+use Rattle.model.specs.Cost.{switch-costs}
 use Rattle.model.specs.Above.{Mark, agrees}
 use Rattle.model.specs.Walk.{walk}
 use Rattle.model.proofs.Tests.{T-and, T-and-l, T-and-r}

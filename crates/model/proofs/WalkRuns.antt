@@ -1,6 +1,6 @@
 -- The walk over runs of statuses: it is at most what any run costs that obeys and agrees, and one such run costs just that.
 -- By induction on the periods left: the first status of a run takes one of the two branches.
-use mathlib.Core.Path.{_≡_, refl, sym, _∙_, ap}
+use mathlib.Core.Path.{_≡_, refl, ap}
 use mathlib.Core.Bool.{Bool, true, false, cond, _&&_}
 use mathlib.Core.Logic.{_⊎_, inl, inr}
 use mathlib.Core.List.{List, [], _∷_}

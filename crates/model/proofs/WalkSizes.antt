@@ -1,6 +1,6 @@
 -- "Every sum below then fits a signed 64-bit number" (document 01, Texts), for one unit of a price leaf: a period of a walk adds
 -- at most 20,001,000,000,000, so that 48 periods stay below 10^15.
-use mathlib.Core.Path.{_≡_, refl, sym, _∙_, ap}
+use mathlib.Core.Path.{_≡_, refl, ap}
 use mathlib.Core.Bool.{Bool, true, false, cond, _&&_}
 use Prim.Native.Nat.{ℕ, zero, suc, _+_, _*_, _-_, _≤_, _<_}
 use native.Mathlib.Nat.{mul-le-mul}
@@ -8,14 +8,13 @@ use native.Mathlib.Omega.{arith}
 use lib.Dec.{leb}
 use lib.IntN.{ℤ, pos, negsuc, _-ℤ_}
 use Rattle.model.specs.declared.generator.Generator.{Generator}
-use Rattle.model.specs.Instance.{sum}
 use Rattle.model.specs.Ranges.{GoodUnit, GoodPrice}
 use Rattle.model.specs.Rules.{permits, spent}
 use Rattle.model.specs.Cost.{switch-cost}
 use Rattle.model.specs.Above.{Mark, allows}
-use Rattle.model.specs.Leaf.{is-stuck, unit-least}
+use Rattle.model.specs.Leaf.{unit-least}
 use Rattle.model.specs.Walk.{plus, Values, move, back, walk}
-use Rattle.model.specs.Prices.{on-value, BestAt, priced, best-output, worth, price-walk, offset}
+use Rattle.model.specs.Prices.{on-value, priced, best-output, worth, price-walk, offset}
 use Rattle.model.proofs.Integers.{up, down, -ℤ-nat}
 use Rattle.model.proofs.PeriodSums.{sum-most}
 use Rattle.model.proofs.Coded.{plus-most, lesser-most}

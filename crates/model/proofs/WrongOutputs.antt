@@ -1,9 +1,9 @@
 -- Document 01, Wrong turns: outputs that are not the best one, computed. Each stands beside the unit's least value over all
 -- rows, for one period and a unit that may as well be off.
-use mathlib.Core.Path.{_≡_, refl, subst, sym}
-use mathlib.Core.Bool.{Bool, true, false}
-use mathlib.Core.List.{List, [], _∷_}
-use Prim.Native.Nat.{ℕ, _+_, _*_, _-_, _/_, _≤_, min, max}
+use mathlib.Core.Path.{_≡_, refl}
+use mathlib.Core.Bool.{true}
+use mathlib.Core.List.{[], _∷_}
+use Prim.Native.Nat.{ℕ, _*_, _-_, _/_, min, max}
 use native.Mathlib.Omega.{arith}
 use lib.Dec.{T}
 use lib.IntN.{ℤ, pos, negsuc}
@@ -12,7 +12,7 @@ use Rattle.model.specs.declared.generator.Generator.{Generator}
 use Rattle.model.specs.Ranges.{GoodUnit, in-range, costs-in-range, outputs-in-range, times-in-range, ordered}
 use Rattle.model.specs.Rules.{Within}
 use Rattle.model.specs.Cost.{row-cost}
-use Rattle.model.specs.Above.{Mark, free}
+use Rattle.model.specs.Above.{free}
 use Rattle.model.specs.Leaf.{revenue, value, unit-least}
 use Rattle.model.specs.Walk.{plus, lesser, back, walk}
 use Rattle.model.specs.Prices.{on-value, best-at, best-output, price-walk, offset}
