@@ -9,14 +9,12 @@ use lib.Dec.{T, eqb}
 use lib.ListN.{length}
 use borrow.Author.Tests.{eq-eqb, ne-eqb}
 use Rattle.model.specs.declared.generator.Generator.{Generator}
-use Rattle.model.specs.Rules.{keeps}
-use Rattle.model.specs.Above.{Mark, agrees, obeys}
+use Rattle.model.specs.Above.{Mark, obeys}
 use Rattle.model.specs.Leaf.{runs, is-stuck}
 use Rattle.model.specs.Walk.{walk}
-use Rattle.model.proofs.Tests.{T-and, T-and-l, T-and-r}
 use Rattle.model.proofs.Members.{none-of-not}
 use Rattle.model.proofs.Candidates.{none-of-all, run-mem, run-long}
-use Rattle.model.proofs.WalkRuns.{Obeying, walk-below-run, walk-attained-run}
+use Rattle.model.proofs.WalkRuns.{obeys→obeying, obeying→obeys, walk-below-run, walk-attained-run}
 
 pub T-true : (b : Bool) → T b → b ≡ true
 T-true true t = refl
@@ -27,13 +25,6 @@ T-false true f = absurd (f tt)
 T-false false f = refl
 
 module _ (n : ℕ) (g : Generator) (m : ℕ → Mark) where
-  obeying-run : (run : List Bool) → length run ≡ n → T (obeys g m run) → Obeying n g m (g .on) (g .since) run
-  obeying-run run e t = record {
-    long = e;
-    times = T-and-l (keeps g (g .on) (g .since) run) (agrees m run) t;
-    marked = T-and-r (keeps g (g .on) (g .since) run) (agrees m run) t;
-  }
-
   -- stuck: no run of n statuses obeys and agrees
   pub stuck→none : T (is-stuck n g m) → (run : List Bool) → length run ≡ n → T (obeys g m run) → ⊥
   unfolding is-stuck
@@ -50,12 +41,12 @@ module _ (n : ℕ) (g : Generator) (m : ℕ → Mark) where
       go : (v : ℕ) → walk n g m w (g .on) (g .since) ≡ v → is-stuck n g m ≡ eqb v 0
       go zero e =
           T-true (is-stuck n g m)
-          (none→stuck (λ run l t. omega (arith, e, walk-below-run n g m w (g .on) (g .since) run (obeying-run run l t))))
+          (none→stuck (λ run l t. omega (arith, e, walk-below-run n g m w (g .on) (g .since) run (obeys→obeying l t))))
           ∙ sym (eq-eqb 0 0 refl)
       go (suc v) e =
           let a = walk-attained-run n g m w (g .on) (g .since) (omega arith) in
           T-false (is-stuck n g m)
-          (λ s. stuck→none s (a .0) (a .1 .long) (T-and (keeps g (g .on) (g .since) (a .0)) (agrees m (a .0)) (a .1 .times) (a .1 .marked)))
+          (λ s. stuck→none s (a .0) (a .1 .long) (obeying→obeys (a .1)))
           ∙ sym (ne-eqb (suc v) 0 (λ z. omega arith))
 
   -- and the answer does not depend on the costs

@@ -9,13 +9,12 @@ use native.Mathlib.Omega.{arith}
 use lib.ListN.{length, length-map}
 use Rattle.model.specs.declared.generator.Generator.{Generator}
 use Rattle.model.specs.Instance.{_at_, sum}
-use Rattle.model.specs.Rules.{on, if-on, statuses, Within, spent, keeps}
+use Rattle.model.specs.Rules.{on, if-on, statuses, Within, spent}
 use Rattle.model.specs.Cost.{switch-costs}
-use Rattle.model.specs.Above.{Mark, agrees}
+use Rattle.model.specs.Above.{Mark}
 use Rattle.model.specs.Walk.{walk}
-use Rattle.model.proofs.Tests.{T-and, T-and-l, T-and-r}
 use Rattle.model.proofs.Candidates.{Candidate}
-use Rattle.model.proofs.WalkRuns.{later, run-total, Obeying, walk-below-run, walk-attained-run}
+use Rattle.model.proofs.WalkRuns.{later, run-total, obeys→obeying, obeying→obeys, walk-below-run, walk-attained-run}
 
 -- what a row costs, the output p (0: off) costing c t p in period t, with its starts and stops, after k periods in b
 abbrev pub row-total : ℕ → Generator → (ℕ → ℕ → ℕ) → Bool → ℕ → List ℕ → ℕ
@@ -55,6 +54,16 @@ module _ (g : Generator) where
 
 -- ---- the row of a run
 
+pub row-of-long : (o : ℕ → ℕ) (run : List Bool) → length (row-of o run) ≡ length run
+row-of-long o [] = refl
+row-of-long o (d ∷ run) = ap suc (row-of-long (later o) run)
+
+pub row-of-within : (g : Generator) (o : ℕ → ℕ) → ((t : ℕ) → (g .pL ≤ o t) × (o t ≤ g .pU)) → (run : List Bool) (t : ℕ) → Within g (row-of o run at t)
+row-of-within g o h [] t i = absurd i
+row-of-within g o h (true ∷ run) zero i = h 0
+row-of-within g o h (false ∷ run) zero i = absurd i
+row-of-within g o h (d ∷ run) (suc t) i = row-of-within g (later o) (λ t. h (suc t)) run t i
+
 module _ (g : Generator) (positive : 0 < g .pL) where
   if-on-on : (d : Bool) (p : ℕ) → g .pL ≤ p → on (if-on d p) ≡ d
   if-on-on true zero l = absurd (omega arith)
@@ -64,16 +73,6 @@ module _ (g : Generator) (positive : 0 < g .pL) where
   pub row-of-statuses : (o : ℕ → ℕ) → ((t : ℕ) → g .pL ≤ o t) → (run : List Bool) → statuses (row-of o run) ≡ run
   row-of-statuses o h [] = refl
   row-of-statuses o h (d ∷ run) = ap₂ _∷_ (if-on-on d (o 0) (h 0)) (row-of-statuses (later o) (λ t. h (suc t)) run)
-
-  pub row-of-long : (o : ℕ → ℕ) (run : List Bool) → length (row-of o run) ≡ length run
-  row-of-long o [] = refl
-  row-of-long o (d ∷ run) = ap suc (row-of-long (later o) run)
-
-  pub row-of-within : (o : ℕ → ℕ) → ((t : ℕ) → (g .pL ≤ o t) × (o t ≤ g .pU)) → (run : List Bool) (t : ℕ) → Within g (row-of o run at t)
-  row-of-within o h [] t i = absurd i
-  row-of-within o h (true ∷ run) zero i = h 0
-  row-of-within o h (false ∷ run) zero i = absurd i
-  row-of-within o h (d ∷ run) (suc t) i = row-of-within (later o) (λ t. h (suc t)) run t i
 
   row-of-costs : (c : ℕ → ℕ → ℕ) (w : ℕ → Bool → ℕ) (o : ℕ → ℕ) → ((t : ℕ) → Cheapest g (c t) (w t) (o t)) → (b : Bool) (k : ℕ)
       (run : List Bool) → sum (length run) (λ t. c t (row-of o run at t)) + switch-costs g b k run ≡ run-total g w b k run
@@ -91,13 +90,6 @@ module _ (g : Generator) (positive : 0 < g .pL) where
 
 -- ---- the walk
 
-candidate-run : {n : ℕ} {g : Generator} {m : ℕ → Mark} {r : List ℕ} → Candidate n g m r → Obeying n g m (g .on) (g .since) (statuses r)
-candidate-run {n} {g} {m} {r} C = record {
-  long = length-map r on ∙ C .long;
-  times = T-and-l (keeps g (g .on) (g .since) (statuses r)) (agrees m (statuses r)) (C .run);
-  marked = T-and-r (keeps g (g .on) (g .since) (statuses r)) (agrees m (statuses r)) (C .run);
-}
-
 module _ (g : Generator) (positive : 0 < g .pL) (n : ℕ) (m : ℕ → Mark) (c : ℕ → ℕ → ℕ) (w : ℕ → Bool → ℕ) (o : ℕ → ℕ)
     (cheapest : (t : ℕ) → Cheapest g (c t) (w t) (o t)) where
   -- no row costs less
@@ -107,7 +99,7 @@ module _ (g : Generator) (positive : 0 < g .pL) (n : ℕ) (m : ℕ → Mark) (c 
       omega (
         arith,
         statuses-below g n c w o cheapest (g .on) (g .since) r (C .long) (C .limits),
-        walk-below-run n g m w (g .on) (g .since) (statuses r) (candidate-run C),
+        walk-below-run n g m w (g .on) (g .since) (statuses r) (obeys→obeying (length-map r on ∙ C .long) (C .run)),
       )
 
   -- and the row of a run costs just that
@@ -120,9 +112,9 @@ module _ (g : Generator) (positive : 0 < g .pL) (n : ℕ) (m : ℕ → Mark) (c 
       let l : length run ≡ n = a .1 .long in (
         row-of o run,
         record {
-          long = row-of-long g positive o run ∙ l;
-          limits = λ t i. row-of-within g positive o (λ t. (cheapest t .low, cheapest t .high)) run t;
-          run = rw e (T-and (keeps g (g .on) (g .since) run) (agrees m run) (a .1 .times) (a .1 .marked));
+          long = row-of-long o run ∙ l;
+          limits = λ t i. row-of-within g o (λ t. (cheapest t .low, cheapest t .high)) run t;
+          run = rw e (obeying→obeys (a .1));
         },
         a .2 ∙ ap suc (sym (row-of-total g positive n c w o cheapest (g .on) (g .since) run l)),
       )

@@ -12,7 +12,7 @@ use lib.ListN.{length}
 use Rattle.model.specs.declared.generator.Generator.{Generator}
 use Rattle.model.specs.Rules.{permits, spent, keeps}
 use Rattle.model.specs.Cost.{switch-cost}
-use Rattle.model.specs.Above.{Mark, allows, agrees}
+use Rattle.model.specs.Above.{Mark, allows, agrees, obeys}
 use Rattle.model.specs.Walk.{plus, move, back, walk}
 use Rattle.model.proofs.Tests.{T-and, T-and-l, T-and-r}
 use Rattle.model.proofs.Coded.{plus-some, plus-inv, lesser-left, lesser-right, lesser-one}
@@ -31,6 +31,18 @@ pub record Obeying (n : ℕ) (g : Generator) (m : ℕ → Mark) (b : Bool) (k : 
   pub long : length run ≡ n
   pub times : T (keeps g b k run)
   pub marked : T (agrees m run)
+
+-- from the state before period 1 it is a run that `obeys`
+module _ {n : ℕ} {g : Generator} {m : ℕ → Mark} {run : List Bool} where
+  pub obeys→obeying : length run ≡ n → T (obeys g m run) → Obeying n g m (g .on) (g .since) run
+  obeys→obeying e t = record {
+    long = e;
+    times = T-and-l (keeps g (g .on) (g .since) run) (agrees m run) t;
+    marked = T-and-r (keeps g (g .on) (g .since) run) (agrees m run) t;
+  }
+
+  pub obeying→obeys : Obeying n g m (g .on) (g .since) run → T (obeys g m run)
+  obeying→obeys o = T-and (keeps g (g .on) (g .since) run) (agrees m run) (o .times) (o .marked)
 
 module _ {n : ℕ} {g : Generator} {m : ℕ → Mark} {b : Bool} {k : ℕ} {d : Bool} {run : List Bool} where
   pub obeying-first : Obeying (suc n) g m b k (d ∷ run) → T (permits g b k d && allows (m 0) d)
