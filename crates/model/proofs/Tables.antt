@@ -12,12 +12,12 @@ use lib.ListN.{length, getD, List·getD-eq-default}
 use borrow.Author.Tests.{eq-eqb, ne-eqb, le-leb, lt-leb}
 use Rattle.model.specs.declared.generator.Generator.{Generator}
 use Rattle.model.specs.Above.{Mark, allows}
-use Rattle.model.specs.Walk.{plus, lesser, Values, back, cap, Settled}
+use Rattle.model.specs.Walk.{plus, lesser, Values, back, walk, cap, Settled}
 use Rattle.model.specs.Prices.{worth, price-walk}
-use Rattle.model.specs.Table.{price-values, Tabled, leave, enter, chain-at, Chained}
+use Rattle.model.specs.Table.{values, price-values, Tabled, leave, enter, chain-at, Chained}
 use Rattle.model.proofs.Coded.{lesser-comm}
 use Rattle.model.proofs.Caps.{settled-cap}
-use Rattle.model.proofs.WalkPeriods.{price-values-end, price-values-back, price-values-start, price-values-settled}
+use Rattle.model.proofs.WalkPeriods.{values-end, values-back, values-start, values-settled}
 
 -- a table of values is one of any values that are the same
 pub tabled-ext : (g : Generator) (X Y : Values) (b : Bool) (l : List ℕ) → ((k : ℕ) → X b k ≡ Y b k) → Tabled g X b l → Tabled g Y b l
@@ -128,22 +128,25 @@ module _ (g : Generator) (m : Mark) (w : Bool → ℕ) (X : Values) (ons offs : 
 
 -- ---- a loop from the last period to the first
 
-module _ (n : ℕ) (q s : ℕ → ℕ) (g : Generator) (m : ℕ → Mark) where
+module _ (n : ℕ) (g : Generator) (m : ℕ → Mark) (w : ℕ → Bool → ℕ) where
   -- it starts with a table of ones
-  pub tabled-end : (b : Bool) (l : List ℕ) → length l ≡ cap g b → ((k : ℕ) → k < cap g b → getD l k 0 ≡ 1) → Tabled g (price-values n q s g m n) b l
-  tabled-end b l e h = record { long = e; entry = λ k i. h k i ∙ sym (price-values-end n q s g m b (suc k)) }
+  pub tabled-end : (b : Bool) (l : List ℕ) → length l ≡ cap g b → ((k : ℕ) → k < cap g b → getD l k 0 ≡ 1) → Tabled g (values n g m w n) b l
+  tabled-end b l e h = record { long = e; entry = λ k i. h k i ∙ sym (values-end n g m w b (suc k)) }
 
   -- goes back one period at a time
-  pub tabled-back : (t : ℕ) → t < n → (b : Bool) (l : List ℕ) → Tabled g (back g (m t) (worth g (q t) (s t)) (price-values n q s g m (suc t))) b l
-      → Tabled g (price-values n q s g m t) b l
+  pub tabled-back : (t : ℕ) → t < n → (b : Bool) (l : List ℕ) → Tabled g (back g (m t) (w t) (values n g m w (suc t))) b l → Tabled g (values n g m w t) b l
   tabled-back t i b l E =
-      tabled-ext g (back g (m t) (worth g (q t) (s t)) (price-values n q s g m (suc t))) (price-values n q s g m t) b l
-      (λ k. sym (price-values-back n q s g m t i b k)) E
+      tabled-ext g (back g (m t) (w t) (values n g m w (suc t))) (values n g m w t) b l (λ k. sym (values-back n g m w t i b k)) E
 
   -- and ends with the walk
-  pub tabled-start : (b : Bool) (l : List ℕ) → g .on ≡ b → Tabled g (price-values n q s g m 0) b l → 0 < g .since → 0 < cap g b
-      → getD l (min (g .since) (cap g b) - 1) 0 ≡ price-walk n q s g m
-  tabled-start b l e E i j =
-      tabled-at g (price-values n q s g m 0) b l (price-values-settled n q s g m 0) E (g .since) i j
-      ∙ ap (λ (b : Bool). price-values n q s g m 0 b (g .since)) (sym e)
-      ∙ price-values-start n q s g m
+  pub tabled-start : (b : Bool) (l : List ℕ) → Tabled g (values n g m w 0) b l → (k : ℕ) → 0 < k → 0 < cap g b
+      → getD l (min k (cap g b) - 1) 0 ≡ walk n g m w b k
+  tabled-start b l E k i j = tabled-at g (values n g m w 0) b l (values-settled n g m w 0) E k i j ∙ values-start n g m w b k
+
+-- in prices, from the state before period 1
+pub tabled-price-walk : (n : ℕ) (q s : ℕ → ℕ) (g : Generator) (m : ℕ → Mark) (b : Bool) (l : List ℕ) → Tabled g (price-values n q s g m 0) b l
+    → g .on ≡ b → 0 < g .since → 0 < cap g b → getD l (min (g .since) (cap g b) - 1) 0 ≡ price-walk n q s g m
+unfolding price-walk
+tabled-price-walk n q s g m b l E e i j =
+    tabled-start n g m (λ t. worth g (q t) (s t)) b l E (g .since) i j
+    ∙ ap (λ (b : Bool). walk n g m (λ t. worth g (q t) (s t)) b (g .since)) (sym e)

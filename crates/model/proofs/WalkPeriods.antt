@@ -11,7 +11,7 @@ use Rattle.model.specs.Rules.{spent}
 use Rattle.model.specs.Above.{Mark}
 use Rattle.model.specs.Walk.{back, walk, Settled}
 use Rattle.model.specs.Prices.{worth, price-walk}
-use Rattle.model.specs.Table.{price-values}
+use Rattle.model.specs.Table.{values, price-values}
 use Rattle.model.proofs.WalkRuns.{later}
 use Rattle.model.proofs.Caps.{walk-settled}
 use Rattle.model.proofs.WalkSizes.{walk-fits}
@@ -57,33 +57,31 @@ walk-from n t g m w b k = rw (from-later t m, from-later t w, add-zero t)
 pub walk-from-zero : (n : ℕ) (g : Generator) (m : ℕ → Mark) (w : ℕ → Bool → ℕ) (b : Bool) (k : ℕ) → walk n g (from 0 m) (from 0 w) b k ≡ walk n g m w b k
 walk-from-zero n g m w b k = walk-ext n g (from 0 m) m (from 0 w) w (λ t l. ap m (zero-add t)) (λ t l d. ap (λ (x : ℕ). w x d) (zero-add t)) b k
 
--- ---- in prices
-
-module _ (n : ℕ) (q s : ℕ → ℕ) (g : Generator) (m : ℕ → Mark) where
+module _ (n : ℕ) (g : Generator) (m : ℕ → Mark) (w : ℕ → Bool → ℕ) where
   -- after the last period there is nothing to pay
-  pub price-values-end : (b : Bool) (k : ℕ) → price-values n q s g m n b k ≡ 1
-  unfolding price-values walk
-  price-values-end b k = let e : n - n ≡ 0 = omega arith in rw e
+  pub values-end : (b : Bool) (k : ℕ) → values n g m w n b k ≡ 1
+  unfolding values walk
+  values-end b k = let e : n - n ≡ 0 = omega arith in rw e
 
   -- one period back
-  pub price-values-back : (t : ℕ) → t < n → (b : Bool) (k : ℕ)
-      → price-values n q s g m t b k ≡ back g (m t) (worth g (q t) (s t)) (price-values n q s g m (suc t)) b k
-  unfolding price-values
-  price-values-back t l b k =
+  pub values-back : (t : ℕ) → t < n → (b : Bool) (k : ℕ) → values n g m w t b k ≡ back g (m t) (w t) (values n g m w (suc t)) b k
+  unfolding values
+  values-back t l b k =
       let e : n - t ≡ suc (n - suc t) = omega arith in
-      rw e (walk-from (n - suc t) t g m (λ t. worth g (q t) (s t)) b k)
+      rw e (walk-from (n - suc t) t g m w b k)
 
   -- before the first it is the walk
-  pub price-values-start : price-values n q s g m 0 (g .on) (g .since) ≡ price-walk n q s g m
-  unfolding price-values price-walk
-  price-values-start = let e : n - 0 ≡ n = omega arith in rw e (walk-from-zero n g m (λ t. worth g (q t) (s t)) (g .on) (g .since))
+  pub values-start : (b : Bool) (k : ℕ) → values n g m w 0 b k ≡ walk n g m w b k
+  unfolding values
+  values-start b k = let e : n - 0 ≡ n = omega arith in rw e (walk-from-zero n g m w b k)
 
-  pub price-values-settled : (t : ℕ) → Settled g (price-values n q s g m t)
-  unfolding price-values
-  price-values-settled t = walk-settled (n - t) g (from t m) (λ i. worth g (q (t + i)) (s (t + i)))
+  pub values-settled : (t : ℕ) → Settled g (values n g m w t)
+  unfolding values
+  values-settled t = walk-settled (n - t) g (from t m) (from t w)
 
-  pub price-values-fit : GoodUnit g → n ≤ 48 → ((t : ℕ) → t < n → GoodPrice (q t)) → ((t : ℕ) → t < n → GoodPrice (s t)) → (t : ℕ) (b : Bool) (k : ℕ)
-      → price-values n q s g m t b k ≤ 1_000_000_000_000_000
-  unfolding price-values
-  price-values-fit good h hq hs t b k =
-      walk-fits g good (n - t) (omega arith) (λ i. q (t + i)) (λ i. s (t + i)) (λ i l. hq (t + i) (omega arith)) (λ i l. hs (t + i) (omega arith)) (from t m) b k
+-- in prices
+pub price-values-fit : (n : ℕ) (q s : ℕ → ℕ) (g : Generator) (m : ℕ → Mark) → GoodUnit g → n ≤ 48 → ((t : ℕ) → t < n → GoodPrice (q t))
+    → ((t : ℕ) → t < n → GoodPrice (s t)) → (t : ℕ) (b : Bool) (k : ℕ) → price-values n q s g m t b k ≤ 1_000_000_000_000_000
+unfolding values
+price-values-fit n q s g m good h hq hs t b k =
+    walk-fits g good (n - t) (omega arith) (λ i. q (t + i)) (λ i. s (t + i)) (λ i l. hq (t + i) (omega arith)) (λ i l. hs (t + i) (omega arith)) (from t m) b k

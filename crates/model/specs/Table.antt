@@ -41,6 +41,10 @@ pub record Chained (old new : List ℕ) (need early last : ℕ) (allowed : Bool)
   pub same : length new ≡ length old
   pub at : (k : ℕ) → k < length old → getD new k 0 ≡ chain-at old need early last allowed v k
 
--- the values before period t of n in prices: those of the periods t, t + 1, .., n - 1
-unfoldable pub price-values : ℕ → (ℕ → ℕ) → (ℕ → ℕ) → Generator → (ℕ → Mark) → ℕ → Values
-price-values n q s g m t = walk (n - t) g (λ i. m (t + i)) (λ i. worth g (q (t + i)) (s (t + i)))
+-- the values before period t of n: those of the periods t, t + 1, .., n - 1
+unfoldable pub values : ℕ → Generator → (ℕ → Mark) → (ℕ → Bool → ℕ) → ℕ → Values
+values n g m w t = walk (n - t) g (λ i. m (t + i)) (λ i. w (t + i))
+
+-- in prices
+abbrev pub price-values : ℕ → (ℕ → ℕ) → (ℕ → ℕ) → Generator → (ℕ → Mark) → ℕ → Values
+price-values n q s g m = values n g m (λ t. worth g (q t) (s t))
