@@ -24,3 +24,4 @@ pub mod Tables
 pub mod GoodUnits
 pub mod WrongOutputs
 pub mod Extents
+pub mod LeafLoops

@@ -43,11 +43,14 @@ price-walk-ext n q q′ s s′ g m m′ hq hs hm =
 abbrev pub from : {A : Type 0} → ℕ → (ℕ → A) → ℕ → A
 from t f i = f (t + i)
 
-from-later : {A : Type 0} (t : ℕ) (f : ℕ → A) → later (from t f) ≡ from (suc t) f
+pub from-later : {A : Type 0} (t : ℕ) (f : ℕ → A) → later (from t f) ≡ from (suc t) f
 from-later t f = fun-ext (λ i. ap f (next i))
   where
     next : (i : ℕ) → t + suc i ≡ suc t + i
     next i = omega arith
+
+pub from-zero : {A : Type 0} (f : ℕ → A) → from 0 f ≡ f
+from-zero f = fun-ext (λ i. ap f (zero-add i))
 
 pub walk-from : (n t : ℕ) (g : Generator) (m : ℕ → Mark) (w : ℕ → Bool → ℕ) (b : Bool) (k : ℕ)
     → walk (suc n) g (from t m) (from t w) b k ≡ back g (m t) (w t) (walk n g (from (suc t) m) (from (suc t) w)) b k
@@ -55,7 +58,7 @@ unfolding walk
 walk-from n t g m w b k = rw (from-later t m, from-later t w, add-zero t)
 
 pub walk-from-zero : (n : ℕ) (g : Generator) (m : ℕ → Mark) (w : ℕ → Bool → ℕ) (b : Bool) (k : ℕ) → walk n g (from 0 m) (from 0 w) b k ≡ walk n g m w b k
-walk-from-zero n g m w b k = walk-ext n g (from 0 m) m (from 0 w) w (λ t l. ap m (zero-add t)) (λ t l d. ap (λ (x : ℕ). w x d) (zero-add t)) b k
+walk-from-zero n g m w b k = rw (from-zero m, from-zero w)
 
 module _ (n : ℕ) (g : Generator) (m : ℕ → Mark) (w : ℕ → Bool → ℕ) where
   -- after the last period there is nothing to pay
