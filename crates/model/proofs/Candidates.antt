@@ -111,7 +111,7 @@ run-mem n run e = mem-words (false ∷ (true ∷ [])) false n run e (λ t l. bit
 pub run-long : (n : ℕ) (run : List Bool) → List·Memᴰ run (runs n) → length run ≡ n
 run-long n run m = words-long (false ∷ (true ∷ [])) n run m
 
--- "all runs obeying (5) to (10) that agree with the fixed statuses and all whole outputs obeying (4)"
+-- a row over which the least is taken (document 01, Rules for a leaf, price leaf)
 pub record Candidate (n : ℕ) (g : Generator) (m : ℕ → Mark) (r : List ℕ) : Type 0 where
   pub long : length r ≡ n
   pub limits : (t : ℕ) → t < n → Within g (r at t)

@@ -1,5 +1,5 @@
--- "Every sum below then fits a signed 64-bit number" (document 01, Texts), for schedules: with outputs up to 10,000, as a
--- schedule's text has them or (4) wants them, a row costs at most 52,896,000,000,000 and a period gives at most 320,000.
+-- No sum overflows (document 01, Texts, after the ranges), for schedules: with outputs up to 10,000, as a schedule's text has
+-- them and (4) asks for them, a row costs at most 52,896,000,000,000 and a period gives at most 320,000.
 use mathlib.Core.Path.{_≡_}
 use mathlib.Core.Bool.{Bool, true, false}
 use mathlib.Core.List.{List, [], _∷_}

@@ -1,5 +1,5 @@
--- "Every sum below then fits a signed 64-bit number" (document 01, Texts), for a price leaf and a tree's bound: at most 32 units,
--- 48 periods and what a unit or a period adds, all of it below 10^17.
+-- No sum overflows (document 01, Texts, after the ranges), for a price leaf and a tree's bound: at most 32 times what a unit adds
+-- and 48 times what a period adds, all of it below 10^17.
 use mathlib.Core.Path.{_≡_}
 use mathlib.Core.Bool.{Bool, true, false, cond}
 use mathlib.Core.List.{List, [], _∷_}

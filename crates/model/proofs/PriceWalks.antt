@@ -96,7 +96,7 @@ module _ (n : ℕ) (q s : ℕ → ℕ) (g : Generator) where
   unfolding price-walk
   price-walk-stuck m = is-stuck-is n g m (λ t. worth g (q t) (s t))
 
-  -- both: the answer "stuck, or the least value" is the walk, decoded
+  -- both at once: stuck, or the least value, is the walk decoded
   pub unit-decoded : GoodUnit g → (m : ℕ → Mark) → cond (is-stuck n g m) none (some (unit-least n q s g m)) ≡ decoded (price-walk n q s g m) (offset n q s g)
   unit-decoded good m = rw (price-walk-stuck m) (go (price-walk n q s g m) refl)
     where

@@ -1,5 +1,5 @@
--- "Every sum below then fits a signed 64-bit number" (document 01, Texts), for one unit of a price leaf: a period of a walk adds
--- at most 20,001,000,000,000, so that 48 periods stay below 10^15.
+-- No sum overflows (document 01, Texts, after the ranges), for one unit of a price leaf: a period of a walk adds at most
+-- 20,001,000,000,000, so that 48 periods stay below 10^15.
 use mathlib.Core.Path.{_≡_, refl, ap}
 use mathlib.Core.Bool.{Bool, true, false, cond, _&&_}
 use Prim.Native.Nat.{ℕ, zero, suc, _+_, _*_, _-_, _≤_, _<_}
