@@ -8,6 +8,9 @@ pub mod Breach
 pub mod Broken
 pub mod Above
 pub mod Leaf
+pub mod Walk
+pub mod Prices
+pub mod Table
 pub mod Tree
 pub mod Agreement
 pub mod Best

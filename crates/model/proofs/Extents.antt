@@ -1,0 +1,124 @@
+-- Marks matter only at the problem's units and periods, so that an array of them will do: what a leaf says is a function of walks
+-- and sums, and these look no further.
+use mathlib.Core.Path.{_≡_, refl, sym, _∙_, ap, ap₂}
+use mathlib.Core.Bool.{Bool, true, false, cond, _&&_, _||_}
+use mathlib.Core.Option.{none, some}
+use mathlib.Core.List.{List, [], _∷_}
+use Prim.Native.Nat.{ℕ, zero, suc, _+_, _*_, _<_}
+use native.Mathlib.Omega.{arith}
+use lib.Dec.{T, eqb}
+use lib.ListN.{length}
+use lib.IntN.{ℤ, pos, _+ℤ_}
+use Rattle.model.specs.declared.generator.Generator.{Generator}
+use Rattle.model.specs.Instance.{Instance, _at_}
+use Rattle.model.specs.Ranges.{All, GoodUnit}
+use Rattle.model.specs.Above.{Mark, fixed, Marks, rest, Above, fix}
+use Rattle.model.specs.Leaf.{unless-off, available, is-stuck, stuck-at, any-stuck, unit-least, units-least, requirement, leaf-value}
+use Rattle.model.specs.Tree.{Tree, split, short, stuck, price, Holds, number, lower, bound}
+use Rattle.model.specs.Prices.{offset, decoded}
+use Rattle.model.proofs.PeriodSums.{sum-eq}
+use Rattle.model.proofs.Stuck.{is-stuck-is}
+use Rattle.model.proofs.PriceWalks.{unit-decoded}
+use Rattle.model.proofs.UnitLeasts.{stuck-least}
+use Rattle.model.proofs.WalkPeriods.{walk-ext, price-walk-ext}
+
+-- the same in the first n periods
+abbrev pub Same : {A : Type 0} → ℕ → (ℕ → A) → (ℕ → A) → Type 0
+Same n f h = (t : ℕ) → t < n → f t ≡ h t
+
+-- the same marks for I units in T periods
+abbrev pub SameMarks : ℕ → ℕ → Marks → Marks → Type 0
+SameMarks I n m m′ = (u : ℕ) → u < I → Same n (m u) (m′ u)
+
+-- ---- one unit
+
+module _ (n : ℕ) (g : Generator) (m m′ : ℕ → Mark) (h : Same n m m′) where
+  pub is-stuck-ext : is-stuck n g m ≡ is-stuck n g m′
+  is-stuck-ext =
+      is-stuck-is n g m (λ t d. 0)
+      ∙ ap (λ (v : ℕ). eqb v 0) (walk-ext n g m m′ (λ t d. 0) (λ t d. 0) h (λ t l d. refl) (g .on) (g .since))
+      ∙ sym (is-stuck-is n g m′ (λ t d. 0))
+
+  pub unit-least-ext : GoodUnit g → (q q′ s s′ : ℕ → ℕ) → Same n q q′ → Same n s s′ → unit-least n q s g m ≡ unit-least n q′ s′ g m′
+  unfolding offset
+  unit-least-ext good q q′ s s′ hq hs = go (is-stuck n g m) (is-stuck n g m′) is-stuck-ext (λ t. t) (λ t. t) both
+    where
+      x : ℤ
+      x = unit-least n q s g m
+
+      y : ℤ
+      y = unit-least n q′ s′ g m′
+
+      added : offset n q s g ≡ offset n q′ s′ g
+      added = sum-eq n (λ t. (q t + s t) * g .pU) (λ t. (q′ t + s′ t) * g .pU) (λ t l. ap₂ (λ (a b : ℕ). (a + b) * g .pU) (hq t l) (hs t l))
+
+      both : cond (is-stuck n g m) none (some x) ≡ cond (is-stuck n g m′) none (some y)
+      both =
+          unit-decoded n q s g good m
+          ∙ ap₂ decoded (price-walk-ext n q q′ s s′ g m m′ hq hs h) added
+          ∙ sym (unit-decoded n q′ s′ g good m′)
+
+      go : (b b′ : Bool) → b ≡ b′ → (T b → T (is-stuck n g m)) → (T b′ → T (is-stuck n g m′))
+          → cond b none (some x) ≡ cond b′ none (some y) → x ≡ y
+      go true true e f f′ k = stuck-least n q s g m (f tt) ∙ sym (stuck-least n q′ s′ g m′ (f′ tt))
+      go true false e f f′ k = absurd (let z : _≡_ {A = ℕ} 0 1 = cc in omega arith)
+      go false true e f f′ k = absurd (let z : _≡_ {A = ℕ} 0 1 = cc in omega arith)
+      go false false e f f′ k = cc
+
+-- ---- all units
+
+module _ (n : ℕ) where
+  pub stuck-at-ext : (gs : List Generator) (m m′ : Marks) → SameMarks (length gs) n m m′ → (U : ℕ) → stuck-at n gs m U ≡ stuck-at n gs m′ U
+  stuck-at-ext [] m m′ h U = refl
+  stuck-at-ext (g ∷ gs) m m′ h zero = is-stuck-ext n g (m 0) (m′ 0) (h 0 (omega arith))
+  stuck-at-ext (g ∷ gs) m m′ h (suc U) = stuck-at-ext gs (rest m) (rest m′) (λ u l. h (suc u) (omega arith)) U
+
+  pub any-stuck-ext : (gs : List Generator) (m m′ : Marks) → SameMarks (length gs) n m m′ → any-stuck n gs m ≡ any-stuck n gs m′
+  any-stuck-ext [] m m′ h = refl
+  any-stuck-ext (g ∷ gs) m m′ h =
+      ap₂ _||_ (is-stuck-ext n g (m 0) (m′ 0) (h 0 (omega arith))) (any-stuck-ext gs (rest m) (rest m′) (λ u l. h (suc u) (omega arith)))
+
+  pub available-ext : (gs : List Generator) (m m′ : Marks) → SameMarks (length gs) n m m′ → (t : ℕ) → t < n → available gs m t ≡ available gs m′ t
+  unfolding available
+  available-ext [] m m′ h t l = refl
+  available-ext (g ∷ gs) m m′ h t l =
+      ap₂ _+_ (ap (λ (x : Mark). unless-off x (g .pU)) (h 0 (omega arith) t l)) (available-ext gs (rest m) (rest m′) (λ u i. h (suc u) (omega arith)) t l)
+
+  pub units-least-ext : (gs : List Generator) → All GoodUnit gs → (m m′ : Marks) → SameMarks (length gs) n m m′ → (q q′ s s′ : ℕ → ℕ) → Same n q q′ → Same n s s′
+      → units-least n q s gs m ≡ units-least n q′ s′ gs m′
+  unfolding units-least
+  units-least-ext [] G m m′ h q q′ s s′ hq hs = refl
+  units-least-ext (g ∷ gs) G m m′ h q q′ s s′ hq hs =
+      ap₂ _+ℤ_ (unit-least-ext n g (m 0) (m′ 0) (h 0 (omega arith)) (G .0) q q′ s s′ hq hs)
+      (units-least-ext gs (G .1) (rest m) (rest m′) (λ u l. h (suc u) (omega arith)) q q′ s s′ hq hs)
+
+-- ---- a leaf, and a tree
+
+module _ (P : Instance) (G : All GoodUnit (P .units)) where
+  pub leaf-value-ext : (m m′ : Marks) → SameMarks (length (P .units)) (P .periods) m m′ → (q q′ s s′ : ℕ → ℕ) → Same (P .periods) q q′ → Same (P .periods) s s′
+      → leaf-value P m q s ≡ leaf-value P m′ q′ s′
+  unfolding leaf-value requirement
+  leaf-value-ext m m′ h q q′ s s′ hq hs =
+      ap₂ _+ℤ_ (units-least-ext (P .periods) (P .units) G m m′ h q q′ s s′ hq hs)
+      (ap pos (sum-eq (P .periods) _ _ (λ t l. ap₂ (λ (x y : ℕ). x * P .demand at t + y * (P .demand at t + P .spare at t)) (hq t l) (hs t l))))
+
+  -- a split marks alike
+  pub same-fix : (U t : ℕ) (b : Bool) (A A′ : Above) → SameMarks (length (P .units)) (P .periods) (A .marks) (A′ .marks)
+      → SameMarks (length (P .units)) (P .periods) (fix U t b A .marks) (fix U t b A′ .marks)
+  same-fix U t b A A′ h u l t′ i = ap (cond (eqb U u && eqb t t′) (fixed b)) (h u l t′ i)
+
+  pub bound-ext : (A A′ : Above) → SameMarks (length (P .units)) (P .periods) (A .marks) (A′ .marks) → (x : Tree) → bound P A x ≡ bound P A′ x
+  unfolding bound
+  bound-ext A A′ h (split U t x y) =
+      ap₂ lower (bound-ext (fix U t false A) (fix U t false A′) (same-fix U t false A A′ h) x) (bound-ext (fix U t true A) (fix U t true A′) (same-fix U t true A A′ h) y)
+  bound-ext A A′ h (short t) = refl
+  bound-ext A A′ h (stuck U) = refl
+  bound-ext A A′ h (price q s) = ap number (leaf-value-ext (A .marks) (A′ .marks) h (λ t. q at t) (λ t. q at t) (λ t. s at t) (λ t. s at t) (λ t l. refl) (λ t l. refl))
+
+  pub holds-ext : (A A′ : Above) → SameMarks (length (P .units)) (P .periods) (A .marks) (A′ .marks) → (x : Tree) → Holds P A x → Holds P A′ x
+  unfolding Holds
+  holds-ext A A′ h (split U t x y) k =
+      (holds-ext (fix U t false A) (fix U t false A′) (same-fix U t false A A′ h) x (k .0), holds-ext (fix U t true A) (fix U t true A′) (same-fix U t true A A′ h) y (k .1))
+  holds-ext A A′ h (short t) k = (k .0, omega (arith, available-ext (P .periods) (P .units) (A .marks) (A′ .marks) h t (k .0), k .1))
+  holds-ext A A′ h (stuck U) k = rw (stuck-at-ext (P .periods) (P .units) (A .marks) (A′ .marks) h U) at k
+  holds-ext A A′ h (price q s) k = rw (any-stuck-ext (P .periods) (P .units) (A .marks) (A′ .marks) h) at k

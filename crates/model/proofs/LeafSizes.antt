@@ -1,0 +1,129 @@
+-- No sum overflows (document 01, Texts, after the ranges), for a price leaf and a tree's bound: at most 32 times what a unit adds
+-- and 48 times what a period adds, all of it below 10^17.
+use mathlib.Core.Path.{_≡_}
+use mathlib.Core.Bool.{Bool, true, false, cond}
+use mathlib.Core.List.{List, [], _∷_}
+use Prim.Native.Nat.{ℕ, zero, suc, _+_, _*_, _≤_, _<_}
+use native.Mathlib.Nat.{mul-le-mul}
+use native.Mathlib.Omega.{arith}
+use lib.ListN.{length}
+use lib.IntN.{ℤ, pos, negsuc, _+ℤ_}
+use lib.Signed.{leZ}
+use Rattle.model.specs.declared.generator.Generator.{Generator}
+use Rattle.model.specs.Instance.{Instance, _at_}
+use Rattle.model.specs.Ranges.{Between, All, GoodUnit, GoodPrice, WellFormed}
+use Rattle.model.specs.Above.{Marks, rest, Above, fix}
+use Rattle.model.specs.Leaf.{unit-least, units-least, requirement, leaf-value}
+use Rattle.model.specs.Tree.{Tree, split, short, stuck, price, Limits, Bound, never, number, lower, bound}
+use Rattle.model.specs.Prices.{price-walks, offsets}
+use Rattle.model.proofs.Integers.{up, down, +ℤ-nat}
+use Rattle.model.proofs.PeriodSums.{sum-most}
+use Rattle.model.proofs.WalkSizes.{price-walk-fits, offset-fits, unit-least-fits}
+
+-- what a list of numbers in range has in a period
+pub all-at : (M : ℕ) (l : List ℕ) → All (λ v. Between 0 v M) l → (t : ℕ) → Between 0 (l at t) M
+all-at M [] h t = omega arith
+all-at M (v ∷ l) h zero = h .0
+all-at M (v ∷ l) h (suc t) = all-at M l (h .1) t
+
++ℤ-fits : (x y : ℤ) → (up (x +ℤ y) ≤ up x + up y) × (down (x +ℤ y) ≤ down x + down y)
++ℤ-fits x y = go (x +ℤ y) (+ℤ-nat x y)
+  where
+    go : (z : ℤ) → up z + (down x + down y) ≡ (up x + up y) + down z → (up z ≤ up x + up y) × (down z ≤ down x + down y)
+    go (pos n) e = omega arith
+    go (negsuc n) e = omega arith
+
+-- ---- the sums over units
+
+module _ (n : ℕ) (n-le : n ≤ 48) (q s : ℕ → ℕ) (hq : (t : ℕ) → t < n → GoodPrice (q t)) (hs : (t : ℕ) → t < n → GoodPrice (s t)) where
+  pub price-walks-fit : (gs : List Generator) → All GoodUnit gs → (m : Marks) → price-walks n q s gs m ≤ length gs * 1_000_000_000_000_000
+  unfolding price-walks
+  price-walks-fit [] h m = omega arith
+  price-walks-fit (g ∷ gs) h m = omega (arith, price-walks-fit gs (h .1) (rest m), price-walk-fits g (h .0) n n-le q s hq hs (m 0))
+
+  pub offsets-fit : (gs : List Generator) → All GoodUnit gs → offsets n q s gs ≤ length gs * 960_000_000_000_000
+  unfolding offsets
+  offsets-fit [] h = omega arith
+  offsets-fit (g ∷ gs) h = omega (arith, offsets-fit gs (h .1), offset-fits g (h .0) n n-le q s hq hs)
+
+  pub units-least-fits : (gs : List Generator) → All GoodUnit gs → (m : Marks)
+      → (up (units-least n q s gs m) ≤ length gs * 1_000_000_000_000_000) × (down (units-least n q s gs m) ≤ length gs * 960_000_000_000_000)
+  unfolding units-least
+  units-least-fits [] h m = omega arith
+  units-least-fits (g ∷ gs) h m =
+      omega (
+        arith,
+        +ℤ-fits (unit-least n q s g (m 0)) (units-least n q s gs (rest m)),
+        unit-least-fits g (h .0) n n-le q s hq hs (m 0),
+        units-least-fits gs (h .1) (rest m),
+      )
+
+-- ---- a leaf
+
+module _ (P : Instance) (W : WellFormed P) (q s : ℕ → ℕ) (hq : (t : ℕ) → t < P .periods → GoodPrice (q t)) (hs : (t : ℕ) → t < P .periods → GoodPrice (s t)) where
+  -- what one period requires
+  pub period-requirement-fits : (t : ℕ) → t < P .periods → q t * P .demand at t + s t * (P .demand at t + P .spare at t) ≤ 960_000_000_000_000
+  period-requirement-fits t l =
+      let D : P .demand at t ≤ 320000 = all-at 320000 (P .demand) (W .demand-in) t .1 in
+      let R : P .spare at t ≤ 320000 = all-at 320000 (P .spare) (W .spare-in) t .1 in
+      let x : P .demand at t + P .spare at t ≤ 640000 = omega arith in
+      omega (arith, mul-le-mul (hq t l .1) D, mul-le-mul (hs t l .1) x)
+
+  pub requirement-fits : requirement P q s ≤ 46_080_000_000_000_000
+  unfolding requirement
+  requirement-fits =
+      let j : P .periods ≤ 48 = W .periods-in .1 in
+      omega (
+        arith,
+        sum-most (P .periods) 960_000_000_000_000 (λ t. q t * P .demand at t + s t * (P .demand at t + P .spare at t)) period-requirement-fits,
+      )
+
+  -- both sides of the leaf's one subtraction
+  pub leaf-sums-fit : (m : Marks)
+      → (price-walks (P .periods) q s (P .units) m + requirement P q s ≤ 80_000_000_000_000_000) × (offsets (P .periods) q s (P .units) ≤ 32_000_000_000_000_000)
+  leaf-sums-fit m =
+      let k : length (P .units) ≤ 32 = W .units-in .1 in
+      omega (
+        arith,
+        price-walks-fit (P .periods) (W .periods-in .1) q s hq hs (P .units) (W .units-good) m,
+        offsets-fit (P .periods) (W .periods-in .1) q s hq hs (P .units) (W .units-good),
+        requirement-fits,
+      )
+
+  pub leaf-value-fits : (m : Marks) → (up (leaf-value P m q s) ≤ 80_000_000_000_000_000) × (down (leaf-value P m q s) ≤ 32_000_000_000_000_000)
+  unfolding leaf-value
+  leaf-value-fits m =
+      let k : length (P .units) ≤ 32 = W .units-in .1 in
+      omega (
+        arith,
+        +ℤ-fits (units-least (P .periods) q s (P .units) m) (pos (requirement P q s)),
+        units-least-fits (P .periods) (W .periods-in .1) q s hq hs (P .units) (W .units-good) m,
+        requirement-fits,
+      )
+
+-- ---- a bound
+
+-- a number from -32·10^15 to 80·10^15, or never
+abbrev pub Fits : Bound → Type 0
+Fits never = Unit {0}
+Fits (number z) = (up z ≤ 80_000_000_000_000_000) × (down z ≤ 32_000_000_000_000_000)
+
+lower-fits : (x y : Bound) → Fits x → Fits y → Fits (lower x y)
+lower-fits never y h k = k
+lower-fits (number x) never h k = h
+lower-fits (number x) (number y) h k = go (leZ x y)
+  where
+    go : (c : Bool) → Fits (number (cond c x y))
+    go true = h
+    go false = k
+
+pub bound-fits : (P : Instance) → WellFormed P → (A : Above) (d : ℕ) (x : Tree) → Limits P A d x → Fits (bound P A x)
+unfolding bound Limits
+bound-fits P W A d (split U t x y) l =
+    lower-fits (bound P (fix U t false A) x) (bound P (fix U t true A) y)
+    (bound-fits P W (fix U t false A) (suc d) x (l .4)) (bound-fits P W (fix U t true A) (suc d) y (l .5))
+bound-fits P W A d (short t) l = tt
+bound-fits P W A d (stuck U) l = tt
+bound-fits P W A d (price q s) l =
+    leaf-value-fits P W (λ t. q at t) (λ t. s at t)
+    (λ t i. all-at 1000000000 q (l .0 .1) t) (λ t i. all-at 1000000000 s (l .1 .1) t) (A .marks)
