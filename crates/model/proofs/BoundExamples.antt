@@ -14,7 +14,7 @@ use Rattle.model.specs.Leaf.{available, is-stuck, minℤ, requirement}
 use Rattle.model.specs.Tree.{Tree, split, short, price, Limits, Holds, number, bound, splits, leaves}
 use Rattle.model.specs.Walk.{plus, lesser, back, walk}
 use Rattle.model.specs.Prices.{on-value, best-at, price-walk, offset, price-walks, offsets}
-use Rattle.model.proofs.GoodUnits.{good-unit}
+use Rattle.model.proofs.RangeTests.{good-unit}
 use Rattle.model.proofs.PriceWalks.{leaf-is}
 
 -- ---- the problem

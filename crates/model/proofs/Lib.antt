@@ -37,7 +37,6 @@ pub mod LeafSizes
 pub mod CostSizes
 pub mod WalkPeriods
 pub mod Tables
-pub mod GoodUnits
 pub mod WrongOutputs
 pub mod Extents
 pub mod LeafLoops

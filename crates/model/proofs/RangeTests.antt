@@ -82,3 +82,7 @@ module _ (g : Generator) where
     λ t. let p = and-is (leb (g .pL) (g .pU)) (leb (g .Hsc) (g .Csc)) (leb-is _ _) (leb-is _ _) .0 t in record { limits = p .0; starts = p .1 },
     λ R. and-is (leb (g .pL) (g .pU)) (leb (g .Hsc) (g .Csc)) (leb-is _ _) (leb-is _ _) .1 (R .limits, R .starts),
   )
+
+  -- a unit line that both tests let through
+  pub good-unit : T (in-range g) → T (ordered g) → GoodUnit g
+  good-unit t o = record { in-range = in-range-is .0 t; ordered = ordered-is .0 o }

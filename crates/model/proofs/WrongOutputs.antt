@@ -16,7 +16,7 @@ use Rattle.model.specs.Above.{free}
 use Rattle.model.specs.Leaf.{revenue, value, unit-least}
 use Rattle.model.specs.Walk.{plus, lesser, back, walk}
 use Rattle.model.specs.Prices.{on-value, best-at, best-output, price-walk, offset}
-use Rattle.model.proofs.GoodUnits.{good-unit}
+use Rattle.model.proofs.RangeTests.{good-unit}
 use Rattle.model.proofs.PriceWalks.{unit-least-is}
 
 -- a unit with these costs and limits, on before, whose stop costs nothing
