@@ -1,0 +1,14 @@
+-- What the definitions imply.
+pub mod Rows
+pub mod Units
+pub mod Shapes
+pub mod Search
+pub mod Sums
+pub mod Shortage
+pub mod Tests
+pub mod Switch
+pub mod Before
+pub mod Walk
+pub mod CostSize
+pub mod Answers
+pub mod Examples

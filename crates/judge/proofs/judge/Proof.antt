@@ -1,0 +1,171 @@
+-- Rule by rule: where a place is found it is the answer, where none is the rest is judged.
+use mathlib.Core.Path.{sym, ap, _∙_}
+use borrow.Author.Needs.{needs}
+use Rattle.model.specs.Instance.{Instance, Schedule}
+use Rattle.model.specs.Held.{view}
+use Rattle.judge.specs.declared.Judgement.the-variants.{Costs}
+use Rattle.judge.specs.Rows.{schedule-of}
+use Rattle.judge.proofs.Answers.{from22, from23, from24, from25, Left, breaks21, keeps21, breaks22, keeps22, breaks23, keeps23, breaks24, keeps24, breaks25, costs}
+use Rattle.judge.proofs.judge.Statement.{statement}
+use Rattle.judge.proofs.judge.Tie as tie
+
+abbrev P-of : tie.Start → Instance
+P-of c = view (c .args .problem)
+
+abbrev rows-of : tie.Start → Schedule
+rows-of c = schedule-of (c .args .problem) (c .args .rows .now)
+
+-- 21 is kept
+left22 : (c : tie.After-enum-told) → let s = c .before .before .before .before in Left (P-of s) (rows-of s) (from22 (P-of s) (rows-of s))
+left22 c =
+    let s = c .before .before .before .before in
+    keeps21 (P-of s) (rows-of s) (sym (c .before .before .find-off-limits .ensures) ∙ c .enum-told .given .1)
+
+-- 22 is kept
+left23 : (c : tie.After-enum-told2) → let s = c .before .before .before .before .before .before .before in Left (P-of s) (rows-of s) (from23 (P-of s) (rows-of s))
+left23 c =
+    let s = c .before .before .before .before .before .before .before in
+    keeps22 (P-of s) (rows-of s) (left22 (c .before .before .before)) (sym (c .before .before .find-unmet-demand .ensures) ∙ c .enum-told2 .given .1)
+
+-- 23 is kept
+left24 : (c : tie.After-enum-told3) → let s = c .before .before .before .before .before .before .before .before .before .before in Left (P-of s) (rows-of s) (from24 (P-of s) (rows-of s))
+left24 c =
+    let s = c .before .before .before .before .before .before .before .before .before .before in
+    keeps23 (P-of s) (rows-of s) (left23 (c .before .before .before)) (sym (c .before .before .find-unmet-spare .ensures) ∙ c .enum-told3 .given .1)
+
+-- 24 is kept
+left25 : (c : tie.After-enum-told4) → let s = c .before .before .before .before .before .before .before .before .before .before .before .before .before in Left (P-of s) (rows-of s) (from25 (P-of s) (rows-of s))
+left25 c =
+    let s = c .before .before .before .before .before .before .before .before .before .before .before .before .before in
+    keeps24 (P-of s) (rows-of s) (left24 (c .before .before .before)) (sym (c .before .before .find-not-permitted .ensures) ∙ c .enum-told4 .given .1)
+
+find-off-limits-requires : tie.Need-find-off-limits-requires
+find-off-limits-requires c κs = search needs
+
+enum-known-place : tie.Need-enum-known-place
+enum-known-place c = search needs
+
+name-breach-requires : tie.Need-name-breach-requires
+name-breach-requires c κs = search needs
+
+returns : tie.Need-returns
+returns c =
+    let s = c .before .before .before .before .before .before in
+    c .name-breach .ensures
+    ∙ sym (breaks21 (P-of s) (rows-of s) _ (sym (c .before .before .before .before .find-off-limits .ensures) ∙ c .before .before .place .given .1))
+
+enum-told : tie.Need-enum-told
+enum-told c = search needs
+
+find-unmet-demand-requires : tie.Need-find-unmet-demand-requires
+find-unmet-demand-requires c κs = search needs
+
+enum-known-place-2 : tie.Need-enum-known-place-2
+enum-known-place-2 c = search needs
+
+name-breach-requires-2 : tie.Need-name-breach-requires-2
+name-breach-requires-2 c κs = search needs
+
+returns-2 : tie.Need-returns-2
+returns-2 c =
+    let s = c .before .before .before .before .before .before .before .before .before in
+    c .name-breach2 .ensures
+    ∙ sym (breaks22 (P-of s) (rows-of s) (left22 (c .before .before .before .before .before)) _ (sym (c .before .before .before .before .find-unmet-demand .ensures) ∙ c .before .before .place2 .given .1))
+
+enum-told-2 : tie.Need-enum-told-2
+enum-told-2 c = search needs
+
+find-unmet-spare-requires : tie.Need-find-unmet-spare-requires
+find-unmet-spare-requires c κs = search needs
+
+enum-known-place-3 : tie.Need-enum-known-place-3
+enum-known-place-3 c = search needs
+
+name-breach-requires-3 : tie.Need-name-breach-requires-3
+name-breach-requires-3 c κs = search needs
+
+returns-3 : tie.Need-returns-3
+returns-3 c =
+    let s = c .before .before .before .before .before .before .before .before .before .before .before .before in
+    c .name-breach3 .ensures
+    ∙ sym (breaks23 (P-of s) (rows-of s) (left23 (c .before .before .before .before .before)) _ (sym (c .before .before .before .before .find-unmet-spare .ensures) ∙ c .before .before .place3 .given .1))
+
+enum-told-3 : tie.Need-enum-told-3
+enum-told-3 c = search needs
+
+find-not-permitted-requires : tie.Need-find-not-permitted-requires
+find-not-permitted-requires c κs = search needs
+
+enum-known-place-4 : tie.Need-enum-known-place-4
+enum-known-place-4 c = search needs
+
+name-breach-requires-4 : tie.Need-name-breach-requires-4
+name-breach-requires-4 c κs = search needs
+
+returns-4 : tie.Need-returns-4
+returns-4 c =
+    let s = c .before .before .before .before .before .before .before .before .before .before .before .before .before .before .before in
+    c .name-breach4 .ensures
+    ∙ sym (breaks24 (P-of s) (rows-of s) (left24 (c .before .before .before .before .before)) _ (sym (c .before .before .before .before .find-not-permitted .ensures) ∙ c .before .before .place4 .given .1))
+
+enum-told-4 : tie.Need-enum-told-4
+enum-told-4 c = search needs
+
+find-off-ramp-requires : tie.Need-find-off-ramp-requires
+find-off-ramp-requires c κs = search needs
+
+enum-known-place-5 : tie.Need-enum-known-place-5
+enum-known-place-5 c = search needs
+
+name-breach-requires-5 : tie.Need-name-breach-requires-5
+name-breach-requires-5 c κs = search needs
+
+returns-5 : tie.Need-returns-5
+returns-5 c =
+    let s = c .before .before .before .before .before .before .before .before .before .before .before .before .before .before .before .before .before .before in
+    c .name-breach5 .ensures
+    ∙ sym (breaks25 (P-of s) (rows-of s) (left25 (c .before .before .before .before .before)) _ (sym (c .before .before .before .before .find-off-ramp .ensures) ∙ c .before .before .place5 .given .1))
+
+enum-told-5 : tie.Need-enum-told-5
+enum-told-5 c = search needs
+
+sum-cost-requires : tie.Need-sum-cost-requires
+sum-cost-requires c κs = search needs
+
+returns-6 : tie.Need-returns-6
+returns-6 c =
+    let s = c .before .before .before .before .before .before .before .before .before .before .before .before .before .before .before .before .before in
+    ap Costs (c .sum-cost .ensures)
+    ∙ sym (costs (P-of s) (rows-of s) (left25 (c .before .before .before .before)) (sym (c .before .before .before .find-off-ramp .ensures) ∙ c .before .enum-told5 .given .1))
+
+pub judge-spec : {M : Type 1} → statement M
+judge-spec =
+    tie.close
+    (tie.spec
+    find-off-limits-requires
+    enum-known-place
+    name-breach-requires
+    returns
+    enum-told
+    find-unmet-demand-requires
+    enum-known-place-2
+    name-breach-requires-2
+    returns-2
+    enum-told-2
+    find-unmet-spare-requires
+    enum-known-place-3
+    name-breach-requires-3
+    returns-3
+    enum-told-3
+    find-not-permitted-requires
+    enum-known-place-4
+    name-breach-requires-4
+    returns-4
+    enum-told-4
+    find-off-ramp-requires
+    enum-known-place-5
+    name-breach-requires-5
+    returns-5
+    enum-told-5
+    sum-cost-requires
+    returns-6)

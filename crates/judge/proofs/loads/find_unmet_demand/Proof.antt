@@ -1,0 +1,76 @@
+-- The demand of every period that has been passed is met.
+use mathlib.Core.Path.{sym, ap}
+use Prim.Native.Nat.{_-_, _≤_}
+use native.Mathlib.Omega.{arith}
+use native.Mathlib.Nat.{not-suc-le-zero}
+use borrow.Author.Count.{below-more}
+use Rattle.judge.specs.Judgement.{found}
+use Rattle.judge.proofs.Units.{periods-most}
+use Rattle.judge.proofs.Shortage.{DemandMet, demand-found, demand-ends}
+use Rattle.judge.proofs.loads.find_unmet_demand.Statement.{statement}
+use Rattle.judge.proofs.loads.find_unmet_demand.Tie as tie
+
+abbrev Inv-loop : tie.InvT-loop
+Inv-loop rows problem periods t₀ t = (t ≤ periods) × DemandMet problem rows t
+
+abbrev μ-loop : tie.MeasureT-loop
+μ-loop rows problem periods t₀ t = periods - t
+
+loop-holds : tie.Need-loop-holds Inv-loop μ-loop
+loop-holds c = (omega arith, λ k h. absurd (not-suc-le-zero h))
+
+mul-demand : tie.Need-mul-demand Inv-loop μ-loop
+mul-demand c = let s = c .before .before .before in omega (arith, periods-most (s .args .t1) (s .args .rows .now) (s .pre))
+
+element-copy-out-demand : tie.Need-element-copy-out-demand Inv-loop μ-loop
+element-copy-out-demand c =
+    let s = c .before .before .before in
+    omega (arith, periods-most (s .args .t1) (s .args .rows .now) (s .pre))
+
+sum-outputs-requires : tie.Need-sum-outputs-requires Inv-loop μ-loop
+sum-outputs-requires c κs = (c .before .before .before .before .pre, c .before .loop-test .taken)
+
+add-t13 : tie.Need-add-t13 Inv-loop μ-loop
+add-t13 c =
+    let s = c .before .before .before .before .before .before in
+    omega (arith, periods-most (s .args .t1) (s .args .rows .now) (s .pre))
+
+returns : tie.Need-returns Inv-loop μ-loop
+returns c =
+    let s = c .before .before .before .before .before .before in
+    sym (ap found (demand-found (s .args .t1) (s .args .rows .now) (c .before .before .before .before .loop .t)
+    (c .before .before .before .loop-test .taken) (c .before .before .before .before .loop .inv .1)
+    (omega (arith, c .before .sum-outputs .ensures))))
+
+add-t : tie.Need-add-t Inv-loop μ-loop
+add-t c = omega arith
+
+loop-less : tie.Need-loop-less Inv-loop μ-loop
+loop-less c = omega arith
+
+loop-again : tie.Need-loop-again Inv-loop μ-loop
+loop-again c =
+    let l = c .before .before .before .before .loop in
+    (omega arith, below-more _ (l .t) (l .inv .1) (omega (arith, c .before .sum-outputs .ensures)))
+
+returns-2 : tie.Need-returns-2 Inv-loop μ-loop
+returns-2 c =
+    let s = c .before .before .before in
+    sym (ap found (demand-ends (s .args .t1) (s .args .rows .now) (λ k h. c .before .loop .inv .1 k (omega arith))))
+
+pub find-unmet-demand-spec : {M : Type 1} → statement M
+find-unmet-demand-spec =
+    tie.close
+    (tie.spec
+    Inv-loop
+    μ-loop
+    loop-holds
+    mul-demand
+    element-copy-out-demand
+    sum-outputs-requires
+    add-t13
+    returns
+    add-t
+    loop-less
+    loop-again
+    returns-2)

@@ -1,0 +1,17 @@
+-- What stands before a period, for (5) to (10): document 01 counts from Tini on, period by period.
+use mathlib.Core.Bool.{Bool}
+use mathlib.Core.List.{List, [], _∷_}
+use Prim.Native.Nat.{ℕ, zero, suc}
+use Rattle.model.specs.Rules.{spent}
+
+-- the status in the period before t of a run, b being the status before the run
+abbrev pub status-before : Bool → List Bool → ℕ → Bool
+status-before b run zero = b
+status-before b [] (suc t) = b
+status-before b (d ∷ run) (suc t) = status-before d run t
+
+-- the periods just spent in it, k having been spent in b before the run
+abbrev pub spent-before : Bool → ℕ → List Bool → ℕ → ℕ
+spent-before b k run zero = k
+spent-before b k [] (suc t) = k
+spent-before b k (d ∷ run) (suc t) = spent-before d (spent b k d) run t

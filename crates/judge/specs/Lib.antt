@@ -1,0 +1,5 @@
+-- A schedule's judgement, by the model's rules and cost.
+pub mod Rows
+pub mod Before
+pub mod Walk
+pub mod Judgement

@@ -1,0 +1,91 @@
+// 22 and 23: demand and spare, by (2) and (3).
+ghost use mathlib.Core.Path.{_≡_};
+ghost use Prim.Native.Nat.{ℕ, _<_};
+ghost use Rattle.model.specs.Held.{view};
+ghost use Rattle.model.specs.Rules.{output, capacity, if-on, on};
+ghost use Rattle.model.specs.Breach.{place22, place23};
+ghost use Rattle.judge.specs.Judgement.{found};
+ghost use Rattle.judge.specs.Rows.{schedule-of, Fitting};
+use crate::place::Found;
+use crate::place::Place;
+use model::problem::Problem;
+
+// What the units give in period t.
+fn sum_outputs(problem: Problem, rows: &[u16], t: usize) -> u64
+    requires { ⌜ Fitting problem (now rows) ⌝ }
+    requires { ⌜ t < problem .periods ⌝ }
+    ensures { λ r. ⌜ r ≡ output (view problem) (schedule-of problem (now (rows .entry))) t ⌝ }
+{
+    let periods = problem.periods;
+    let units = problem.units;
+    let mut total = 0;
+    for u in 0..units {
+        let from = u * periods;
+        total += rows[from + t] as u64;
+    }
+    total
+}
+
+// The capacity, if the output is above 0, or else 0.
+fn count_if_on(capacity: u64, output: u16) -> u64
+    ensures { λ r. ⌜ r ≡ if-on (on output) capacity ⌝ }
+{
+    if output == 0 {
+        return 0;
+    }
+    capacity
+}
+
+// The pU of the units that are on in period t.
+fn sum_capacities(problem: Problem, rows: &[u16], t: usize) -> u64
+    requires { ⌜ Fitting problem (now rows) ⌝ }
+    requires { ⌜ t < problem .periods ⌝ }
+    ensures { λ r. ⌜ r ≡ capacity (view problem) (schedule-of problem (now (rows .entry))) t ⌝ }
+{
+    let periods = problem.periods;
+    let units = problem.units;
+    let mut total = 0;
+    for u in 0..units {
+        let g = problem.generators[u];
+        let from = u * periods;
+        total += count_if_on(g.pU, rows[from + t]);
+    }
+    total
+}
+
+// The first period whose outputs are less than its demand.
+pub fn find_unmet_demand(problem: Problem, rows: &[u16]) -> Found
+    requires { ⌜ Fitting problem (now rows) ⌝ }
+    ensures { λ r. ⌜ r ≡ found (place22 (view problem) (schedule-of problem (now (rows .entry)))) ⌝ }
+{
+    let periods = problem.periods;
+    for t in 0..periods {
+        let demand = problem.demand[t];
+        if sum_outputs(problem, rows, t) < demand {
+            return Found::At(Place {
+                unit: 0,
+                period: t + 1,
+            });
+        }
+    }
+    Found::Nothing
+}
+
+// The first period in which the units that are on could not give its demand and its spare.
+pub fn find_unmet_spare(problem: Problem, rows: &[u16]) -> Found
+    requires { ⌜ Fitting problem (now rows) ⌝ }
+    ensures { λ r. ⌜ r ≡ found (place23 (view problem) (schedule-of problem (now (rows .entry)))) ⌝ }
+{
+    let periods = problem.periods;
+    for t in 0..periods {
+        let demand = problem.demand[t];
+        let spare = problem.spare[t];
+        if sum_capacities(problem, rows, t) < demand + spare {
+            return Found::At(Place {
+                unit: 0,
+                period: t + 1,
+            });
+        }
+    }
+    Found::Nothing
+}

@@ -1,0 +1,62 @@
+// 25: ramps, by (11) and (12).
+ghost use mathlib.Core.Path.{_≡_};
+ghost use Prim.Native.Nat.{ℕ, _<_};
+ghost use lib.ListN.{length};
+ghost use Rattle.model.specs.Held.{view};
+ghost use Rattle.model.specs.Ranges.{InRange};
+ghost use Rattle.model.specs.Breach.{off-ramp, place25};
+ghost use Rattle.judge.specs.Judgement.{found};
+ghost use Rattle.judge.specs.Rows.{schedule-of, Fitting};
+use crate::place::Found;
+use crate::place::Place;
+use model::generator::Generator;
+use model::problem::Problem;
+
+// Whether the output, on in the period before t and in t, rises by more than UR or falls by more than DR.
+fn is_off_ramp(g: Generator, row: &[u16], t: usize) -> bool
+    requires { ⌜ InRange g × (t < length (now row)) ⌝ }
+    ensures { λ r. ⌜ r ≡ off-ramp t g (now (row .entry)) ⌝ }
+{
+    let up = g.UR;
+    let down = g.DR;
+    if t == 0 {
+        return false;
+    }
+    let before = row[t - 1] as u64;
+    let after = row[t] as u64;
+    if before == 0 {
+        return false;
+    }
+    if after == 0 {
+        return false;
+    }
+    if before + up < after {
+        return true;
+    }
+    after + down < before
+}
+
+// The first period, and in it the first unit, whose output leaves its ramp.
+pub fn find_off_ramp(problem: Problem, rows: &[u16]) -> Found
+    requires { ⌜ Fitting problem (now rows) ⌝ }
+    ensures { λ r. ⌜ r ≡ found (place25 (view problem) (schedule-of problem (now (rows .entry)))) ⌝ }
+{
+    let periods = problem.periods;
+    let units = problem.units;
+    let mut first = Found::Nothing;
+    'search: for t in 0..periods {
+        for u in 0..units {
+            let g = problem.generators[u];
+            let from = u * periods;
+            let to = from + periods;
+            if is_off_ramp(g, &rows[from..to], t) {
+                first = Found::At(Place {
+                    unit: u + 1,
+                    period: t + 1,
+                });
+                break 'search;
+            }
+        }
+    }
+    first
+}
