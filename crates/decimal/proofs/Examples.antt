@@ -1,0 +1,37 @@
+-- Numbers of document 01's texts, by computation.
+use mathlib.Core.Path.{_≡_, refl}
+use mathlib.Core.Bool.{false}
+use mathlib.Core.List.{[], _∷_}
+use Rattle.decimal.specs.Decimal.{numeral, digits, digitsBy}
+use Rattle.decimal.specs.Reading.{numberAt, numberOf}
+use Rattle.decimal.specs.declared.Number.the-variants.{Value}
+
+-- 1980
+cost : digits 1980 ≡ 49 ∷ 57 ∷ 56 ∷ 48 ∷ []
+unfolding digits digitsBy
+cost = refl
+
+nothing : digits 0 ≡ 48 ∷ []
+unfolding digits digitsBy
+nothing = refl
+
+-- 05 has a leading zero
+leading-zero : numeral (48 ∷ 53 ∷ []) ≡ false
+leading-zero = refl
+
+empty-value : numeral [] ≡ false
+empty-value = refl
+
+-- 60,100 from its first byte, and from its fourth
+demand-first : numberAt (54 ∷ 48 ∷ 44 ∷ 49 ∷ 48 ∷ 48 ∷ []) 0 ≡ Value 60 2
+unfolding numberAt numberOf
+demand-first = refl
+
+demand-second : numberAt (54 ∷ 48 ∷ 44 ∷ 49 ∷ 48 ∷ 48 ∷ []) 3 ≡ Value 100 6
+unfolding numberAt numberOf
+demand-second = refl
+
+-- a number of 21 digits is read, as the cap
+large : numberAt (57 ∷ 57 ∷ 57 ∷ 57 ∷ 57 ∷ 57 ∷ 57 ∷ 57 ∷ 57 ∷ 57 ∷ 57 ∷ 57 ∷ 57 ∷ 57 ∷ 57 ∷ 57 ∷ 57 ∷ 57 ∷ 57 ∷ 57 ∷ 57 ∷ []) 0 ≡ Value 10000000000 21
+unfolding numberAt numberOf
+large = refl

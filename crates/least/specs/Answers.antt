@@ -1,0 +1,23 @@
+-- What a leaf answers: that a unit is stuck, or a least value (document 01, Rules for a leaf: a least cost is taken only when no
+-- unit is stuck).
+use mathlib.Core.Bool.{cond}
+use mathlib.Core.List.{List}
+use Prim.Native.Nat.{ℕ}
+use Rattle.model.specs.declared.generator.Generator.{Generator}
+use Rattle.model.specs.Instance.{Instance}
+use Rattle.model.specs.Above.{Mark, Marks}
+use Rattle.model.specs.Leaf.{is-stuck, any-stuck, unit-least, units-least, leaf-value}
+use Rattle.least.specs.declared.unit.Least.{Least}
+use Rattle.least.specs.declared.unit.Least.the-variants.{Stuck, Value}
+
+-- of one unit, in n periods
+abbrev pub least-of : ℕ → (ℕ → ℕ) → (ℕ → ℕ) → Generator → (ℕ → Mark) → Least
+least-of n q s g m = cond (is-stuck n g m) Stuck (Value (unit-least n q s g m))
+
+-- of all units
+abbrev pub leasts-of : ℕ → (ℕ → ℕ) → (ℕ → ℕ) → List Generator → Marks → Least
+leasts-of n q s gs m = cond (any-stuck n gs m) Stuck (Value (units-least n q s gs m))
+
+-- of a price leaf
+abbrev pub leaf-of : Instance → Marks → (ℕ → ℕ) → (ℕ → ℕ) → Least
+leaf-of P m q s = cond (any-stuck (P .periods) (P .units) m) Stuck (Value (leaf-value P m q s))

@@ -1,0 +1,39 @@
+-- How the code goes back over the periods: what a period costs by its status, and one period back over the table of states, in
+-- place (the model's Table).
+use mathlib.Core.Path.{_≡_}
+use mathlib.Core.Bool.{Bool, true, false}
+use mathlib.Core.List.{List}
+use Prim.Native.Nat.{ℕ, _<_}
+use lib.ListN.{length}
+use Rattle.model.specs.declared.generator.Generator.{Generator}
+use Rattle.model.specs.Instance.{_at_}
+use Rattle.model.specs.Above.{Mark, allows}
+use Rattle.model.specs.Walk.{Values}
+use Rattle.model.specs.Prices.{worth}
+use Rattle.model.specs.Table.{Tabled, leave, enter, Chained}
+
+-- what a period costs on, and off
+abbrev pub by-status : ℕ → ℕ → Bool → ℕ
+by-status on off true = on
+by-status on off false = off
+
+-- of each period, from two lists
+abbrev pub costs-of : List ℕ → List ℕ → ℕ → Bool → ℕ
+costs-of on off t = by-status (on at t) (off at t)
+
+-- the two lists at the prices q and the reserve prices s
+pub record Priced (g : Generator) (q s on off : List ℕ) : Type 0 where
+  pub on-long : length on ≡ length q
+  pub off-long : length off ≡ length q
+  pub on-at : (t : ℕ) → t < length q → on at t ≡ worth g (q at t) (s at t) true
+  pub off-at : (t : ℕ) → t < length q → off at t ≡ worth g (q at t) (s at t) false
+
+-- the values of all states, from two lists
+pub record Tables (g : Generator) (X : Values) (ons offs : List ℕ) : Type 0 where
+  pub of-on : Tabled g X true ons
+  pub of-off : Tabled g X false offs
+
+-- the lists after one period back, from those before
+pub record Back (g : Generator) (m : Mark) (on off : ℕ) (ons offs ons′ offs′ : List ℕ) : Type 0 where
+  pub of-on : Chained ons ons′ (g .TU) (leave g m off offs) (leave g m off offs) (allows m true) on
+  pub of-off : Chained offs offs′ (g .TD) (enter (g .Hsc) m on ons) (enter (g .Csc) m on ons) (allows m false) off

@@ -1,0 +1,111 @@
+-- Document 01's example problem, and damaged ones, by computation.
+use Prim.Native.Nat.{ℕ}
+use mathlib.Core.Path.{_≡_, refl, sym}
+use mathlib.Core.Bool.{true, false}
+use mathlib.Core.List.{List, [], _∷_}
+use Rattle.decimal.specs.Decimal.{digits, digitsBy}
+use Rattle.model.specs.declared.generator.Generator.{Generator}
+use Rattle.model.specs.Instance.{Instance}
+use Rattle.model.specs.Ranges.{WellFormed, ordered}
+use Rattle.text.specs.Lines.{kindOf}
+use Rattle.text.specs.Forms.{malformed, wrongCount, outOfRange}
+use Rattle.text.specs.Course.{refused-at, accepted, judged-from}
+use Rattle.problem.specs.Units.{unit-line, unit-of}
+use Rattle.problem.specs.Rendering.{lines-after, text-of, render}
+use Rattle.problem.specs.Course.{judge, problem-judged}
+use Rattle.problem.specs.Reading.{IsProblem}
+use Rattle.problem.proofs.Acceptance.{accepted-rendered}
+
+-- ---- the example of document 01, The listing program
+
+-- kind=problem
+abbrev kind-line : List ℕ
+kind-line = 107 ∷ 105 ∷ 110 ∷ 100 ∷ 61 ∷ 112 ∷ 114 ∷ 111 ∷ 98 ∷ 108 ∷ 101 ∷ 109 ∷ []
+
+-- periods=2
+abbrev periods-line : List ℕ
+periods-line = 112 ∷ 101 ∷ 114 ∷ 105 ∷ 111 ∷ 100 ∷ 115 ∷ 61 ∷ 50 ∷ []
+
+-- units=2
+abbrev units-line : List ℕ
+units-line = 117 ∷ 110 ∷ 105 ∷ 116 ∷ 115 ∷ 61 ∷ 50 ∷ []
+
+-- demand=60,100
+abbrev demand-line : List ℕ
+demand-line = 100 ∷ 101 ∷ 109 ∷ 97 ∷ 110 ∷ 100 ∷ 61 ∷ 54 ∷ 48 ∷ 44 ∷ 49 ∷ 48 ∷ 48 ∷ []
+
+-- spare=10,10
+abbrev spare-line : List ℕ
+spare-line = 115 ∷ 112 ∷ 97 ∷ 114 ∷ 101 ∷ 61 ∷ 49 ∷ 48 ∷ 44 ∷ 49 ∷ 48 ∷ []
+
+-- unit=100,10,0,20,80,2,2,3,30,30,50,90,1,5
+abbrev first-unit : List ℕ
+first-unit = 117 ∷ 110 ∷ 105 ∷ 116 ∷ 61 ∷ 49 ∷ 48 ∷ 48 ∷ 44 ∷ 49 ∷ 48 ∷ 44 ∷ 48 ∷ 44 ∷ 50 ∷ 48 ∷ 44 ∷ 56 ∷ 48 ∷ 44 ∷ 50 ∷ 44 ∷ 50 ∷ 44 ∷ 51 ∷ 44 ∷ 51 ∷ 48 ∷ 44 ∷ 51 ∷ 48 ∷ 44 ∷ 53 ∷ 48 ∷ 44 ∷ 57 ∷ 48 ∷ 44 ∷ 49 ∷ 44 ∷ 53 ∷ []
+
+-- unit=40,14,0,10,50,1,1,-2,50,50,20,60,0,0
+abbrev second-unit : List ℕ
+second-unit = 117 ∷ 110 ∷ 105 ∷ 116 ∷ 61 ∷ 52 ∷ 48 ∷ 44 ∷ 49 ∷ 52 ∷ 44 ∷ 48 ∷ 44 ∷ 49 ∷ 48 ∷ 44 ∷ 53 ∷ 48 ∷ 44 ∷ 49 ∷ 44 ∷ 49 ∷ 44 ∷ 45 ∷ 50 ∷ 44 ∷ 53 ∷ 48 ∷ 44 ∷ 53 ∷ 48 ∷ 44 ∷ 50 ∷ 48 ∷ 44 ∷ 54 ∷ 48 ∷ 44 ∷ 48 ∷ 44 ∷ 48 ∷ []
+
+-- end=problem
+abbrev end-line : List ℕ
+end-line = 101 ∷ 110 ∷ 100 ∷ 61 ∷ 112 ∷ 114 ∷ 111 ∷ 98 ∷ 108 ∷ 101 ∷ 109 ∷ []
+
+abbrev unit-one : Generator
+unit-one = record { a = 100; b = 10; c = 0; pL = 20; pU = 80; TU = 2; TD = 2; on = true; since = 3; DR = 30; UR = 30; Hsc = 50; Csc = 90; Tcold = 1; Dc = 5 }
+
+abbrev unit-two : Generator
+unit-two = record { a = 40; b = 14; c = 0; pL = 10; pU = 50; TU = 1; TD = 1; on = false; since = 2; DR = 50; UR = 50; Hsc = 20; Csc = 60; Tcold = 0; Dc = 0 }
+
+abbrev pub example : Instance
+example = record { periods = 2; demand = 60 ∷ 100 ∷ []; spare = 10 ∷ 10 ∷ []; units = unit-one ∷ unit-two ∷ [] }
+
+-- its bytes
+abbrev pub example-text : List ℕ
+example-text = text-of (kind-line ∷ periods-line ∷ units-line ∷ demand-line ∷ spare-line ∷ first-unit ∷ second-unit ∷ end-line ∷ [])
+
+pub example-accepted : problem-judged example-text ≡ accepted example
+unfolding problem-judged judged-from judge malformed wrongCount outOfRange unit-of ordered
+example-accepted = refl
+
+pub example-kind : IsProblem example-text
+unfolding kindOf
+example-kind = refl
+
+pub example-rendered : render example ≡ example-text
+unfolding render lines-after unit-line digits digitsBy
+example-rendered = refl
+
+pub example-formed : WellFormed example
+example-formed = accepted-rendered example example-text example-kind example-accepted .1
+
+-- ---- damaged ones
+
+-- the second line is missing: 12, line 2
+no-second-line : problem-judged (text-of (kind-line ∷ [])) ≡ refused-at 12 2
+unfolding problem-judged judged-from judge malformed wrongCount outOfRange unit-of ordered
+no-second-line = refl
+
+-- periods=49: 13, line 2
+too-many-periods : problem-judged (text-of (kind-line ∷ (112 ∷ 101 ∷ 114 ∷ 105 ∷ 111 ∷ 100 ∷ 115 ∷ 61 ∷ 52 ∷ 57 ∷ []) ∷ [])) ≡ refused-at 13 2
+unfolding problem-judged judged-from judge malformed wrongCount outOfRange unit-of ordered
+too-many-periods = refl
+
+-- thirteen values, of which Tini is 0: 14, line 6
+count-before-range : problem-judged (text-of (kind-line ∷ periods-line ∷ units-line ∷ demand-line ∷ spare-line ∷ (117 ∷ 110 ∷ 105 ∷ 116 ∷ 61 ∷ 49 ∷ 48 ∷ 48 ∷ 44 ∷ 49 ∷ 48 ∷ 44 ∷ 48 ∷ 44 ∷ 50 ∷ 48 ∷ 44 ∷ 56 ∷ 48 ∷ 44 ∷ 50 ∷ 44 ∷ 50 ∷ 44 ∷ 48 ∷ 44 ∷ 51 ∷ 48 ∷ 44 ∷ 51 ∷ 48 ∷ 44 ∷ 53 ∷ 48 ∷ 44 ∷ 57 ∷ 48 ∷ 44 ∷ 49 ∷ []) ∷ [])) ≡ refused-at 14 6
+unfolding problem-judged judged-from judge malformed wrongCount outOfRange unit-of ordered
+count-before-range = refl
+
+-- a minus at the seventh value: 12, line 6
+minus-misplaced : problem-judged (text-of (kind-line ∷ periods-line ∷ units-line ∷ demand-line ∷ spare-line ∷ (117 ∷ 110 ∷ 105 ∷ 116 ∷ 61 ∷ 49 ∷ 48 ∷ 48 ∷ 44 ∷ 49 ∷ 48 ∷ 44 ∷ 48 ∷ 44 ∷ 50 ∷ 48 ∷ 44 ∷ 56 ∷ 48 ∷ 44 ∷ 50 ∷ 44 ∷ 45 ∷ 50 ∷ 44 ∷ 51 ∷ 44 ∷ 51 ∷ 48 ∷ 44 ∷ 51 ∷ 48 ∷ 44 ∷ 53 ∷ 48 ∷ 44 ∷ 57 ∷ 48 ∷ 44 ∷ 49 ∷ 44 ∷ 53 ∷ []) ∷ [])) ≡ refused-at 12 6
+unfolding problem-judged judged-from judge malformed wrongCount outOfRange unit-of ordered
+minus-misplaced = refl
+
+-- pL above pU: 15, line 7
+limits-crossed : problem-judged (text-of (kind-line ∷ periods-line ∷ units-line ∷ demand-line ∷ spare-line ∷ first-unit ∷ (117 ∷ 110 ∷ 105 ∷ 116 ∷ 61 ∷ 52 ∷ 48 ∷ 44 ∷ 49 ∷ 52 ∷ 44 ∷ 48 ∷ 44 ∷ 54 ∷ 48 ∷ 44 ∷ 53 ∷ 48 ∷ 44 ∷ 49 ∷ 44 ∷ 49 ∷ 44 ∷ 45 ∷ 50 ∷ 44 ∷ 53 ∷ 48 ∷ 44 ∷ 53 ∷ 48 ∷ 44 ∷ 50 ∷ 48 ∷ 44 ∷ 54 ∷ 48 ∷ 44 ∷ 48 ∷ 44 ∷ 48 ∷ []) ∷ [])) ≡ refused-at 15 7
+unfolding problem-judged judged-from judge malformed wrongCount outOfRange unit-of ordered
+limits-crossed = refl
+
+-- a byte 10 after the end line: 12, line 9
+one-byte-over : problem-judged (text-of (kind-line ∷ periods-line ∷ units-line ∷ demand-line ∷ spare-line ∷ first-unit ∷ second-unit ∷ end-line ∷ [] ∷ [])) ≡ refused-at 12 9
+unfolding problem-judged judged-from judge malformed wrongCount outOfRange unit-of ordered
+one-byte-over = refl

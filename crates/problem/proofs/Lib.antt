@@ -1,0 +1,15 @@
+pub mod Judging
+pub mod Following
+pub mod UnitRows
+pub mod Fleets
+pub mod Ends
+pub mod FirstLine
+pub mod Refusals
+pub mod UnitLines
+pub mod Signs
+pub mod Texts
+pub mod PlainLines
+pub mod Rendered
+pub mod WasRendered
+pub mod Acceptance
+pub mod Examples

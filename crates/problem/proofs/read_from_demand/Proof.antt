@@ -1,0 +1,65 @@
+use Prim.Native.Nat.{ℕ}
+use native.Mathlib.Omega.{arith}
+use mathlib.Core.Path.{refl, ap, _∙_}
+use mathlib.Core.List.{List}
+use Rattle.text.specs.Lines.{lineAt}
+use Rattle.problem.specs.Rendering.{demand-key}
+use Rattle.problem.specs.Course.{demand-due, spare-due, demand-form}
+use Rattle.problem.specs.Following.{read-from}
+use Rattle.problem.proofs.Following.{line-refused, line-good, row-holds}
+use borrow.Author.Needs.{needs}
+use Rattle.problem.proofs.read_from_demand.Statement.{statement}
+use Rattle.problem.proofs.read_from_demand.Tie as tie
+
+slice-aggregate-read-row : tie.Need-slice-aggregate-read-row
+slice-aggregate-read-row c = search needs
+
+read-row-requires : tie.Need-read-row-requires
+read-row-requires c κs = search needs
+
+enum-known-verdict : tie.Need-enum-known-verdict
+enum-known-verdict c = search needs
+
+refuse-text-requires : tie.Need-refuse-text-requires
+refuse-text-requires c κs = search needs
+
+enum-known-verdict-2 : tie.Need-enum-known-verdict-2
+enum-known-verdict-2 c = search needs
+
+read-from-spare-requires : tie.Need-read-from-spare-requires
+read-from-spare-requires c κs =
+    let st = c .before .before .before .before .before .before .before in
+    let a = st .args in
+    let row = c .before .before .before .before .read-row in
+    let h = row-holds demand-key (a .periods) 0 320000 (lineAt (a .s .now) (a .at)) (a .at) _ (row .result) (row .ensures) (c .before .before .verdict2 .given .1) in
+    (st .pre .0, (st .pre .1, h .holds))
+
+returns : tie.Need-returns
+returns c =
+    let a = c .before .before .before .before .before .before .before .args in
+    let row = c .before .before .before .before .read-row in
+    c .refuse-text .ensures ∙ line-refused (a .s .now) (a .at) 4 (demand-due (a .periods) (a .units)) (demand-form (a .periods)) refl (row .result) (row .ensures) _ refl (c .before .before .verdict .given .1)
+
+returns-2 : tie.Need-returns-2
+returns-2 c =
+    let a = c .before .before .before .before .before .before .before .before .args in
+    let row = c .before .before .before .before .before .read-row in
+    let next = c .before .before .before .verdict2 .given .0 .0 in
+    let v = c .before .before .before .verdict2 .given .1 in
+    let h = row-holds demand-key (a .periods) 0 320000 (lineAt (a .s .now) (a .at)) (a .at) _ (row .result) (row .ensures) v in
+    c .read-from-spare .ensures
+    ∙ ap (λ (D : List ℕ). read-from (a .s .now) next 5 (spare-due (a .periods) (a .units) D)) (h .values)
+    ∙ line-good (a .s .now) (a .at) 4 (demand-due (a .periods) (a .units)) (demand-form (a .periods)) refl (row .result) (row .ensures) _ v refl
+
+pub read-from-demand-spec : {M : Type 1} → statement M
+read-from-demand-spec =
+    tie.close
+    (tie.spec
+    slice-aggregate-read-row
+    read-row-requires
+    enum-known-verdict
+    refuse-text-requires
+    enum-known-verdict-2
+    read-from-spare-requires
+    returns
+    returns-2)

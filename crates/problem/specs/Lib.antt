@@ -1,0 +1,7 @@
+-- A problem's text.
+pub mod Units
+pub mod Rendering
+pub mod Course
+pub mod Refusals
+pub mod Reading
+pub mod Following

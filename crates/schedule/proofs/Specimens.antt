@@ -1,0 +1,110 @@
+-- Document 01, Specimens: schedules' texts on its problem, answered by computing.
+use Prim.Native.Nat.{ℕ}
+use mathlib.Core.Path.{_≡_, refl}
+use mathlib.Core.List.{List, [], _∷_, _++_, map}
+use lib.Dec.{lit≤}
+use Rattle.decimal.specs.Decimal.{digits, digitsBy}
+use Rattle.model.specs.Examples.{example, unit1, unit2, rows}
+use Rattle.model.specs.Ranges.{WellFormed, costs-in-range, outputs-in-range, times-in-range, in-range, ordered}
+use Rattle.model.proofs.RangeTests.{in-range-is, ordered-is}
+use Rattle.model.specs.Rules.{output, capacity}
+use Rattle.model.specs.Cost.{cost, row-cost}
+use Rattle.model.specs.Breach.{first-breach}
+use Rattle.refusal.specs.Refusals.{refusalOf, carriesLine, carriesUnit, carriesPeriod}
+use Rattle.text.specs.Lines.{kindOf, kindSchedule, endSchedule}
+use Rattle.text.specs.Forms.{malformed, wrongCount, outOfRange}
+use Rattle.text.specs.Course.{judged-from}
+use Rattle.schedule.specs.Rendering.{text-of, writer-key, run-key, plain-line, render}
+use Rattle.schedule.specs.Awaited.{found}
+use Rattle.schedule.specs.Course.{judge, schedule-judged}
+use Rattle.schedule.specs.Reading.{IsSchedule, Outcome, refused-by, accepted-as, schedule-outcome}
+use Rattle.schedule.specs.Answers.{at-line, at-breach, Accepts, Breaks}
+use Rattle.schedule.proofs.Wholes.{render-is-schedule}
+use Rattle.schedule.proofs.Outcomes.{accepted-is, refused-rule-is}
+
+-- the text of document 01's schedule, byte by byte
+abbrev text : List ℕ
+text =
+    107 ∷ 105 ∷ 110 ∷ 100 ∷ 61 ∷ 115 ∷ 99 ∷ 104 ∷ 101 ∷ 100 ∷ 117 ∷ 108 ∷ 101 ∷ 10 ∷
+    119 ∷ 114 ∷ 105 ∷ 116 ∷ 101 ∷ 114 ∷ 61 ∷ 55 ∷ 10 ∷
+    114 ∷ 117 ∷ 110 ∷ 61 ∷ 54 ∷ 48 ∷ 44 ∷ 56 ∷ 48 ∷ 10 ∷
+    114 ∷ 117 ∷ 110 ∷ 61 ∷ 48 ∷ 44 ∷ 50 ∷ 48 ∷ 10 ∷
+    101 ∷ 110 ∷ 100 ∷ 61 ∷ 115 ∷ 99 ∷ 104 ∷ 101 ∷ 100 ∷ 117 ∷ 108 ∷ 101 ∷ 10 ∷ []
+
+rendered : render 7 (rows (60 ∷ 80 ∷ []) (0 ∷ 20 ∷ [])) ≡ text
+unfolding render digits digitsBy
+rendered = refl
+
+-- ---- accepted, and refused by a rule
+
+specimens : map (schedule-outcome example) (
+    text ∷ render 65535 (rows (50 ∷ 80 ∷ []) (10 ∷ 20 ∷ [])) ∷ render 1 (rows (49 ∷ 80 ∷ []) (11 ∷ 20 ∷ [])) ∷ render 1 (rows (59 ∷ 80 ∷ []) (0 ∷ 20 ∷ []))
+    ∷ render 1 (rows (60 ∷ 80 ∷ []) (0 ∷ 9 ∷ [])) ∷ [])
+    ≡ accepted-as 7 1980 (rows (60 ∷ 80 ∷ []) (0 ∷ 20 ∷ [])) ∷ accepted-as 65535 2060 (rows (50 ∷ 80 ∷ []) (10 ∷ 20 ∷ []))
+    ∷ refused-by (at-breach (record { number = 25; unit = 1; period = 2 })) ∷ refused-by (at-breach (record { number = 22; unit = 0; period = 1 }))
+    ∷ refused-by (at-breach (record { number = 21; unit = 2; period = 2 })) ∷ []
+unfolding schedule-outcome schedule-judged judged-from judge found malformed wrongCount outOfRange first-breach output capacity cost row-cost refusalOf carriesLine carriesUnit carriesPeriod render digits digitsBy
+specimens = refl
+
+-- ---- refused at a line
+
+-- a text of the kind with these lines after its first
+abbrev with-lines : List (List ℕ) → List ℕ
+with-lines bs = text-of (kindSchedule ∷ bs)
+
+abbrev writer : ℕ → List ℕ
+writer w = plain-line writer-key (w ∷ [])
+
+abbrev run : List ℕ → List ℕ
+run r = plain-line run-key r
+
+-- nothing after the first line; writer 0 and 65,536; two writers; one output; output 10,001; a run line too few, one too many; no end
+-- line; byte 10 after the end line; the end line without its byte 10
+damaged : map (schedule-outcome example) (
+    with-lines [] ∷ with-lines (writer 0 ∷ []) ∷ with-lines (writer 65536 ∷ []) ∷ with-lines (plain-line writer-key (7 ∷ 7 ∷ []) ∷ [])
+    ∷ with-lines (writer 7 ∷ run (60 ∷ []) ∷ []) ∷ with-lines (writer 7 ∷ run (60 ∷ 80 ∷ []) ∷ run (0 ∷ 10001 ∷ []) ∷ [])
+    ∷ with-lines (writer 7 ∷ run (60 ∷ 80 ∷ []) ∷ endSchedule ∷ [])
+    ∷ with-lines (writer 7 ∷ run (60 ∷ 80 ∷ []) ∷ run (0 ∷ 20 ∷ []) ∷ run (0 ∷ 20 ∷ []) ∷ endSchedule ∷ [])
+    ∷ with-lines (writer 7 ∷ run (60 ∷ 80 ∷ []) ∷ run (0 ∷ 20 ∷ []) ∷ [])
+    ∷ (text ++ (10 ∷ [])) ∷ (with-lines (writer 7 ∷ run (60 ∷ 80 ∷ []) ∷ run (0 ∷ 20 ∷ []) ∷ []) ++ endSchedule) ∷ [])
+    ≡ map refused-by (
+    at-line 12 2 ∷ at-line 13 2 ∷ at-line 13 2 ∷ at-line 14 2 ∷ at-line 14 3 ∷ at-line 13 4 ∷ at-line 12 4 ∷ at-line 12 5 ∷ at-line 12 5 ∷ at-line 12 6
+    ∷ at-line 12 5 ∷ [])
+unfolding schedule-outcome schedule-judged judged-from judge found malformed wrongCount outOfRange first-breach output capacity cost row-cost refusalOf carriesLine carriesUnit carriesPeriod render digits digitsBy
+damaged = refl
+
+-- ---- the premises of the laws can be met
+
+example-good : WellFormed example
+unfolding in-range costs-in-range outputs-in-range times-in-range ordered
+example-good = record {
+  periods-in = (lit≤ tt, lit≤ tt);
+  units-in = (lit≤ tt, lit≤ tt);
+  demand-long = refl;
+  demand-in = ((lit≤ tt, lit≤ tt), ((lit≤ tt, lit≤ tt), tt));
+  spare-long = refl;
+  spare-in = ((lit≤ tt, lit≤ tt), ((lit≤ tt, lit≤ tt), tt));
+  units-good = (
+    record { in-range = in-range-is unit1 .0 tt; ordered = ordered-is unit1 .0 tt },
+    (record { in-range = in-range-is unit2 .0 tt; ordered = ordered-is unit2 .0 tt }, tt),
+  );
+}
+
+text-kind : IsSchedule text
+unfolding kindOf
+text-kind = refl
+
+-- document 01's schedule renders rows that meet the rules, and its text is accepted for that
+text-accepts : Accepts example text 7 1980 (rows (60 ∷ 80 ∷ []) (0 ∷ 20 ∷ []))
+text-accepts = accepted-is example example-good text text-kind 7 1980 (rows (60 ∷ 80 ∷ []) (0 ∷ 20 ∷ [])) .0 (first specimens)
+  where
+    first : {x y : Outcome} {xs ys : List Outcome} → x ∷ xs ≡ y ∷ ys → x ≡ y
+    first e = cc
+
+-- a rise of 31 breaks 25 first
+steep : Breaks example (render 1 (rows (49 ∷ 80 ∷ []) (11 ∷ 20 ∷ []))) (record { number = 25; unit = 1; period = 2 })
+steep =
+    refused-rule-is example example-good _ (render-is-schedule 1 (rows (49 ∷ 80 ∷ []) (11 ∷ 20 ∷ []))) (record { number = 25; unit = 1; period = 2 }) .0 (third specimens)
+  where
+    third : {a b c x y z : Outcome} {xs ys : List Outcome} → a ∷ b ∷ c ∷ xs ≡ x ∷ y ∷ z ∷ ys → c ≡ z
+    third e = cc

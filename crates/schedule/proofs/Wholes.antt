@@ -1,0 +1,73 @@
+-- A text is accepted line by line exactly where it renders a writer and rows in range; so a rendering in range says whose rows it renders.
+use Prim.Native.Nat.{ℕ}
+use native.Mathlib.Omega.{arith}
+use mathlib.Core.Path.{_≡_, refl, sym, ap, _∙_}
+use mathlib.Core.Bool.{true, false}
+use mathlib.Core.Logic.{_↔_}
+use mathlib.Core.List.{List, [], _∷_, _++_, map}
+use Rattle.model.specs.Instance.{Instance, Schedule}
+use Rattle.model.specs.Ranges.{All, GoodWriter, GoodRows, WellFormed}
+use Rattle.text.specs.Lines.{Line, ended, due, later, linesOf, lineAt, oneLine, isLine, kindOf, kindProblem, kindSchedule, endSchedule}
+use Rattle.text.specs.Course.{accepted}
+use Rattle.text.specs.declared.Kind.the-variants as kind
+use Rattle.text.proofs.Words.{word-is, is-word, kind-schedule}
+use Rattle.text.proofs.Bytes.{one-line}
+use Rattle.text.proofs.Courses as courses
+use Rattle.schedule.specs.Rendering.{writer-key, run-key, plain-line, text-of, lines-of-rows, lines-after, render}
+use Rattle.schedule.specs.Course.{Written, written, writer-due, judge, end, schedule-judged}
+use Rattle.schedule.specs.Reading.{IsSchedule}
+use Rattle.schedule.proofs.Texts.{lines-text, text-lines}
+use Rattle.schedule.proofs.Opening.{kind-is}
+use Rattle.schedule.proofs.Rendered.{lines-good-is}
+
+-- ---- the lines of a rendering
+
+rows-one : (s : Schedule) → All (λ b. oneLine b ≡ true) (lines-of-rows s)
+rows-one [] = (refl, tt)
+rows-one (r ∷ s) = (one-line run-key 0 false r refl, rows-one s)
+
+pub lines-rendered : (w : ℕ) (s : Schedule) → linesOf (render w s) ≡ ended kindSchedule ∷ map ended (lines-after w s)
+unfolding render
+lines-rendered w s = lines-text (kindSchedule ∷ lines-after w s) (refl, (one-line writer-key 0 false (w ∷ []) refl, rows-one s))
+
+-- its first line says the kind
+pub render-is-schedule : (w : ℕ) (s : Schedule) → IsSchedule (render w s)
+render-is-schedule w s = ap (λ (ls : List Line). kindOf (due ls)) (lines-rendered w s) ∙ sym (kind-schedule (ended kindSchedule) refl refl)
+
+-- a text with these lines after its first is the rendering
+after-first : (ls : List Line) (b : List ℕ) → due ls ≡ ended b → ls ≡ ended b ∷ later ls
+after-first [] b e = absurd (let z : _≡_ {A = ℕ} 0 1 = cc in omega arith)
+after-first (l ∷ ls) b e = ap (λ (x : Line). x ∷ ls) e
+
+rendered-is : (text : List ℕ) → IsSchedule text → (w : ℕ) (s : Schedule) → (later (linesOf text) ≡ map ended (lines-after w s)) ↔ (text ≡ render w s)
+unfolding render
+rendered-is text is w s = (
+  λ e. text-lines (kindSchedule ∷ lines-after w s) text
+      (after-first (linesOf text) kindSchedule (word-is kindSchedule (lineAt text 0) (kind-is (lineAt text 0) is)) ∙ ap (λ (ls : List Line). ended kindSchedule ∷ ls) e),
+  λ e. ap (λ (t : List ℕ). later (linesOf t)) e ∙ ap later (lines-rendered w s),
+)
+
+-- ---- accepted line by line
+
+module _ (P : Instance) (W : WellFormed P) where
+  pub judged-is : (text : List ℕ) → IsSchedule text → (w : ℕ) (s : Schedule)
+      → (schedule-judged P text ≡ accepted (written w s)) ↔ ((text ≡ render w s) × (GoodWriter w × GoodRows P s))
+  unfolding schedule-judged
+  judged-is text is w s =
+      let a = courses.accepted-is (judge P) end (written w s) 2 writer-due (later (linesOf text)) in
+      let g = lines-good-is P (W .periods-in .0) w s (later (linesOf text)) in
+      let r = rendered-is text is w s in
+      (
+        (λ e. let p = g .0 (a .0 e) in (r .0 (p .0), p .1)),
+        (λ p. a .1 (g .1 (r .1 (p .0), p .1))),
+      )
+
+  -- a rendering in range renders one writer and one schedule
+  pub render-injective : (w w′ : ℕ) (s s′ : Schedule) → GoodWriter w → GoodRows P s → GoodWriter w′ → GoodRows P s′ → render w s ≡ render w′ s′
+      → (w ≡ w′) × (s ≡ s′)
+  render-injective w w′ s s′ ok rows ok′ rows′ e =
+      let is = render-is-schedule w s in
+      let p = judged-is (render w s) is w s .1 (refl, (ok, rows)) in
+      let q = judged-is (render w s) is w′ s′ .1 (e, (ok′, rows′)) in
+      let same : written w s ≡ written w′ s′ = let z = sym p ∙ q in cc in
+      (ap (λ (v : Written). v .writer) same, ap (λ (v : Written). v .rows) same)

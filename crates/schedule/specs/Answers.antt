@@ -1,0 +1,66 @@
+-- When a schedule's text is accepted and when it is refused, in document 01's words: renderings, ranges, rules and the tests of a line.
+use Prim.Native.Nat.{ℕ, _+_}
+use mathlib.Core.Path.{_≡_}
+use mathlib.Core.List.{List, [], _++_}
+use mathlib.Core.Option.{none}
+use lib.ListN.{length}
+use Rattle.model.specs.Instance.{Instance, Schedule}
+use Rattle.model.specs.Ranges.{GoodWriter, GoodRows}
+use Rattle.model.specs.Rules.{Meets}
+use Rattle.model.specs.Cost.{cost}
+use Rattle.model.specs.Breach.{Breach}
+use Rattle.model.specs.Broken.{Broken, Lower}
+use Rattle.refusal.specs.declared.Refusal.{Refusal}
+use Rattle.text.specs.Lines.{Line, due, later, linesOf}
+use Rattle.text.specs.Course.{Good}
+use Rattle.schedule.specs.Rendering.{render}
+use Rattle.schedule.specs.Awaited.{FirstTest}
+use Rattle.schedule.specs.Course.{Due, writer-due, awaited, judge, end}
+
+-- the refusal of a line, and that of a broken rule
+abbrev pub at-line : ℕ → ℕ → Refusal
+at-line n l = record { number = n; line = l; unit = 0; period = 0 }
+
+abbrev pub at-breach : Breach → Refusal
+at-breach b = record { number = b .number; line = 0; unit = b .unit; period = b .period }
+
+module _ (P : Instance) (text : List ℕ) where
+  -- the text renders a writer and rows in range, which meet the rules and cost c
+  pub record Accepts (w c : ℕ) (s : Schedule) : Type 0 where
+    pub renders : text ≡ render w s
+    pub writer-in : GoodWriter w
+    pub rows-in : GoodRows P s
+    pub meets : Meets P s
+    pub cost-is : c ≡ cost P s
+
+  pub record AcceptsSome : Type 0 where
+    pub writer : ℕ
+    pub cost : ℕ
+    pub rows : Schedule
+    pub accepts : Accepts writer cost rows
+
+  -- the text renders a writer and rows in range, and of the rules that the rows break b is the first
+  pub record Breaks (b : Breach) : Type 0 where
+    pub writer : ℕ
+    pub rows : Schedule
+    pub renders : text ≡ render writer rows
+    pub writer-in : GoodWriter writer
+    pub rows-in : GoodRows P rows
+    pub broken : Broken P rows b
+    pub first : (c : Breach) → Lower c b → Broken P rows c → ⊥
+
+  -- every line before line l is good at its place, and n is the first of 12, 14, 13 whose test holds of line l, which may be missing
+  pub record RefusesLine (n l : ℕ) : Type 0 where
+    pub before : List Line
+    pub after : List Line
+    pub due-there : Due
+    pub parts : later (linesOf text) ≡ before ++ after
+    pub good-before : Good (judge P) end writer-due before due-there
+    pub place : l ≡ 2 + length before
+    pub no-end : after ≡ [] → end due-there ≡ none
+    pub test : FirstTest (awaited P due-there) (due after) n
+
+  -- the refusals that meet the text
+  pub data Refuses : Refusal → Type 0 where
+    by-line : (n l : ℕ) → RefusesLine n l → Refuses (at-line n l)
+    by-rule : (b : Breach) → Breaks b → Refuses (at-breach b)

@@ -1,0 +1,17 @@
+pub mod Fields
+pub mod Reading
+pub mod Cuts
+pub mod Keys
+pub mod Words
+pub mod FirstLine
+pub mod Ranges
+pub mod Joins
+pub mod Scanned
+pub mod Rows
+pub mod Verdicts
+pub mod Shown
+pub mod Bytes
+pub mod Accepted
+pub mod Plain
+pub mod Examples
+pub mod Courses

@@ -1,0 +1,291 @@
+// Lines of a text: `key=value`, the values decimal numbers joined by commas, each line ended by byte 10.
+ghost use mathlib.Core.Path.{_≡_};
+ghost use mathlib.Core.Bool.{true, _||_};
+ghost use Prim.Native.Nat.{ℕ, _+_, _≤_, _<_};
+ghost use lib.ListN.{length, drop, set};
+ghost use Rattle.decimal.specs.Reading.{cap};
+ghost use Rattle.text.specs.Lines.{oneLine, begins, lineAt, isLine, kindOf};
+ghost use Rattle.text.specs.Forms.{byteIs, withinAll, belowAll, noRow, rowOf, form, plain};
+ghost use Rattle.text.specs.Scan.{endedAt, fieldAt, valuesAt};
+use decimal::Number;
+
+// A value at a place: malformed, or its size, whether it has a minus, the place after the byte that ends it, and whether
+// that byte ends the line.
+enum Field {
+    Broken,
+    Ended {
+        size: u64,
+        minus: bool,
+        next: usize,
+        last: bool,
+    },
+}
+
+// The values up to a line's end: one is malformed or no end is there, or how many they are, the next line's start, and
+// whether one has a minus.
+enum Values {
+    Wrong,
+    Read {
+        count: usize,
+        next: usize,
+        minus: bool,
+    },
+}
+
+// What a line is at its place: refused by a number, 12, 14 or 13, or good, with the next line's start.
+pub enum Verdict {
+    Refused { number: u64 },
+    Good { next: usize },
+}
+
+// A line of numbers: what it is, whether the value that may carry a minus does, and the values without the sign. Where the
+// line is not good, no minus and zeros.
+pub struct Row {
+    pub verdict: Verdict,
+    pub minus: bool,
+    pub values: [u64; 48],
+}
+
+// What a text's first line says.
+pub enum Kind {
+    Unknown,
+    Problem,
+    Schedule,
+    Tree,
+}
+
+// Whether the byte b stands at the place `at`.
+fn byte_is(s: &[u8], at: usize, b: u8) -> bool
+    ensures { λ r. ⌜ r ≡ byteIs (drop at (now (s .entry))) b ⌝ }
+{
+    if at < s.len() {
+        let x = s[at];
+        x == b
+    } else {
+        false
+    }
+}
+
+// Whether the bytes of key stand at the place `at`.
+pub fn starts(s: &[u8], at: usize, key: &[u8]) -> bool
+    ensures { λ r. ⌜ r ≡ begins (now (key .entry)) (drop at (now (s .entry))) ⌝ }
+{
+    let mut i = at;
+    let mut j = 0;
+    while j < key.len() {
+        if byte_is(s, i, key[j]) {
+            i += 1;
+            j += 1;
+        } else {
+            return false;
+        }
+    }
+    true
+}
+
+// Whether the line that starts at `at` is this word.
+pub fn is_line(s: &[u8], at: usize, word: &[u8]) -> bool
+    requires { ⌜ oneLine (now word) ≡ true ⌝ }
+    ensures { λ r. ⌜ r ≡ isLine (now (word .entry)) (lineAt (now (s .entry)) at) ⌝ }
+{
+    if starts(s, at, word) {
+        let end = at + word.len();
+        return byte_is(s, end, 10);
+    }
+    false
+}
+
+// What the first line of a text says.
+pub fn read_kind(s: &[u8]) -> Kind
+    ensures { λ r. ⌜ r ≡ kindOf (lineAt (now (s .entry)) 0) ⌝ }
+{
+    if is_line(s, 0, b"kind=problem") {
+        return Kind::Problem;
+    }
+    if is_line(s, 0, b"kind=schedule") {
+        return Kind::Schedule;
+    }
+    if is_line(s, 0, b"kind=tree") {
+        return Kind::Tree;
+    }
+    Kind::Unknown
+}
+
+// The value without a sign that starts at `at`.
+fn read_unsigned(s: &[u8], at: usize, minus: bool) -> Field
+    ensures { λ r. ⌜ r ≡ endedAt (now (s .entry)) at minus ⌝ }
+{
+    let n = decimal::read_number(s, at);
+    match n {
+        Number::Malformed => Field::Broken,
+        Number::Value { value, next } => {
+            if s.len() <= next {
+                return Field::Broken;
+            }
+            let b = s[next];
+            if b == 10 {
+                return Field::Ended {
+                    size: value,
+                    minus,
+                    next: next + 1,
+                    last: true,
+                };
+            }
+            if b == 44 {
+                return Field::Ended {
+                    size: value,
+                    minus,
+                    next: next + 1,
+                    last: false,
+                };
+            }
+            Field::Broken
+        }
+    }
+}
+
+// The value that starts at `at`, which may carry a minus where `signed` is true.
+fn read_field(s: &[u8], at: usize, signed: bool) -> Field
+    ensures { λ r. ⌜ r ≡ fieldAt (now (s .entry)) at signed ⌝ }
+{
+    if byte_is(s, at, 45) {
+        if signed {
+            let from = at + 1;
+            if byte_is(s, from, 48) {
+                return Field::Broken;
+            }
+            return read_unsigned(s, from, true);
+        }
+        return Field::Broken;
+    }
+    read_unsigned(s, at, false)
+}
+
+// Stores v at k where k is within out.
+fn put(out: &mut [u64], k: usize, v: u64)
+    ensures { λ _. ⌜ now (out .exit) ≡ set (now (out .entry)) k v ⌝ }
+{
+    if k < out.len() {
+        out[k] = v;
+    }
+}
+
+// Whether one of the two is true.
+fn either(a: bool, b: bool) -> bool
+    ensures { λ r. ⌜ r ≡ (a || b) ⌝ }
+{
+    if a {
+        return true;
+    }
+    b
+}
+
+// The values from `at` to the line's end, of which number `signed` may carry a minus. Those that fit are stored in out.
+fn read_values(s: &[u8], at: usize, signed: usize, out: &mut [u64]) -> Values
+    ensures answer { λ r. ⌜ r ≡ valuesAt (now (s .entry)) at signed (now (out .entry)) .answer ⌝ }
+    ensures stored { λ _. ⌜ now (out .exit) ≡ valuesAt (now (s .entry)) at signed (now (out .entry)) .out ⌝ }
+{
+    let mut i = at;
+    let mut k: usize = 0;
+    let mut minus = false;
+    while i < s.len() {
+        let number = k + 1;
+        let f = read_field(s, i, number == signed);
+        match f {
+            Field::Broken => {
+                return Values::Wrong;
+            }
+            Field::Ended {
+                size,
+                minus: m,
+                next,
+                last,
+            } => {
+                put(out, k, size);
+                k = number;
+                i = next;
+                minus = either(minus, m);
+                if last {
+                    return Values::Read {
+                        count: k,
+                        next: i,
+                        minus,
+                    };
+                }
+            }
+        }
+    }
+    Values::Wrong
+}
+
+// Whether each number of v is from its low to its high.
+fn all_within(v: &[u64], lows: &[u64], highs: &[u64]) -> bool
+    requires { ⌜ (length (now v) ≤ length (now lows)) × (length (now v) ≤ length (now highs)) ⌝ }
+    ensures { λ r. ⌜ r ≡ withinAll (now (v .entry)) (now (lows .entry)) (now (highs .entry)) ⌝ }
+{
+    let mut i = 0;
+    while i < v.len() {
+        let x = v[i];
+        if x < lows[i] {
+            return false;
+        }
+        if highs[i] < x {
+            return false;
+        }
+        i += 1;
+    }
+    true
+}
+
+// The row of a line that a number refuses.
+fn refused(number: u64) -> Row
+    ensures { λ r. ⌜ r ≡ noRow number ⌝ }
+{
+    Row {
+        verdict: Verdict::Refused { number },
+        minus: false,
+        values: [0; 48],
+    }
+}
+
+// The line that starts at `at` with key and has a value for each of lows, of which number `signed` may carry a minus.
+pub fn read_line(s: &[u8], at: usize, key: &[u8], signed: usize, lows: &[u64], highs: &[u64]) -> Row
+    requires { ⌜ (oneLine (now key) ≡ true) × ((length (now lows) ≤ 48) × ((length (now highs) ≡ length (now lows)) × (belowAll (now highs) ≡ true))) ⌝ }
+    ensures { λ r. ⌜ r ≡ rowOf (form (now (key .entry)) signed (now (lows .entry)) (now (highs .entry))) (lineAt (now (s .entry)) at) at ⌝ }
+{
+    let mut values = [0u64; 48];
+    let n = lows.len();
+    if starts(s, at, key) {
+        let from = at + key.len();
+        let v = read_values(s, from, signed, &mut values);
+        match v {
+            Values::Wrong => {
+                return refused(12);
+            }
+            Values::Read { count, next, minus } => {
+                if count != n {
+                    return refused(14);
+                }
+                if all_within(&values[..n], lows, highs) {
+                    return Row {
+                        verdict: Verdict::Good { next },
+                        minus,
+                        values,
+                    };
+                }
+                return refused(13);
+            }
+        }
+    }
+    refused(12)
+}
+
+// The line that starts at `at` with key and has n values, each from lo to hi.
+pub fn read_row(s: &[u8], at: usize, key: &[u8], n: usize, lo: u64, hi: u64) -> Row
+    requires { ⌜ (oneLine (now key) ≡ true) × ((n ≤ 48) × (hi < cap)) ⌝ }
+    ensures { λ r. ⌜ r ≡ rowOf (plain (now (key .entry)) n lo hi) (lineAt (now (s .entry)) at) at ⌝ }
+{
+    let lows = [lo; 48];
+    let highs = [hi; 48];
+    read_line(s, at, key, 0, &lows[..n], &highs[..n])
+}

@@ -1,0 +1,231 @@
+-- Document 01's example of a tree, accepted, and texts that each number refuses, computed on its problem.
+use mathlib.Core.Path.{_≡_, refl, sym, ap, _∙_}
+use mathlib.Core.Bool.{true, false}
+use mathlib.Core.List.{List, [], _∷_}
+use Prim.Native.Nat.{ℕ}
+use lib.Dec.{lit<, lit≤}
+use lib.IntN.{pos}
+use Rattle.decimal.specs.Decimal.{digits, digitsBy}
+use Rattle.model.specs.declared.generator.Generator.{Generator}
+use Rattle.model.specs.Instance.{Instance}
+use Rattle.model.specs.Above.{root, fix}
+use Rattle.model.specs.Cost.{row-cost}
+use Rattle.model.specs.Leaf.{available, rows-of, is-stuck, revenue, value, unit-least, units-least, requirement, leaf-value}
+use Rattle.model.specs.Tree.{Tree, split, short, price, Limits, Holds, number, bound, splits, leaves}
+use Rattle.text.specs.Lines.{Line, ended}
+use Rattle.text.specs.Course.{refused, good, accepted, refused-at, judged-from}
+use Rattle.text.specs.Forms.{malformed, wrongCount, outOfRange}
+use Rattle.tree.specs.Rendering.{numbers, split-key, node-lines, render}
+use Rattle.tree.specs.NodeLines.{kind-of, split-again, too-deep, not-short, not-stuck}
+use Rattle.tree.specs.Due.{Figures, by-writer, with-split, pending, nodes-due, tests, after-node, next, judge, judged}
+use Rattle.tree.specs.Answers.{figures-of}
+use Rattle.tree.proofs.Complete.{tree-accepted}
+
+-- ---- document 01's problem and tree
+
+abbrev first : Generator
+first = record { a = 100; b = 10; c = 0; pL = 20; pU = 80; TU = 2; TD = 2; on = true; since = 3; DR = 30; UR = 30; Hsc = 50; Csc = 90; Tcold = 1; Dc = 5 }
+
+abbrev second : Generator
+second = record { a = 40; b = 14; c = 0; pL = 10; pU = 50; TU = 1; TD = 1; on = false; since = 2; DR = 50; UR = 50; Hsc = 20; Csc = 60; Tcold = 0; Dc = 0 }
+
+abbrev problem : Instance
+problem = record { periods = 2; demand = 60 ∷ 100 ∷ []; spare = 10 ∷ 10 ∷ []; units = first ∷ second ∷ [] }
+
+abbrev tree : Tree
+tree = split 1 1 (short 1) (price (10 ∷ 14 ∷ []) (0 ∷ 0 ∷ []))
+
+-- kind=tree / writer=3 / split=2,2 / short=2 / price=10,14 / reserve=0,0 / end=tree
+abbrev text : List ℕ
+text =
+    107 ∷ 105 ∷ 110 ∷ 100 ∷ 61 ∷ 116 ∷ 114 ∷ 101 ∷ 101 ∷ 10 ∷
+    119 ∷ 114 ∷ 105 ∷ 116 ∷ 101 ∷ 114 ∷ 61 ∷ 51 ∷ 10 ∷
+    115 ∷ 112 ∷ 108 ∷ 105 ∷ 116 ∷ 61 ∷ 50 ∷ 44 ∷ 50 ∷ 10 ∷
+    115 ∷ 104 ∷ 111 ∷ 114 ∷ 116 ∷ 61 ∷ 50 ∷ 10 ∷
+    112 ∷ 114 ∷ 105 ∷ 99 ∷ 101 ∷ 61 ∷ 49 ∷ 48 ∷ 44 ∷ 49 ∷ 52 ∷ 10 ∷
+    114 ∷ 101 ∷ 115 ∷ 101 ∷ 114 ∷ 118 ∷ 101 ∷ 61 ∷ 48 ∷ 44 ∷ 48 ∷ 10 ∷
+    101 ∷ 110 ∷ 100 ∷ 61 ∷ 116 ∷ 114 ∷ 101 ∷ 101 ∷ 10 ∷ []
+
+written : render 3 tree ≡ text
+unfolding render node-lines digits digitsBy
+written = refl
+
+within : Limits problem root 0 tree
+unfolding Limits
+within = (lit< tt, lit< tt, refl, lit≤ tt, lit< tt, ((refl, ((lit≤ tt, lit≤ tt), ((lit≤ tt, lit≤ tt), tt))), (refl, ((lit≤ tt, lit≤ tt), ((lit≤ tt, lit≤ tt), tt)))))
+
+holds : Holds problem root tree
+unfolding Holds available is-stuck
+holds = ((lit< tt, lit< tt), tt)
+
+-- one split line and two leaves, and the bound of the tree
+pub accepted-tree : judged problem text ≡ accepted (record { writer = 3; bound = bound problem root tree; splits = 1; leaves = 2 })
+unfolding splits leaves
+accepted-tree = ap (judged problem) (sym written) ∙ tree-accepted problem (lit≤ tt) 3 tree (lit≤ tt, lit≤ tt) within holds
+
+pub bound-1980 : bound problem root tree ≡ number (pos 1980)
+unfolding bound leaf-value units-least unit-least rows-of value revenue requirement row-cost
+bound-1980 = refl
+
+-- ---- a lone price leaf 10,14 with reserve 0,2
+
+abbrev lone-price : Tree
+lone-price = price (10 ∷ 14 ∷ []) (0 ∷ 2 ∷ [])
+
+pub lone-price-accepted : judged problem (render 3 lone-price) ≡ accepted (record { writer = 3; bound = number (pos 1940); splits = 0; leaves = 1 })
+unfolding splits leaves Limits Holds is-stuck bound leaf-value units-least unit-least rows-of value revenue requirement row-cost
+lone-price-accepted =
+    tree-accepted problem (lit≤ tt) 3 lone-price (lit≤ tt, lit≤ tt)
+    ((refl, ((lit≤ tt, lit≤ tt), ((lit≤ tt, lit≤ tt), tt))), (refl, ((lit≤ tt, lit≤ tt), ((lit≤ tt, lit≤ tt), tt)))) tt
+
+-- ---- texts that are refused
+
+-- no second line
+abbrev no-writer : List ℕ
+no-writer =
+    107 ∷ 105 ∷ 110 ∷ 100 ∷ 61 ∷ 116 ∷ 114 ∷ 101 ∷ 101 ∷ 10 ∷ []
+
+no-writer-refused : judged problem no-writer ≡ refused-at 12 2
+unfolding judged judged-from judge tests next after-node kind-of malformed wrongCount outOfRange split-again too-deep not-short not-stuck available is-stuck
+no-writer-refused = refl
+
+-- writer=0
+abbrev writer-zero : List ℕ
+writer-zero =
+    107 ∷ 105 ∷ 110 ∷ 100 ∷ 61 ∷ 116 ∷ 114 ∷ 101 ∷ 101 ∷ 10 ∷
+    119 ∷ 114 ∷ 105 ∷ 116 ∷ 101 ∷ 114 ∷ 61 ∷ 48 ∷ 10 ∷ []
+
+writer-zero-refused : judged problem writer-zero ≡ refused-at 13 2
+unfolding judged judged-from judge tests next after-node kind-of malformed wrongCount outOfRange split-again too-deep not-short not-stuck available is-stuck
+writer-zero-refused = refl
+
+-- a lone short=2
+abbrev lone-short : List ℕ
+lone-short =
+    107 ∷ 105 ∷ 110 ∷ 100 ∷ 61 ∷ 116 ∷ 114 ∷ 101 ∷ 101 ∷ 10 ∷
+    119 ∷ 114 ∷ 105 ∷ 116 ∷ 101 ∷ 114 ∷ 61 ∷ 51 ∷ 10 ∷
+    115 ∷ 104 ∷ 111 ∷ 114 ∷ 116 ∷ 61 ∷ 50 ∷ 10 ∷
+    101 ∷ 110 ∷ 100 ∷ 61 ∷ 116 ∷ 114 ∷ 101 ∷ 101 ∷ 10 ∷ []
+
+lone-short-refused : judged problem lone-short ≡ refused-at 33 3
+unfolding judged judged-from judge tests next after-node kind-of malformed wrongCount outOfRange split-again too-deep not-short not-stuck available is-stuck
+lone-short-refused = refl
+
+-- a lone stuck=1
+abbrev lone-stuck : List ℕ
+lone-stuck =
+    107 ∷ 105 ∷ 110 ∷ 100 ∷ 61 ∷ 116 ∷ 114 ∷ 101 ∷ 101 ∷ 10 ∷
+    119 ∷ 114 ∷ 105 ∷ 116 ∷ 101 ∷ 114 ∷ 61 ∷ 51 ∷ 10 ∷
+    115 ∷ 116 ∷ 117 ∷ 99 ∷ 107 ∷ 61 ∷ 49 ∷ 10 ∷
+    101 ∷ 110 ∷ 100 ∷ 61 ∷ 116 ∷ 114 ∷ 101 ∷ 101 ∷ 10 ∷ []
+
+lone-stuck-refused : judged problem lone-stuck ≡ refused-at 34 3
+unfolding judged judged-from judge tests next after-node kind-of malformed wrongCount outOfRange split-again too-deep not-short not-stuck available is-stuck
+lone-stuck-refused = refl
+
+-- split=0,1
+abbrev no-unit : List ℕ
+no-unit =
+    107 ∷ 105 ∷ 110 ∷ 100 ∷ 61 ∷ 116 ∷ 114 ∷ 101 ∷ 101 ∷ 10 ∷
+    119 ∷ 114 ∷ 105 ∷ 116 ∷ 101 ∷ 114 ∷ 61 ∷ 51 ∷ 10 ∷
+    115 ∷ 112 ∷ 108 ∷ 105 ∷ 116 ∷ 61 ∷ 48 ∷ 44 ∷ 49 ∷ 10 ∷ []
+
+no-unit-refused : judged problem no-unit ≡ refused-at 13 3
+unfolding judged judged-from judge tests next after-node kind-of malformed wrongCount outOfRange split-again too-deep not-short not-stuck available is-stuck
+no-unit-refused = refl
+
+-- split=3: one value, and out of range
+abbrev one-value : List ℕ
+one-value =
+    107 ∷ 105 ∷ 110 ∷ 100 ∷ 61 ∷ 116 ∷ 114 ∷ 101 ∷ 101 ∷ 10 ∷
+    119 ∷ 114 ∷ 105 ∷ 116 ∷ 101 ∷ 114 ∷ 61 ∷ 51 ∷ 10 ∷
+    115 ∷ 112 ∷ 108 ∷ 105 ∷ 116 ∷ 61 ∷ 51 ∷ 10 ∷ []
+
+one-value-refused : judged problem one-value ≡ refused-at 14 3
+unfolding judged judged-from judge tests next after-node kind-of malformed wrongCount outOfRange split-again too-deep not-short not-stuck available is-stuck
+one-value-refused = refl
+
+-- end=tree where a node is due
+abbrev no-tree : List ℕ
+no-tree =
+    107 ∷ 105 ∷ 110 ∷ 100 ∷ 61 ∷ 116 ∷ 114 ∷ 101 ∷ 101 ∷ 10 ∷
+    119 ∷ 114 ∷ 105 ∷ 116 ∷ 101 ∷ 114 ∷ 61 ∷ 51 ∷ 10 ∷
+    101 ∷ 110 ∷ 100 ∷ 61 ∷ 116 ∷ 114 ∷ 101 ∷ 101 ∷ 10 ∷ []
+
+no-tree-refused : judged problem no-tree ≡ refused-at 12 3
+unfolding judged judged-from judge tests next after-node kind-of malformed wrongCount outOfRange split-again too-deep not-short not-stuck available is-stuck
+no-tree-refused = refl
+
+-- the first tree under split=1,1 begins with split=1,1
+abbrev split-twice : List ℕ
+split-twice =
+    107 ∷ 105 ∷ 110 ∷ 100 ∷ 61 ∷ 116 ∷ 114 ∷ 101 ∷ 101 ∷ 10 ∷
+    119 ∷ 114 ∷ 105 ∷ 116 ∷ 101 ∷ 114 ∷ 61 ∷ 51 ∷ 10 ∷
+    115 ∷ 112 ∷ 108 ∷ 105 ∷ 116 ∷ 61 ∷ 49 ∷ 44 ∷ 49 ∷ 10 ∷
+    115 ∷ 112 ∷ 108 ∷ 105 ∷ 116 ∷ 61 ∷ 49 ∷ 44 ∷ 49 ∷ 10 ∷ []
+
+split-twice-refused : judged problem split-twice ≡ refused-at 31 4
+unfolding judged judged-from judge tests next after-node kind-of malformed wrongCount outOfRange split-again too-deep not-short not-stuck available is-stuck
+split-twice-refused = refl
+
+-- unit 1 off in period 1 and on in period 2, against TD: at the reserve line
+abbrev stuck-unit : List ℕ
+stuck-unit =
+    107 ∷ 105 ∷ 110 ∷ 100 ∷ 61 ∷ 116 ∷ 114 ∷ 101 ∷ 101 ∷ 10 ∷
+    119 ∷ 114 ∷ 105 ∷ 116 ∷ 101 ∷ 114 ∷ 61 ∷ 51 ∷ 10 ∷
+    115 ∷ 112 ∷ 108 ∷ 105 ∷ 116 ∷ 61 ∷ 49 ∷ 44 ∷ 49 ∷ 10 ∷
+    115 ∷ 112 ∷ 108 ∷ 105 ∷ 116 ∷ 61 ∷ 49 ∷ 44 ∷ 50 ∷ 10 ∷
+    112 ∷ 114 ∷ 105 ∷ 99 ∷ 101 ∷ 61 ∷ 49 ∷ 44 ∷ 49 ∷ 10 ∷
+    114 ∷ 101 ∷ 115 ∷ 101 ∷ 114 ∷ 118 ∷ 101 ∷ 61 ∷ 49 ∷ 44 ∷ 49 ∷ 10 ∷
+    112 ∷ 114 ∷ 105 ∷ 99 ∷ 101 ∷ 61 ∷ 49 ∷ 44 ∷ 49 ∷ 10 ∷
+    114 ∷ 101 ∷ 115 ∷ 101 ∷ 114 ∷ 118 ∷ 101 ∷ 61 ∷ 49 ∷ 44 ∷ 49 ∷ 10 ∷ []
+
+stuck-unit-refused : judged problem stuck-unit ≡ refused-at 35 8
+unfolding judged judged-from judge tests next after-node kind-of malformed wrongCount outOfRange split-again too-deep not-short not-stuck available is-stuck
+stuck-unit-refused = refl
+
+-- a price line where the reserve line is due
+abbrev no-reserve : List ℕ
+no-reserve =
+    107 ∷ 105 ∷ 110 ∷ 100 ∷ 61 ∷ 116 ∷ 114 ∷ 101 ∷ 101 ∷ 10 ∷
+    119 ∷ 114 ∷ 105 ∷ 116 ∷ 101 ∷ 114 ∷ 61 ∷ 51 ∷ 10 ∷
+    112 ∷ 114 ∷ 105 ∷ 99 ∷ 101 ∷ 61 ∷ 49 ∷ 44 ∷ 49 ∷ 10 ∷
+    112 ∷ 114 ∷ 105 ∷ 99 ∷ 101 ∷ 61 ∷ 49 ∷ 44 ∷ 49 ∷ 10 ∷ []
+
+no-reserve-refused : judged problem no-reserve ≡ refused-at 12 4
+unfolding judged judged-from judge tests next after-node kind-of malformed wrongCount outOfRange split-again too-deep not-short not-stuck available is-stuck
+no-reserve-refused = refl
+
+-- a byte 10 after the end line
+abbrev one-byte-more : List ℕ
+one-byte-more =
+    107 ∷ 105 ∷ 110 ∷ 100 ∷ 61 ∷ 116 ∷ 114 ∷ 101 ∷ 101 ∷ 10 ∷
+    119 ∷ 114 ∷ 105 ∷ 116 ∷ 101 ∷ 114 ∷ 61 ∷ 51 ∷ 10 ∷
+    112 ∷ 114 ∷ 105 ∷ 99 ∷ 101 ∷ 61 ∷ 49 ∷ 44 ∷ 49 ∷ 10 ∷
+    114 ∷ 101 ∷ 115 ∷ 101 ∷ 114 ∷ 118 ∷ 101 ∷ 61 ∷ 49 ∷ 44 ∷ 49 ∷ 10 ∷
+    101 ∷ 110 ∷ 100 ∷ 61 ∷ 116 ∷ 114 ∷ 101 ∷ 101 ∷ 10 ∷
+    10 ∷ []
+
+one-byte-more-refused : judged problem one-byte-more ≡ refused-at 12 6
+unfolding judged judged-from judge tests next after-node kind-of malformed wrongCount outOfRange split-again too-deep not-short not-stuck available is-stuck
+one-byte-more-refused = refl
+
+-- a split at depth 63 is allowed, at depth 64 it is 32, and 31 comes first
+abbrev split-one : Line
+split-one = ended (numbers split-key (1 ∷ 1 ∷ []))
+
+abbrev none-yet : Figures
+none-yet = by-writer 3
+
+at-63 : judge problem (nodes-due none-yet (pending root 63 ∷ [])) split-one
+    ≡ good (nodes-due (with-split none-yet) (pending (fix 0 0 false root) 64 ∷ pending (fix 0 0 true root) 64 ∷ []))
+unfolding judge tests next after-node kind-of malformed wrongCount outOfRange split-again too-deep not-short not-stuck digits digitsBy
+at-63 = refl
+
+at-64 : judge problem (nodes-due none-yet (pending root 64 ∷ [])) split-one ≡ refused 32
+unfolding judge tests next after-node kind-of malformed wrongCount outOfRange split-again too-deep not-short not-stuck digits digitsBy
+at-64 = refl
+
+again-at-64 : judge problem (nodes-due none-yet (pending (fix 0 0 true root) 64 ∷ [])) split-one ≡ refused 31
+unfolding judge tests next after-node kind-of malformed wrongCount outOfRange split-again too-deep not-short not-stuck digits digitsBy
+again-at-64 = refl

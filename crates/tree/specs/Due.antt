@@ -1,0 +1,93 @@
+-- Document 01, Texts: which line of a tree's text is due after which. Units and periods count from 0.
+use mathlib.Core.Bool.{Bool, true, false, not}
+use mathlib.Core.List.{List, [], _∷_}
+use mathlib.Core.Option.{Option, none, some}
+use Prim.Native.Nat.{ℕ, suc}
+use Rattle.model.specs.Instance.{Instance, _at_}
+use Rattle.model.specs.Above.{Above, root, fix}
+use Rattle.model.specs.Leaf.{leaf-value}
+use Rattle.model.specs.Tree.{Bound, never, number, lower}
+use Rattle.text.specs.Lines.{Line, missing, unended, ended, later, linesOf, isLine, endTree}
+use Rattle.text.specs.Course.{Found, Judged, judged-from}
+use Rattle.tree.specs.Tests.{Test, _if_, found}
+use Rattle.tree.specs.NodeLines.{Kind, split-line, short-line, stuck-line, price-line, kind-of, node-form, writer-form, reserve-form, numbers-of, named, form-tests, node-tests, reserve-tests}
+
+-- what the lines read so far give: the writer, the smallest price leaf's value, the split lines and the leaves
+pub record Figures : Type 0 where
+  pub writer : ℕ
+  pub bound : Bound
+  pub splits : ℕ
+  pub leaves : ℕ
+
+abbrev pub by-writer : ℕ → Figures
+by-writer w = record { writer = w; bound = never; splits = 0; leaves = 0 }
+
+abbrev pub with-split : Figures → Figures
+with-split F = record { writer = F .writer; bound = F .bound; splits = suc (F .splits); leaves = F .leaves }
+
+-- one leaf more, with its bound
+abbrev pub with-leaf : Figures → Bound → Figures
+with-leaf F b = record { writer = F .writer; bound = lower (F .bound) b; splits = F .splits; leaves = suc (F .leaves) }
+
+-- a node that is still to be read: what stands above it, and its depth
+pub record Pending : Type 0 where
+  pub above : Above
+  pub depth : ℕ
+
+abbrev pub pending : Above → ℕ → Pending
+pending A d = record { above = A; depth = d }
+
+-- the line that is due: the writer; the first of these nodes, or where none is left the end line; the reserve line of a price
+-- leaf with these multipliers; nothing more
+pub data Due : Type 0 where
+  writer-due : Due
+  nodes-due : Figures → List Pending → Due
+  reserve-due : Figures → Above → List ℕ → List Pending → Due
+  nothing-due : Figures → Due
+
+abbrev pub is-there : Line → Bool
+is-there missing = false
+is-there (unended b) = true
+is-there (ended b) = true
+
+-- the numbers that may refuse the line at its place, in order
+unfoldable pub tests : Instance → Due → Line → List Test
+tests P writer-due l = form-tests writer-form l []
+tests P (nodes-due F []) l = 12 if not (isLine endTree l) ∷ []
+tests P (nodes-due F (p ∷ ps)) l = node-tests P (p .above) (p .depth) (kind-of l) l
+tests P (reserve-due F A q ps) l = reserve-tests P A l
+tests P (nothing-due F) l = 12 if is-there l ∷ []
+
+-- what is due after a good node line: the two trees of a split, the first with the unit off; a price leaf's reserve line
+unfoldable pub after-node : Instance → Figures → Pending → List Pending → Kind → Line → Due
+after-node P F p ps split-line l =
+    let U = named (node-form P split-line) l 0 in
+    let t = named (node-form P split-line) l 1 in
+    nodes-due (with-split F) (pending (fix U t false (p .above)) (suc (p .depth)) ∷ pending (fix U t true (p .above)) (suc (p .depth)) ∷ ps)
+after-node P F p ps short-line l = nodes-due (with-leaf F never) ps
+after-node P F p ps stuck-line l = nodes-due (with-leaf F never) ps
+after-node P F p ps price-line l = reserve-due F (p .above) (numbers-of (node-form P price-line) l) ps
+
+-- what is due after a good line
+unfoldable pub next : Instance → Due → Line → Due
+next P writer-due l = nodes-due (by-writer (numbers-of writer-form l at 0)) (pending root 0 ∷ [])
+next P (nodes-due F []) l = nothing-due F
+next P (nodes-due F (p ∷ ps)) l = after-node P F p ps (kind-of l) l
+next P (reserve-due F A q ps) l =
+    nodes-due (with-leaf F (number (leaf-value P (A .marks) (λ t. q at t) (λ t. numbers-of (reserve-form P) l at t)))) ps
+next P (nothing-due F) l = nothing-due F
+
+-- the line at its place
+unfoldable pub judge : Instance → Due → Line → Found Due
+judge P s l = found (tests P s l) (next P s l)
+
+-- the text may end where nothing more is due
+abbrev pub end : Due → Option Figures
+end writer-due = none
+end (nodes-due F ps) = none
+end (reserve-due F A q ps) = none
+end (nothing-due F) = some F
+
+-- a text whose first line is kind=tree, from its second line on
+unfoldable pub judged : Instance → List ℕ → Judged Figures
+judged P s = judged-from (judge P) end 2 writer-due (later (linesOf s))

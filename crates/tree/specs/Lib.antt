@@ -1,0 +1,6 @@
+-- What document 01 says of a tree's text.
+pub mod Rendering
+pub mod Tests
+pub mod NodeLines
+pub mod Due
+pub mod Answers

@@ -1,0 +1,100 @@
+-- Document 01, Numbers that come from the text: the tests of one line of a tree by what stands above it.
+use mathlib.Core.Bool.{Bool, true, false, not, cond}
+use mathlib.Core.List.{List, [], _∷_}
+use Prim.Native.Nat.{ℕ, suc, _+_, pred}
+use lib.Dec.{ltb}
+use lib.ListN.{length}
+use Rattle.model.specs.Instance.{Instance, _at_}
+use Rattle.model.specs.Above.{Mark, free, fixed, Above}
+use Rattle.model.specs.Leaf.{available, stuck-at, any-stuck}
+use Rattle.text.specs.Lines.{Line, bytesOf, begins}
+use Rattle.text.specs.Forms.{Form, form, plain, valuesOf, sizes, malformed, wrongCount, outOfRange}
+use Rattle.tree.specs.Rendering.{writer-key, split-key, short-key, stuck-key, price-key, reserve-key}
+use Rattle.tree.specs.Tests.{Test, _if_}
+
+-- ---- what a line is due to be
+
+-- the four node lines
+pub data Kind : Type 0 where
+  split-line short-line stuck-line price-line : Kind
+
+-- by the key that the line begins with; a line with no node's key is no price line either
+unfoldable pub kind-of : Line → Kind
+kind-of l =
+    cond (begins split-key (bytesOf l)) split-line
+    (cond (begins short-key (bytesOf l)) short-line
+    (cond (begins stuck-key (bytesOf l)) stuck-line
+    price-line))
+
+-- U is 1 to I, P is 1 to T; T multipliers
+abbrev pub node-form : Instance → Kind → Form
+node-form P split-line = form split-key 0 (1 ∷ 1 ∷ []) (length (P .units) ∷ P .periods ∷ [])
+node-form P short-line = plain short-key 1 1 (P .periods)
+node-form P stuck-line = plain stuck-key 1 1 (length (P .units))
+node-form P price-line = plain price-key (P .periods) 0 1000000000
+
+abbrev pub writer-form : Form
+writer-form = plain writer-key 1 1 65535
+
+abbrev pub reserve-form : Instance → Form
+reserve-form P = plain reserve-key (P .periods) 0 1000000000
+
+-- the numbers of a line
+abbrev pub numbers-of : Form → Line → List ℕ
+numbers-of f l = sizes (valuesOf f l)
+
+-- a unit or a period that a line names, from 0
+abbrev pub named : Form → Line → ℕ → ℕ
+named f l i = pred (numbers-of f l at i)
+
+-- ---- 31 to 34: a node line of the kind k, at depth d, with A above it
+
+abbrev pub is-fixed : Mark → Bool
+is-fixed free = false
+is-fixed (fixed b) = true
+
+-- 31: a split on a status that is fixed already
+unfoldable pub split-again : Instance → Above → Kind → Line → Bool
+split-again P A split-line l = is-fixed (A .marks (named (node-form P split-line) l 0) (named (node-form P split-line) l 1))
+split-again P A short-line l = false
+split-again P A stuck-line l = false
+split-again P A price-line l = false
+
+-- 32: a split deeper than 63
+unfoldable pub too-deep : ℕ → Kind → Bool
+too-deep d split-line = ltb 63 d
+too-deep d short-line = false
+too-deep d stuck-line = false
+too-deep d price-line = false
+
+-- 33: the pU of the units not fixed off reach D + R
+unfoldable pub not-short : Instance → Above → Kind → Line → Bool
+not-short P A split-line l = false
+not-short P A short-line l =
+    let t = named (node-form P short-line) l 0 in
+    not (ltb (available (P .units) (A .marks) t) (P .demand at t + P .spare at t))
+not-short P A stuck-line l = false
+not-short P A price-line l = false
+
+-- 34: a run of the unit's statuses obeys and agrees
+unfoldable pub not-stuck : Instance → Above → Kind → Line → Bool
+not-stuck P A split-line l = false
+not-stuck P A short-line l = false
+not-stuck P A stuck-line l = not (stuck-at (P .periods) (P .units) (A .marks) (named (node-form P stuck-line) l 0))
+not-stuck P A price-line l = false
+
+-- ---- the order of the numbers (document 01, Numbers that come from the docket)
+
+-- 12, 14, 13, and then others
+abbrev pub form-tests : Form → Line → List Test → List Test
+form-tests f l ts = 12 if malformed f l ∷ 14 if wrongCount f l ∷ 13 if outOfRange f l ∷ ts
+
+-- a node line
+abbrev pub node-tests : Instance → Above → ℕ → Kind → Line → List Test
+node-tests P A d k l =
+    form-tests (node-form P k) l
+    (31 if split-again P A k l ∷ 32 if too-deep d k ∷ 33 if not-short P A k l ∷ 34 if not-stuck P A k l ∷ [])
+
+-- a reserve line, at which 35 refuses the price leaf
+abbrev pub reserve-tests : Instance → Above → Line → List Test
+reserve-tests P A l = form-tests (reserve-form P) l (35 if any-stuck (P .periods) (P .units) (A .marks) ∷ [])

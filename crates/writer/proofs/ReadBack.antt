@@ -1,0 +1,56 @@
+-- What is written is read back: the digits of a number as the number, and a line of a number as the rendering of the number.
+use Prim.Native.Nat.{ℕ, suc, _+_, _≤_, _<_, min}
+use native.Mathlib.Nat.{zero-add}
+use native.Mathlib.Omega.{arith}
+use mathlib.Core.Path.{_≡_, refl, sym, ap, _∙_}
+use mathlib.Core.Bool.{Bool, true, false}
+use mathlib.Core.List.{List, [], _∷_, _++_, append-assoc}
+use lib.ListN.{length, drop, getD}
+use Rattle.decimal.specs.Decimal.{digits}
+use Rattle.decimal.specs.Reading.{cap, run, numberAt}
+use Rattle.decimal.specs.declared.Number.the-variants.{Value}
+use Rattle.decimal.proofs.Numerals.{read-digits}
+use Rattle.text.specs.Lines.{ended, due, linesOf, lineAt, oneLine}
+use Rattle.text.specs.Forms.{plain, after, padded, rowOf}
+use Rattle.text.specs.Rendering.{rendered}
+use Rattle.text.specs.declared.Row.{Row}
+use Rattle.text.specs.declared.Verdict.the-variants.{Good}
+use Rattle.text.proofs.Accepted.{rendered-read, rendered-cut, renderedLine}
+use Rattle.text.proofs.Plain.{Between, plain-fits}
+use Rattle.writer.specs.Written.{over, figure, line}
+use Rattle.writer.specs.declared.Figure.the-variants.{Number, Minus}
+
+-- ---- a number
+
+-- the digits of n over a buffer in which no digit follows them are read as n
+pub number-back : (n : ℕ) (b : List ℕ) → run (drop (length (digits n)) b) ≡ [] → numberAt (over (digits n) b) 0 ≡ Value (min cap n) (length (digits n))
+number-back n b h =
+    read-digits (over (digits n) b) (drop (length (digits n)) b) 0 n refl h
+    ∙ ap (Value (min cap n)) (zero-add (length (digits n)))
+
+-- ---- a line
+
+-- a written line is the rendering of its number, and byte 10
+pub line-number : (key : List ℕ) (n : ℕ) → line key (Number n) ≡ rendered key 0 false (n ∷ []) ++ (10 ∷ [])
+unfolding figure
+line-number key n = sym (append-assoc key (digits n) (10 ∷ []))
+
+pub line-minus : (key : List ℕ) (n : ℕ) → line key (Minus n) ≡ rendered key 1 true (n ∷ []) ++ (10 ∷ [])
+unfolding figure
+line-minus key n = sym (append-assoc key (45 ∷ digits n) (10 ∷ []))
+
+one-between : (lo hi n : ℕ) → lo ≤ n → n ≤ hi → Between lo hi (n ∷ [])
+one-between lo hi n h k i e = let z : i ≡ 0 = omega arith in rw z (h, k)
+
+-- the line of n over a buffer is read as n
+pub line-back : (key : List ℕ) (n lo hi : ℕ) (b : List ℕ) → oneLine key ≡ true → lo ≤ n → n ≤ hi
+    → rowOf (plain key 1 lo hi) (lineAt (over (line key (Number n)) b) 0) 0
+    ≡ record { verdict = Good (after (renderedLine (plain key 1 lo hi) false (n ∷ [])) 0); minus = false; values = padded (n ∷ []) }
+line-back key n lo hi b one h k =
+    let f = plain-fits key 1 lo hi (n ∷ []) (omega arith) refl (one-between lo hi n h k) in
+    let rest = drop (length (line key (Number n))) b in
+    let t : over (line key (Number n)) b ≡ rendered key 0 false (n ∷ []) ++ (10 ∷ rest) =
+    ap (λ (l : List ℕ). l ++ rest) (line-number key n) ∙ append-assoc (rendered key 0 false (n ∷ [])) (10 ∷ []) rest in
+    ap (λ (l : List ℕ). rowOf (plain key 1 lo hi) (lineAt l 0) 0) t
+    ∙ ap (λ (ls : List _). rowOf (plain key 1 lo hi) (due ls) 0) (rendered-cut (plain key 1 lo hi) false (n ∷ []) f rest one)
+    ∙ rendered-read (plain key 1 lo hi) false (n ∷ []) f 0

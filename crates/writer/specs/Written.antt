@@ -1,0 +1,45 @@
+-- What is written: numbers, words, lines, and what a buffer then holds.
+use Prim.Native.Nat.{ℕ, suc}
+use mathlib.Core.List.{List, [], _∷_, _++_}
+use lib.ListN.{length, drop}
+use lib.IntN.{ℤ, pos, negsuc}
+use Rattle.decimal.specs.Decimal.{digits}
+use Rattle.writer.specs.declared.Figure.{Figure}
+use Rattle.writer.specs.declared.Figure.the-variants.{Missing, Never, Number, Minus}
+
+-- ---- document 01, The docket and its report: bytes outside what is written stay
+
+-- b with the bytes l in place of its first ones
+abbrev pub over : List ℕ → List ℕ → List ℕ
+over l b = l ++ drop (length l) b
+
+-- ---- document 01, The listing program: missing values print `none`, a bound of never prints `never`, and a negative
+-- ---- number has a minus
+
+-- none
+abbrev pub none : List ℕ
+none = 110 ∷ 111 ∷ 110 ∷ 101 ∷ []
+
+-- never
+abbrev pub never : List ℕ
+never = 110 ∷ 101 ∷ 118 ∷ 101 ∷ 114 ∷ []
+
+unfoldable pub figure : Figure → List ℕ
+figure Missing = none
+figure Never = never
+figure (Number n) = digits n
+figure (Minus n) = 45 ∷ digits n
+
+-- a whole number as it is shown: negsuc n is -(n + 1)
+unfoldable pub shown : ℤ → List ℕ
+shown (pos n) = digits n
+shown (negsuc n) = 45 ∷ digits (suc n)
+
+-- the figure that shows it
+unfoldable pub figureOf : ℤ → Figure
+figureOf (pos n) = Number n
+figureOf (negsuc n) = Minus (suc n)
+
+-- a line: the key with its `=`, the figure, byte 10
+abbrev pub line : List ℕ → Figure → List ℕ
+line key f = key ++ (figure f ++ (10 ∷ []))
