@@ -1,8 +1,8 @@
 -- The costs by period at given prices: they fit, and the walk over them is the walk in prices.
-use mathlib.Core.Path.{_≡_, refl, sym, _∙_, ap}
+use mathlib.Core.Path.{_≡_, refl, sym, _∙_}
 use mathlib.Core.Bool.{Bool, true, false}
 use mathlib.Core.List.{List, [], _∷_, _++_}
-use Prim.Native.Nat.{ℕ, zero, suc, _+_, _*_, _-_, _≤_, _<_}
+use Prim.Native.Nat.{ℕ, suc, _+_, _*_, _-_, _≤_, _<_}
 use native.Mathlib.Omega.{arith}
 use lib.ListN.{length, take, length-append}
 use lib.Seq.{take-at}
@@ -16,7 +16,7 @@ use Rattle.model.proofs.PeriodSums.{sum-part}
 use Rattle.model.proofs.LeafSizes.{all-at}
 use Rattle.model.proofs.WalkSizes.{worth-fits, added-fits, price-walk-fits, offset-fits}
 use Rattle.model.proofs.WalkPeriods.{walk-ext}
-use Rattle.least.specs.Limits.{GoodPrices, GoodSlopes, GoodCosts, GoodCost}
+use Rattle.least.specs.Limits.{GoodPrices, GoodSlopes, GoodCosts}
 use Rattle.least.specs.Steps.{costs-of, Priced}
 
 -- a list whose every entry is in range

@@ -5,4 +5,7 @@ pub mod Walks
 pub mod Fronts
 pub mod Costs
 pub mod Signed
-pub mod Answers
+pub mod UnitAnswers
+pub mod Units
+pub mod Requirements
+pub mod LeafAnswers

@@ -1,12 +1,12 @@
 -- A period on: the closed form of the best output by each of its cases, and the sizes of what such a period costs.
-use mathlib.Core.Path.{_≡_, sym}
+use mathlib.Core.Path.{_≡_}
 use Prim.Native.Nat.{ℕ, _+_, _*_, _-_, _/_, _≤_, _<_, min}
 use native.Mathlib.Nat.{mul-le-mul}
 use native.Mathlib.Omega.{arith}
 use borrow.Author.Tests.{le-leb, lt-leb, eq-eqb, ne-eqb}
 use Rattle.model.specs.declared.generator.Generator.{Generator}
 use Rattle.model.specs.Ranges.{GoodUnit}
-use Rattle.model.specs.Prices.{on-value, best-at}
+use Rattle.model.specs.Prices.{best-at}
 use Rattle.least.specs.Limits.{GoodSlopes}
 
 -- ---- the best output

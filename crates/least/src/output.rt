@@ -1,6 +1,6 @@
 // A period on: its best output, and what that costs.
 ghost use mathlib.Core.Path.{_≡_};
-ghost use Prim.Native.Nat.{ℕ, _≤_};
+ghost use Prim.Native.Nat.{_≤_};
 ghost use Rattle.model.specs.Ranges.{GoodUnit};
 ghost use Rattle.model.specs.Prices.{on-value, best-at};
 ghost use Rattle.least.specs.Limits.{GoodSlopes};

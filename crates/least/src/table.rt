@@ -2,10 +2,10 @@
 // v + 1 for the value v.
 ghost use mathlib.Core.Path.{_≡_};
 ghost use Prim.Native.Nat.{ℕ, _+_, _-_, _≤_, _<_, min};
-ghost use lib.ListN.{length, getD};
+ghost use lib.ListN.{length};
 ghost use Rattle.model.specs.Instance.{_at_};
 ghost use Rattle.model.specs.Ranges.{GoodUnit};
-ghost use Rattle.model.specs.Walk.{lesser, walk, cap};
+ghost use Rattle.model.specs.Walk.{lesser, walk};
 ghost use Rattle.model.specs.Table.{gone, kept, Chained, values};
 ghost use Rattle.least.specs.Marks.{mark-of, marks-of};
 ghost use Rattle.least.specs.Limits.{GoodCost, GoodCosts, GoodValue};

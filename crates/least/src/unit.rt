@@ -1,7 +1,7 @@
 // The least value of one unit at given prices.
 ghost use mathlib.Core.Path.{_≡_};
-ghost use Prim.Native.Nat.{ℕ, _+_, _≤_, _<_};
-ghost use lib.ListN.{length, getD};
+ghost use Prim.Native.Nat.{_+_, _<_};
+ghost use lib.ListN.{length};
 ghost use Rattle.model.specs.Instance.{_at_};
 ghost use Rattle.model.specs.Ranges.{GoodUnit};
 ghost use Rattle.model.specs.Prices.{price-walk, offset};

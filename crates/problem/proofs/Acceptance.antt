@@ -10,13 +10,12 @@ use Rattle.model.specs.Ranges.{WellFormed}
 use Rattle.model.specs.Held.{held, Valid}
 use Rattle.model.proofs.Held.{held-valid}
 use Rattle.text.specs.Lines.{Line, ended, due, later, linesOf, lineAt, kindProblem}
-use Rattle.text.specs.Course.{Judged, accepted}
+use Rattle.text.specs.Course.{accepted}
 use Rattle.text.proofs.Words.{word-is}
 use Rattle.text.proofs.Courses.{accepted-is}
-use Rattle.problem.specs.Rendering.{lines-after, text-of, render}
+use Rattle.problem.specs.Rendering.{lines-after, render}
 use Rattle.problem.specs.Course.{periods-due, judge, end, problem-judged}
-use Rattle.problem.specs.Reading.{IsProblem, read-as, problem-read}
-use Rattle.problem.specs.declared.ProblemAnswer.the-variants.{Accepted}
+use Rattle.problem.specs.Reading.{IsProblem}
 use Rattle.problem.proofs.FirstLine.{problem-line, line-problem}
 use Rattle.problem.proofs.Texts.{lines-text, text-lines, lines-one}
 use Rattle.problem.proofs.Rendered.{lines-good}
@@ -48,11 +47,6 @@ accepted-rendered P text k e =
 
 pub problem-accepted : (P : Instance) (text : List ℕ) → (IsProblem text × (problem-judged text ≡ accepted P)) ↔ ((text ≡ render P) × WellFormed P)
 problem-accepted P text = (λ p. accepted-rendered P text (p .0) (p .1), λ q. rw (q .0) (render-accepted P (q .1)))
-
--- what is then read is the problem in arrays
-pub render-read : (P : Instance) → WellFormed P → problem-read (render P) ≡ record { answer = Accepted; problem = held P }
-unfolding problem-read read-as
-render-read P W = ap read-as (render-accepted P W .1)
 
 -- a text that is accepted leaves arrays that hold a well-formed problem
 pub accepted-valid : (P : Instance) (text : List ℕ) → IsProblem text → problem-judged text ≡ accepted P → Valid (held P)

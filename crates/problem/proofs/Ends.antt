@@ -3,11 +3,11 @@ use Prim.Native.Nat.{ℕ, suc, _+_, _≤_, _<_}
 use native.Mathlib.Omega.{arith}
 use mathlib.Core.Path.{_≡_, refl, sym, ap, _∙_}
 use mathlib.Core.Bool.{true, false}
-use mathlib.Core.List.{List, [], _∷_, _++_}
+use mathlib.Core.List.{List, [], _∷_}
 use lib.ListN.{length, drop, length-append, length-drop, drop-of-length-le}
 use Rattle.model.specs.Instance.{Instance}
-use Rattle.text.specs.Lines.{Line, later, linesOf, lineAt, isLine, endProblem}
-use Rattle.text.specs.Course.{Found, refused, good, refused-at, accepted, judged-from}
+use Rattle.text.specs.Lines.{Line, linesOf, lineAt, isLine, endProblem}
+use Rattle.text.specs.Course.{good, refused-at, accepted, judged-from}
 use Rattle.text.proofs.Words.{word-is}
 use Rattle.text.proofs.Cuts.{text-ended, lines-none}
 use Rattle.text.proofs.Verdicts.{word-next}

@@ -1,6 +1,6 @@
 -- Document 01's example problem, and damaged ones, by computation.
 use Prim.Native.Nat.{ℕ}
-use mathlib.Core.Path.{_≡_, refl, sym}
+use mathlib.Core.Path.{_≡_, refl}
 use mathlib.Core.Bool.{true, false}
 use mathlib.Core.List.{List, [], _∷_}
 use Rattle.decimal.specs.Decimal.{digits, digitsBy}

@@ -1,12 +1,10 @@
 -- The first line of a problem's text: kind=problem and byte 10, so the second line starts at place 13.
 use Prim.Native.Nat.{ℕ}
 use native.Mathlib.Omega.{arith}
-use mathlib.Core.Path.{_≡_, refl, sym, ap, _∙_}
+use mathlib.Core.Path.{_≡_, refl, sym, ap}
 use mathlib.Core.Bool.{Bool, true, false}
-use mathlib.Core.List.{List, _∷_}
-use lib.ListN.{drop}
-use Rattle.text.specs.Lines.{Line, ended, later, linesOf, lineAt, isLine, kindProblem, kindSchedule, kindTree, pickKind, kindOf}
-use Rattle.text.specs.declared.Kind.{Kind}
+use mathlib.Core.List.{List}
+use Rattle.text.specs.Lines.{Line, ended, lineAt, isLine, kindProblem, kindSchedule, kindTree, pickKind, kindOf}
 use Rattle.text.specs.declared.Kind.the-variants as kind
 use Rattle.text.specs.Course.{judged-from}
 use Rattle.text.proofs.Words.{is-word, kind-problem}

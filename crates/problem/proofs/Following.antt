@@ -2,15 +2,13 @@
 use Prim.Native.Nat.{ℕ, suc, _≤_, _<_}
 use native.Mathlib.Omega.{arith}
 use mathlib.Core.Path.{_≡_, refl, sym, ap, _∙_}
-use mathlib.Core.Bool.{true, false}
+use mathlib.Core.Bool.{false}
 use mathlib.Core.List.{List, [], _∷_}
 use mathlib.Core.Option.{none}
 use lib.ListN.{length, take, drop, getD}
-use Rattle.model.specs.Instance.{Instance}
 use Rattle.text.specs.Lines.{Line, due, later, linesOf, lineAt}
-use Rattle.text.specs.Forms as forms
 use Rattle.text.specs.Forms.{Form, plain, after, padded, rowOf}
-use Rattle.text.specs.Course.{Found, refused, good, Judged, refused-at, judged-from}
+use Rattle.text.specs.Course.{Found, refused, good, refused-at, judged-from}
 use Rattle.text.specs.declared.Row.{Row}
 use Rattle.text.specs.declared.Verdict.{Verdict}
 use Rattle.text.specs.declared.Verdict.the-variants as verdict
@@ -45,16 +43,19 @@ module _ (text : List ℕ) (at l : ℕ) (s : Due) where
   -- ---- a line of numbers, from the row that is read
 
   module _ (f : Form) (w : awaited s ≡ numbered f) (row : Row) (is : row ≡ rowOf f (lineAt text at) at) where
-    pub line-refused : (n : ℕ) → end s ≡ none → row .verdict ≡ verdict.Refused n → read-as (refused-at n l) ≡ read-from text at l s
-    line-refused n e v =
+    -- the answer where it is refused
+    pub line-refused : (r : ProblemRead) (n : ℕ) → end s ≡ none → row .verdict ≡ verdict.Refused n → r ≡ read-as (refused-at n l) → r ≡ read-from text at l s
+    line-refused r n e v a =
         let p = verdict-refused f (lineAt text at) at row is n v in
-        read-refused n e (judge-number s f (lineAt text at) w (p .0) ∙ ap refused (p .1))
+        a ∙ read-refused n e (judge-number s f (lineAt text at) w (p .0) ∙ ap refused (p .1))
 
-    pub line-good : (next : ℕ) → row .verdict ≡ verdict.Good next → breaks-15 s (lineAt text at) ≡ false
-        → read-from text next (suc l) (next-due s (lineAt text at)) ≡ read-from text at l s
-    line-good next v o =
+    -- the answer where it is good, from the answer of the lines after it
+    pub line-good : (r : ProblemRead) (next : ℕ) (s′ : Due) → row .verdict ≡ verdict.Good next → breaks-15 s (lineAt text at) ≡ false → next-due s (lineAt text at) ≡ s′
+        → r ≡ read-from text next (suc l) s′ → r ≡ read-from text at l s
+    line-good r next s′ v o d a =
         let p = verdict-good f (lineAt text at) at row is next v in
-        read-on next (next-due s (lineAt text at)) (judge-good s f (lineAt text at) w (p .0) o)
+        a
+        ∙ read-on next s′ (judge-good s f (lineAt text at) w (p .0) o ∙ ap good d)
         (ap (λ (k : ℕ). linesOf (drop k text)) (p .1) ∙ good-next f text at (p .0))
 
 -- ---- what a good row of one range holds

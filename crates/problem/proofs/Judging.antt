@@ -1,7 +1,7 @@
 -- What a line is found to be at its place: the tests of its form decide, in the order 12, 14, 13, 15.
 use Prim.Native.Nat.{ℕ}
 use native.Mathlib.Omega.{arith}
-use mathlib.Core.Path.{_≡_, refl, sym, ap, _∙_}
+use mathlib.Core.Path.{_≡_, refl, ap, _∙_}
 use mathlib.Core.Bool.{Bool, true, false}
 use mathlib.Core.Option.{none}
 use lib.Dec.{eqb}
@@ -10,7 +10,7 @@ use Rattle.text.specs.Forms as forms
 use Rattle.text.specs.Forms.{Form, malformed, wrongCount, outOfRange, pickNumber, refusedBy}
 use Rattle.text.specs.Course.{Found, refused, good}
 use Rattle.text.proofs.Verdicts.{good-is, refused-none}
-use Rattle.problem.specs.Course.{Due, periods-due, units-due, demand-due, spare-due, unit-due, end-due, nothing-due, next-due, Awaited, numbered, word, no-line, awaited, breaks-12, breaks-14, breaks-13, breaks-15, refused-if, judge}
+use Rattle.problem.specs.Course.{Due, periods-due, units-due, demand-due, spare-due, unit-due, end-due, nothing-due, next-due, Awaited, numbered, awaited, breaks-12, breaks-14, breaks-13, breaks-15, refused-if, judge}
 
 -- ---- a line of numbers
 

@@ -1,6 +1,7 @@
 pub mod Judging
 pub mod Following
 pub mod UnitRows
+pub mod Padding
 pub mod Fleets
 pub mod Ends
 pub mod FirstLine
@@ -12,4 +13,6 @@ pub mod PlainLines
 pub mod Rendered
 pub mod WasRendered
 pub mod Acceptance
+pub mod Answers
+pub mod Sizes
 pub mod Examples

@@ -1,5 +1,5 @@
 -- The four lines before the unit lines: each is good at its place exactly where it renders numbers in its range, as many as are due.
-use Prim.Native.Nat.{ℕ, zero, suc, _≤_, _<_}
+use Prim.Native.Nat.{ℕ, zero, suc, _<_}
 use native.Mathlib.Omega.{arith}
 use mathlib.Core.Path.{_≡_, refl, sym, ap, _∙_}
 use mathlib.Core.Bool.{true, false}
@@ -9,7 +9,7 @@ use Rattle.model.specs.Ranges as ranges
 use Rattle.model.specs.Ranges.{All}
 use Rattle.text.specs.Lines.{Line, ended}
 use Rattle.text.specs.Forms as forms
-use Rattle.text.specs.Forms.{Form, plain, sizes, malformed, wrongCount, outOfRange}
+use Rattle.text.specs.Forms.{Form, plain, sizes}
 use Rattle.text.specs.Course.{good}
 use Rattle.text.proofs.Verdicts.{good-is, refused-none}
 use Rattle.text.proofs.Shown.{sizes-shown}

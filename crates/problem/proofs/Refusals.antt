@@ -1,21 +1,16 @@
 -- A problem's text is refused by a number at a line exactly where every line before is good at its place and that number is the first
 -- of 12, 14, 13, 15 that the line breaks: the law of courses, with the tests of one line in it.
-use Prim.Native.Nat.{ℕ, _≤_, _<_}
+use Prim.Native.Nat.{ℕ}
 use native.Mathlib.Omega.{arith}
 use mathlib.Core.Path.{_≡_, refl, sym, ap, _∙_}
 use mathlib.Core.Bool.{Bool, true, false}
 use mathlib.Core.Logic.{_↔_}
 use mathlib.Core.List.{List, [], _∷_}
-use mathlib.Core.Option.{Option, none, some}
-use Rattle.model.specs.Held.{blank-problem}
-use Rattle.refusal.specs.declared.Refusal.{Refusal}
-use Rattle.refusal.proofs.Places.{line-low}
+use mathlib.Core.Option.{none}
 use Rattle.text.specs.Lines.{Line, missing, due, later, linesOf}
-use Rattle.text.specs.Course.{Found, refused, good, refused-at, Refuses, missing-line, wrong-line, FirstRefused}
+use Rattle.text.specs.Course.{Found, refused, good, refused-at, Refuses, missing-line, wrong-line}
 use Rattle.text.proofs.Courses.{refused-is}
 use Rattle.problem.specs.Course.{Due, periods-due, next-due, awaited, breaks-12, breaks-14, breaks-13, breaks-15, refused-if, judge, end, problem-judged}
-use Rattle.problem.specs.Reading.{read-as, problem-read}
-use Rattle.problem.specs.declared.ProblemAnswer.the-variants.{Refused}
 use Rattle.problem.specs.Refusals.{Passes, Breaks, by-12, by-14, by-13, by-15, RefusedAt}
 use Rattle.problem.proofs.Judging.{judge-missing}
 
@@ -93,21 +88,3 @@ problem-refused n m text = (
     refuses = breaks-refuses n (r .stands) (r .after) (r .unfinished) (r .breaks);
   }),
 )
-
--- ---- what is then read
-
--- every number is 12, 13, 14 or 15
-breaks-number : (s : Due) (l : Line) (n : ℕ) → Breaks s l n → (11 ≤ n) × (n < 16)
-breaks-number s l n (by-12 e p) = (omega arith, omega arith)
-breaks-number s l n (by-14 e p q) = (omega arith, omega arith)
-breaks-number s l n (by-13 e p q t) = (omega arith, omega arith)
-breaks-number s l n (by-15 e p q t u) = (omega arith, omega arith)
-
--- the number and its line, no unit and no period, and a blank problem
-pub refused-read : (n m : ℕ) (text : List ℕ) → RefusedAt n m text
-    → problem-read text ≡ record { answer = Refused (record { number = n; line = m; unit = 0; period = 0 }); problem = blank-problem }
-unfolding problem-read read-as
-refused-read n m text r =
-    let b = breaks-number (r .stands) (due (r .after)) n (r .breaks) in
-    ap read-as (problem-refused n m text .1 r)
-    ∙ ap (λ (x : Refusal). record { answer = Refused x; problem = blank-problem }) (sym (line-low n m 0 0 (b .0) (b .1)))

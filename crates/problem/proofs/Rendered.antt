@@ -1,20 +1,19 @@
 -- The lines of a well-formed problem are good, each at its place, and they give that problem.
-use Prim.Native.Nat.{ℕ, suc, _<_}
+use Prim.Native.Nat.{ℕ, _<_}
 use native.Mathlib.Omega.{arith}
 use mathlib.Core.Path.{_≡_, refl, sym, ap, subst, _∙_}
-use mathlib.Core.Bool.{true, false, not}
+use mathlib.Core.Bool.{true}
 use mathlib.Core.List.{List, [], _∷_, _++_, map, append-assoc, append-nil}
-use mathlib.Core.Option.{some}
 use lib.ListN.{length, getD}
 use Rattle.model.specs.declared.generator.Generator.{Generator}
 use Rattle.model.specs.Instance.{Instance}
-use Rattle.model.specs.Ranges.{Between, All, GoodLoad, GoodUnit, WellFormed}
-use Rattle.text.specs.Lines.{Line, ended, endProblem}
-use Rattle.text.specs.Course.{Found, good, Good, none-yet, one-more, AllGood}
+use Rattle.model.specs.Ranges.{Between, All, GoodLoad, GoodUnit, WellFormed, ordered}
+use Rattle.text.specs.Lines.{ended, endProblem}
+use Rattle.text.specs.Course.{good, Good, none-yet, one-more, AllGood}
 use Rattle.text.proofs.Words.{same-self}
 use Rattle.problem.specs.Units.{unit-line, unit-of, unit-form}
 use Rattle.problem.specs.Rendering.{plain-line, lines-after, periods-key, units-key, demand-key, spare-key}
-use Rattle.problem.specs.Course.{Due, periods-due, units-due, demand-due, spare-due, unit-due, end-due, nothing-due, fleet-due, no-units, with-unit, numbers-of, judge, end}
+use Rattle.problem.specs.Course.{periods-due, units-due, demand-due, spare-due, unit-due, end-due, nothing-due, fleet-due, no-units, with-unit, judge, end}
 use Rattle.problem.proofs.Judging.{judge-good}
 use Rattle.problem.proofs.Ends.{judge-end}
 use Rattle.problem.proofs.UnitLines.{unit-line-good, unit-line-of, of-ordered}
@@ -33,7 +32,8 @@ unit-judged : (n : ℕ) (P : Instance) (g : Generator) → GoodUnit g → judge 
 unit-judged n P g G =
     let l = ended (unit-line g) in
     let u : unit-of l ≡ g = unit-line-of g (G .in-range) in
-    judge-good (unit-due n P) unit-form l refl (unit-line-good g (G .in-range)) (simp (u, of-ordered g (G .ordered)))
+    let o : ordered (unit-of l) ≡ true = ap ordered u ∙ of-ordered g (G .ordered) in
+    judge-good (unit-due n P) unit-form l refl (unit-line-good g (G .in-range)) (cc)
     ∙ ap (λ (x : Generator). good (fleet-due n (with-unit P x))) u
 
 pub fleet-good : (gs : List Generator) (P : Instance) → All GoodUnit gs

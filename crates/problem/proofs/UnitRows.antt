@@ -1,17 +1,16 @@
 -- What the row of a unit line says: by 12, 14, 13 of its form, and then by 15.
-use Prim.Native.Nat.{ℕ, suc, _+_, _-_, _≤_, _<_}
+use Prim.Native.Nat.{ℕ, _<_}
 use native.Mathlib.Omega.{arith}
 use mathlib.Core.Path.{_≡_, refl, sym, ap, _∙_}
 use mathlib.Core.Bool.{Bool, true, false, not}
-use mathlib.Core.List.{List, [], _∷_, _++_}
-use lib.ListN.{length, getD, take, replicate, List·getD-append}
+use lib.ListN.{getD}
 use Rattle.model.specs.declared.generator.Generator.{Generator}
 use Rattle.model.specs.Instance.{Instance}
 use Rattle.model.specs.Ranges.{ordered}
 use Rattle.text.specs.Lines.{Line}
 use Rattle.text.specs.Forms as forms
 use Rattle.text.specs.Forms.{refusedBy, after, padded, rowOf, anyMinus, valuesOf, sizes}
-use Rattle.text.specs.Course.{Found, refused, good}
+use Rattle.text.specs.Course.{refused, good}
 use Rattle.text.specs.declared.Row.{Row}
 use Rattle.text.specs.declared.Verdict.the-variants as verdict
 use Rattle.text.proofs.Verdicts.{verdict-refused, verdict-good, row-read}

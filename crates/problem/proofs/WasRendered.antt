@@ -1,17 +1,16 @@
 -- Lines that are all good, each at its place, are those of the problem that they give, and it is well-formed. They are taken off one by one.
-use Prim.Native.Nat.{ℕ, zero, suc, _+_, _≤_, _<_}
+use Prim.Native.Nat.{ℕ, zero, suc, _+_}
 use native.Mathlib.Omega.{arith}
 use mathlib.Core.Path.{_≡_, refl, sym, ap, subst, _∙_}
-use mathlib.Core.Bool.{true, false, not}
 use mathlib.Core.List.{List, [], _∷_, _++_, map, append-assoc, append-nil}
-use mathlib.Core.Option.{Option, none, some}
+use mathlib.Core.Option.{none, some}
 use lib.ListN.{length, getD}
 use borrow.Author.Tests.{not-false}
 use Rattle.model.specs.declared.generator.Generator.{Generator}
 use Rattle.model.specs.Instance.{Instance}
 use Rattle.model.specs.Ranges.{Between, All, GoodLoad, GoodUnit, WellFormed, ordered}
 use Rattle.text.specs.Lines.{Line, ended, isLine, endProblem}
-use Rattle.text.specs.Course.{Found, good, Good, none-yet, one-more, AllGood}
+use Rattle.text.specs.Course.{good, Good, none-yet, one-more, AllGood}
 use Rattle.text.proofs.Words.{word-is}
 use Rattle.problem.specs.Units.{unit-line, unit-of, unit-form}
 use Rattle.problem.specs.Rendering.{plain-line, lines-after, periods-key, units-key, demand-key, spare-key}

@@ -2,11 +2,11 @@
 mod unit;
 
 ghost use mathlib.Core.Path.{_≡_};
-ghost use Prim.Native.Nat.{ℕ, _+_, _≤_};
+ghost use Prim.Native.Nat.{_+_, _≤_};
 ghost use lib.ListN.{take};
 ghost use Rattle.model.specs.Held.{held, view};
 ghost use Rattle.text.specs.Course.{refused-at};
-ghost use Rattle.problem.specs.Course.{Due, units-due, demand-due, spare-due, end-due, fleet-due, no-units};
+ghost use Rattle.problem.specs.Course.{units-due, demand-due, spare-due, end-due, fleet-due, no-units};
 ghost use Rattle.problem.specs.Reading.{IsProblem, read-as, problem-read};
 ghost use Rattle.problem.specs.Following.{Holds, read-from};
 use model::generator::Generator;

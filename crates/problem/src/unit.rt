@@ -1,6 +1,5 @@
 // The line of a unit.
 ghost use mathlib.Core.Path.{_≡_};
-ghost use Prim.Native.Nat.{ℕ};
 ghost use Rattle.text.specs.Lines.{lineAt};
 ghost use Rattle.problem.specs.Units.{generator};
 ghost use Rattle.problem.specs.Following.{no-unit, unit-row};

@@ -1,10 +1,10 @@
 -- The line that is due: a line is refused by the first of 12, 14, 13 whose test holds of it, and good where none does.
-use Prim.Native.Nat.{ℕ, suc}
+use Prim.Native.Nat.{ℕ}
 use native.Mathlib.Omega.{arith}
 use mathlib.Core.Path.{_≡_, refl, sym, subst, _∙_}
-use mathlib.Core.Bool.{Bool, true, false, not}
+use mathlib.Core.Bool.{Bool, true, false}
 use mathlib.Core.Logic.{_↔_}
-use mathlib.Core.List.{List, [], _∷_}
+use mathlib.Core.List.{List}
 use lib.Dec.{eqb}
 use Rattle.text.specs.Lines.{Line, missing, isLine}
 use Rattle.text.specs.Forms.{Form, malformed, wrongCount, outOfRange, pickNumber, refusedBy}

@@ -3,7 +3,10 @@ pub mod Texts
 pub mod Awaited
 pub mod PlainLines
 pub mod RowsRead
+pub mod Courses
 pub mod Steps
+pub mod Ends
+pub mod CutRows
 pub mod Filling
 pub mod Ruling
 pub mod Runs
@@ -12,4 +15,6 @@ pub mod Rendered
 pub mod Wholes
 pub mod LinesRefused
 pub mod Outcomes
+pub mod ReadAnswers
+pub mod Costs
 pub mod Specimens

@@ -1,21 +1,20 @@
 -- A text is refused at a line exactly where the lines before it are good and a test holds of it, and the number is the first such test's.
-use Prim.Native.Nat.{ℕ, suc, _+_, _<_}
+use Prim.Native.Nat.{ℕ}
 use native.Mathlib.Omega.{arith}
-use mathlib.Core.Path.{_≡_, refl, sym, ap, subst, _∙_}
-use mathlib.Core.Bool.{Bool, true, false}
+use mathlib.Core.Path.{_≡_, refl, sym, subst}
+use mathlib.Core.Bool.{true}
 use mathlib.Core.Logic.{_↔_}
 use mathlib.Core.List.{List, [], _∷_}
 use mathlib.Core.Option.{none}
-use lib.ListN.{length}
 use Rattle.model.specs.Instance.{Instance}
 use Rattle.refusal.specs.Refusals.{refusalOf, carriesLine, carriesUnit, carriesPeriod}
 use Rattle.text.specs.Lines.{Line, missing, due, later, linesOf}
 use Rattle.text.specs.Forms.{malformed}
-use Rattle.text.specs.Course.{refused, refused-at, Refuses, missing-line, wrong-line, FirstRefused}
+use Rattle.text.specs.Course.{refused-at, Refuses, missing-line, wrong-line, FirstRefused}
 use Rattle.text.proofs.Courses as courses
 use Rattle.schedule.specs.Awaited.{Awaited, numbered, word, no-line, breaks-12, FirstTest, by-12, by-14, by-13}
 use Rattle.schedule.specs.Course.{Due, writer-due, awaited, next-due, judge, end, schedule-judged}
-use Rattle.schedule.specs.Answers.{at-line, RefusesLine}
+use Rattle.schedule.specs.Answers.{line-refusal, RefusedAt}
 use Rattle.schedule.proofs.Awaited.{found-is}
 
 -- ---- the test of a line
@@ -32,7 +31,7 @@ missing-12 a n (by-14 p q) = absurd (let m = missing-breaks a in let z : _≡_ {
 missing-12 a n (by-13 p q r) = absurd (let m = missing-breaks a in let z : _≡_ {A = ℕ} 0 1 = cc in omega arith)
 
 -- its number carries a line
-pub test-carries : (a : Awaited) (x : Line) (n l : ℕ) → FirstTest a x n → refusalOf n l 0 0 ≡ at-line n l
+pub test-carries : (a : Awaited) (x : Line) (n l : ℕ) → FirstTest a x n → refusalOf n l 0 0 ≡ line-refusal n l
 unfolding refusalOf carriesLine carriesUnit carriesPeriod
 test-carries a x n l (by-12 p) = refl
 test-carries a x n l (by-14 p q) = refl
@@ -52,7 +51,7 @@ module _ (P : Instance) (n : ℕ) (s : Due) where
 
 -- ---- the text
 
-pub judged-refused-is : (P : Instance) (text : List ℕ) (n l : ℕ) → (schedule-judged P text ≡ refused-at n l) ↔ RefusesLine P text n l
+pub judged-refused-is : (P : Instance) (text : List ℕ) (n l : ℕ) → (schedule-judged P text ≡ refused-at n l) ↔ RefusedAt P text n l
 unfolding schedule-judged
 judged-refused-is P text n l = (
   λ e. let r = c .0 e in
@@ -60,21 +59,21 @@ judged-refused-is P text n l = (
       record {
         before = r .before;
         after = r .after;
-        due-there = r .due;
+        stands = r .due;
         parts = r .parts;
         good-before = r .good-before;
         place = r .place;
-        no-end = t .0;
+        unfinished = t .0;
         test = t .1;
       },
   λ r. c .1 (record {
     before = r .before;
     after = r .after;
-    due = r .due-there;
+    due = r .stands;
     parts = r .parts;
     good-before = r .good-before;
     place = r .place;
-    refuses = tested-line P n (r .due-there) (r .after) (r .no-end) (r .test);
+    refuses = tested-line P n (r .stands) (r .after) (r .unfinished) (r .test);
   }),
 )
   where

@@ -1,30 +1,25 @@
 -- The lines after kind=schedule are those of the text from byte 14 on, and the first of them is the writer's.
-use Prim.Native.Nat.{ℕ, _+_, _<_}
+use Prim.Native.Nat.{ℕ}
 use native.Mathlib.Omega.{arith}
-use mathlib.Core.Path.{_≡_, refl, sym, ap, subst, _∙_}
+use mathlib.Core.Path.{_≡_, refl, sym, ap, _∙_}
 use mathlib.Core.Bool.{Bool, true, false}
 use mathlib.Core.List.{List, []}
-use lib.ListN.{length, take, drop, getD}
+use lib.ListN.{length, getD}
 use lib.Seq.{getD-take}
 use Rattle.model.specs.declared.problem.Problem.{Problem}
 use Rattle.model.specs.Instance.{Instance}
 use Rattle.model.specs.Held.{view, Valid}
-use Rattle.refusal.specs.Refusals.{refusalOf}
-use Rattle.text.specs.Lines.{Line, ended, later, linesOf, lineAt, isLine, kindOf, pickKind, kindProblem, kindSchedule, kindTree}
-use Rattle.text.specs.Forms.{refusedBy, after, rowOf}
-use Rattle.text.specs.Forms as forms
-use Rattle.text.specs.declared.Kind.{Kind}
+use Rattle.text.specs.Lines.{Line, lineAt, isLine, kindOf, pickKind, kindProblem, kindSchedule, kindTree}
 use Rattle.text.specs.declared.Kind.the-variants as kind
 use Rattle.text.specs.declared.Row.{Row}
-use Rattle.text.proofs.Words.{word-is, is-word, kind-schedule}
 use Rattle.text.proofs.Verdicts.{word-next}
 use Rattle.schedule.specs.Rendering.{writer-key}
 use Rattle.schedule.specs.Awaited.{numbers-of}
-use Rattle.schedule.specs.Course.{written, writer-due, runs-due, writer-form, judge, end, schedule-judged}
-use Rattle.schedule.specs.Reading.{IsSchedule, refused-by, by-lines, in-arrays, schedule-outcome, schedule-read}
-use Rattle.schedule.specs.Storing.{read-from}
+use Rattle.schedule.specs.Course.{written, writer-due, runs-due, writer-form, schedule-judged}
+use Rattle.schedule.specs.Reading.{IsSchedule, schedule-outcome, schedule-read}
+use Rattle.schedule.specs.Storing.{refused-read, read-from}
 use Rattle.schedule.proofs.Steps.{row-passed, row-stopped}
-use Rattle.schedule.proofs.RowsRead.{RowGood}
+use Rattle.schedule.proofs.RowsRead.{RowGood, RowRefused}
 use Rattle.schedule.proofs.Runs.{units-viewed}
 
 -- ---- the first line
@@ -47,15 +42,16 @@ module _ (P : Instance) (text : List ℕ) (is : IsSchedule text) where
   unfolding schedule-read schedule-outcome schedule-judged read-from
   opened = rw (word-next kindSchedule text 0 (kind-is (lineAt text 0) is)) refl
 
-  pub opening-stopped : (number : ℕ) → (forms.good writer-form (lineAt text 14) ≡ false) × (refusedBy writer-form (lineAt text 14) ≡ number)
-      → schedule-read P text ≡ in-arrays (refused-by (refusalOf number 2 0 0))
-  opening-stopped number g =
-      opened ∙ row-stopped P text 14 2 writer-due refl writer-form refl (g .0) ∙ ap (λ (n : ℕ). in-arrays (refused-by (refusalOf n 2 0 0))) (g .1)
+  pub opening-stopped : {number : ℕ} → RowRefused writer-key 1 1 65535 (lineAt text 14) 14 number → schedule-read P text ≡ refused-read number 2
+  opening-stopped g =
+      opened ∙ row-stopped P text 14 2 writer-due refl writer-form refl (g .line-bad) ∙ ap (λ (n : ℕ). refused-read n 2) (g .number-is)
 
 module _ (p : Problem) (valid : Valid p) (whole : length (p .generators) ≡ 32) (text : List ℕ) (is : IsSchedule text) where
-  pub opening-passed : (row : Row) (read : row ≡ rowOf writer-form (lineAt text 14) 14) (next : ℕ) → RowGood writer-key 1 1 65535 (lineAt text 14) 14 row read next
+  pub opening-passed : {row : Row} {next : ℕ} → RowGood writer-key 1 1 65535 (lineAt text 14) 14 row next
       → schedule-read (view p) text ≡ read-from (view p) text next 3 (runs-due (p .units) (written (getD (row .values) 0 0) []))
-  opening-passed row read next g =
+  opening-passed {row} g =
       let w : getD (row .values) 0 0 ≡ getD (numbers-of writer-form (lineAt text 14)) 0 0 =
       sym (getD-take 1 (row .values) 0 0 (omega arith)) ∙ ap (λ (vs : List ℕ). getD vs 0 0) (g .numbers) in
-      opened (view p) text is ∙ row-passed (view p) text 14 2 writer-due refl writer-form refl (g .line-good) ∙ rw (w, g .next-is, units-viewed p valid whole) refl
+      opened (view p) text is
+      ∙ row-passed (view p) text 14 2 writer-due refl writer-form refl (g .line-good)
+      ∙ rw (w, g .next-is, units-viewed p valid whole) refl

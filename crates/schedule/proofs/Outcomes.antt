@@ -1,32 +1,30 @@
 -- The whole answer both ways: a text is accepted exactly where it renders a writer and rows in range that meet the rules, and refused
 -- exactly by the number that meets it.
-use Prim.Native.Nat.{ℕ, zero, suc, _+_, _<_}
+use Prim.Native.Nat.{ℕ, _<_}
 use native.Mathlib.Omega.{arith}
 use mathlib.Core.Path.{_≡_, refl, sym, ap, subst, _∙_}
 use mathlib.Core.Logic.{_↔_}
 use mathlib.Core.List.{List}
 use mathlib.Core.Option.{Option, none, some}
-use lib.ListN.{length}
 use Rattle.model.specs.Instance.{Instance, Schedule}
-use Rattle.model.specs.Ranges.{GoodWriter, GoodRows, WellFormed}
+use Rattle.model.specs.Ranges.{WellFormed}
 use Rattle.model.specs.Cost.{cost}
 use Rattle.model.specs.Breach.{Breach, first-breach}
-use Rattle.model.specs.Broken.{Broken, limits, demand, spare, updown, ramps, Lower}
+use Rattle.model.specs.Broken.{Broken, limits, demand, spare, updown, ramps}
 use Rattle.model.proofs.Judging.{judge-none, judge-some}
 use Rattle.refusal.specs.declared.Refusal.{Refusal}
 use Rattle.refusal.specs.Refusals.{refusalOf, carriesLine, carriesUnit, carriesPeriod}
 use Rattle.text.specs.Course.{Judged, refused-at, accepted}
-use Rattle.schedule.specs.Rendering.{render}
 use Rattle.schedule.specs.Course.{Written, written, schedule-judged}
-use Rattle.schedule.specs.Reading.{IsSchedule, Outcome, refused-by, accepted-as, by-rules, by-lines, schedule-outcome}
-use Rattle.schedule.specs.Answers.{at-line, at-breach, Accepts, AcceptsSome, Breaks, RefusesLine, Refuses, by-line, by-rule}
+use Rattle.schedule.specs.Reading.{IsSchedule, Outcome, refused-by, accepted-as, by-rules, schedule-outcome}
+use Rattle.schedule.specs.Answers.{line-refusal, rule-refusal, Accepts, AcceptsSome, BreaksFirst, RefusedAt, RefusedFor, by-line, by-rule}
 use Rattle.schedule.proofs.Wholes.{judged-is}
 use Rattle.schedule.proofs.LinesRefused.{test-carries, judged-refused-is}
 
 -- ---- what a broken rule's number carries
 
 module _ (P : Instance) (s : Schedule) where
-  breach-carries : (b : Breach) → Broken P s b → refusalOf (b .number) 0 (b .unit) (b .period) ≡ at-breach b
+  breach-carries : (b : Breach) → Broken P s b → refusalOf (b .number) 0 (b .unit) (b .period) ≡ rule-refusal b
   unfolding refusalOf carriesLine carriesUnit carriesPeriod
   breach-carries b (limits u t h k) = refl
   breach-carries b (demand t h k) = refl
@@ -57,7 +55,8 @@ module _ (P : Instance) (text : List ℕ) where
     at-a-line : (n l : ℕ) → schedule-judged P text ≡ refused-at n l → Found (refused-by (refusalOf n l 0 0))
     at-a-rule : (v : Written) (b : Breach) → schedule-judged P text ≡ accepted v → first-breach P (v .rows) ≡ some b
         → Found (refused-by (refusalOf (b .number) 0 (b .unit) (b .period)))
-    at-no-fault : (v : Written) → schedule-judged P text ≡ accepted v → first-breach P (v .rows) ≡ none → Found (accepted-as (v .writer) (cost P (v .rows)) (v .rows))
+    at-no-fault : (v : Written) → schedule-judged P text ≡ accepted v → first-breach P (v .rows) ≡ none
+        → Found (accepted-as (v .writer) (cost P (v .rows)) (v .rows))
 
   found : Found (schedule-outcome P text)
   found = lines (schedule-judged P text) refl
@@ -103,11 +102,11 @@ module _ (P : Instance) (W : WellFormed P) (text : List ℕ) (is : IsSchedule te
 
   -- the first rule that the rows break
   breach-refuses : (v : Written) (b : Breach) → schedule-judged P text ≡ accepted v → first-breach P (v .rows) ≡ some b
-      → Refuses P text (refusalOf (b .number) 0 (b .unit) (b .period))
+      → RefusedFor P text (refusalOf (b .number) 0 (b .unit) (b .period))
   breach-refuses v b e f =
       let p = judged-is P W text is (v .writer) (v .rows) .0 e in
       let q = judge-some P (v .rows) b .0 f in
-      subst (Refuses P text) (sym (breach-carries P (v .rows) b (q .0))) (by-rule b (record {
+      subst (RefusedFor P text) (sym (breach-carries P (v .rows) b (q .0))) (by-rule b (record {
         writer = v .writer;
         rows = v .rows;
         renders = p .0;
@@ -117,18 +116,18 @@ module _ (P : Instance) (W : WellFormed P) (text : List ℕ) (is : IsSchedule te
         first = q .1;
       }))
 
-  pub refused-is : (r : Refusal) → (schedule-outcome P text ≡ refused-by r) ↔ Refuses P text r
+  pub refused-is : (r : Refusal) → (schedule-outcome P text ≡ refused-by r) ↔ RefusedFor P text r
   refused-is r = (λ e. forth (schedule-outcome P text) (found P text) r e, back r)
     where
-      forth : (o : Outcome) → Found P text o → (r : Refusal) → o ≡ refused-by r → Refuses P text r
+      forth : (o : Outcome) → Found P text o → (r : Refusal) → o ≡ refused-by r → RefusedFor P text r
       forth o (at-a-line n l e) r q =
           let k : refusalOf n l 0 0 ≡ r = cc in
           let t = judged-refused-is P text n l .0 e in
-          subst (Refuses P text) (sym (test-carries _ _ n l (t .test)) ∙ k) (by-line n l t)
-      forth o (at-a-rule v b e f) r q = let k : refusalOf (b .number) 0 (b .unit) (b .period) ≡ r = cc in subst (Refuses P text) k (breach-refuses v b e f)
+          subst (RefusedFor P text) (sym (test-carries _ _ n l (t .test)) ∙ k) (by-line n l t)
+      forth o (at-a-rule v b e f) r q = let k : refusalOf (b .number) 0 (b .unit) (b .period) ≡ r = cc in subst (RefusedFor P text) k (breach-refuses v b e f)
       forth o (at-no-fault v e f) r q = absurd (let z : _≡_ {A = ℕ} 0 1 = cc in omega arith)
 
-      back : (r : Refusal) → Refuses P text r → schedule-outcome P text ≡ refused-by r
+      back : (r : Refusal) → RefusedFor P text r → schedule-outcome P text ≡ refused-by r
       back r (by-line n l t) = outcome-refused P text n l (judged-refused-is P text n l .1 t) ∙ ap refused-by (test-carries _ _ n l (t .test))
       back r (by-rule b t) =
           let e = judged-is P W text is (t .writer) (t .rows) .1 (t .renders, (t .writer-in, t .rows-in)) in
@@ -139,38 +138,45 @@ module _ (P : Instance) (W : WellFormed P) (text : List ℕ) (is : IsSchedule te
   -- ---- each kind of refusal by itself
 
   -- its line is not 0, or its period is not 0
-  at-a-place : (r : Refusal) → Refuses P text r → ((b : Breach) → r ≡ at-breach b → Breaks P text b) × ((n l : ℕ) → r ≡ at-line n l → RefusesLine P text n l)
+  at-a-place : (r : Refusal) → RefusedFor P text r
+      → ((b : Breach) → r ≡ rule-refusal b → BreaksFirst P text b) × ((n l : ℕ) → r ≡ line-refusal n l → RefusedAt P text n l)
   at-a-place r (by-line n l t) = (
     λ b e. absurd (let z : l ≡ 0 = ap (λ (x : Refusal). x .line) e in omega (arith, t .place)),
     λ m k e.
         let p : n ≡ m = ap (λ (x : Refusal). x .number) e in
         let q : l ≡ k = ap (λ (x : Refusal). x .line) e in
-        subst (λ (x : ℕ). RefusesLine P text x k) p (subst (RefusesLine P text n) q t),
+        subst (λ (x : ℕ). RefusedAt P text x k) p (subst (RefusedAt P text n) q t),
   )
   at-a-place r (by-rule b t) = (
-    λ c e. subst (Breaks P text) (λ i. record { number = e i .number; unit = e i .unit; period = e i .period }) t,
+    λ c e. subst (BreaksFirst P text) (λ i. record { number = e i .number; unit = e i .unit; period = e i .period }) t,
     λ n l e. absurd (let z : b .period ≡ 0 = ap (λ (x : Refusal). x .period) e in omega (arith, breach-period P (t .rows) b (t .broken))),
   )
 
   -- by 21 to 25, at a unit and a period
-  pub refused-rule-is : (b : Breach) → (schedule-outcome P text ≡ refused-by (at-breach b)) ↔ Breaks P text b
-  refused-rule-is b = (λ e. at-a-place (at-breach b) (refused-is (at-breach b) .0 e) .0 b refl, λ t. refused-is (at-breach b) .1 (by-rule b t))
+  pub refused-rule-is : (b : Breach) → (schedule-outcome P text ≡ refused-by (rule-refusal b)) ↔ BreaksFirst P text b
+  refused-rule-is b = (
+    λ e. at-a-place (rule-refusal b) (refused-is (rule-refusal b) .0 e) .0 b refl,
+    λ t. refused-is (rule-refusal b) .1 (by-rule b t),
+  )
 
   -- by 12, 14 or 13, at a line
-  pub refused-line-is : (n l : ℕ) → (schedule-outcome P text ≡ refused-by (at-line n l)) ↔ RefusesLine P text n l
-  refused-line-is n l = (λ e. at-a-place (at-line n l) (refused-is (at-line n l) .0 e) .1 n l refl, λ t. refused-is (at-line n l) .1 (by-line n l t))
+  pub refused-line-is : (n l : ℕ) → (schedule-outcome P text ≡ refused-by (line-refusal n l)) ↔ RefusedAt P text n l
+  refused-line-is n l = (
+    λ e. at-a-place (line-refusal n l) (refused-is (line-refusal n l) .0 e) .1 n l refl,
+    λ t. refused-is (line-refusal n l) .1 (by-line n l t),
+  )
 
   -- ---- one or the other
 
   -- where no refusal meets a text, it is accepted
-  pub unrefused-accepted : ((r : Refusal) → Refuses P text r → ⊥) → AcceptsSome P text
+  pub unrefused-accepted : ((r : Refusal) → RefusedFor P text r → ⊥) → AcceptsSome P text
   unrefused-accepted none-meets = go (schedule-outcome P text) refl
     where
       go : (o : Outcome) → schedule-outcome P text ≡ o → AcceptsSome P text
       go (refused-by r) e = absurd (none-meets r (refused-is r .0 e))
       go (accepted-as w c s) e = record { writer = w; cost = c; rows = s; accepts = accepted-is w c s .0 e }
 
-  pub accepted-unrefused : (w c : ℕ) (s : Schedule) → Accepts P text w c s → (r : Refusal) → Refuses P text r → ⊥
+  pub accepted-unrefused : (w c : ℕ) (s : Schedule) → Accepts P text w c s → (r : Refusal) → RefusedFor P text r → ⊥
   accepted-unrefused w c s a r t =
       let e : accepted-as w c s ≡ refused-by r = sym (accepted-is w c s .1 a) ∙ refused-is r .1 t in
       let z : _≡_ {A = ℕ} 0 1 = cc in

@@ -3,23 +3,21 @@
 use Prim.Native.Nat.{ℕ, zero, suc, _+_, _<_}
 use native.Mathlib.Omega.{arith}
 use mathlib.Core.Path.{_≡_, refl, sym, ap, subst, _∙_}
-use mathlib.Core.Bool.{true}
 use mathlib.Core.Logic.{_↔_}
 use mathlib.Core.List.{List, [], _∷_, _++_, map, append-nil}
-use mathlib.Core.Option.{Option, none, some}
+use mathlib.Core.Option.{some}
 use lib.ListN.{length, getD}
 use lib.Seq.{append-snoc}
 use Rattle.model.specs.Instance.{Instance, Schedule}
 use Rattle.model.specs.Ranges.{All, GoodOutput, GoodWriter, GoodRows}
 use Rattle.text.specs.Lines.{Line, ended, endSchedule}
-use Rattle.text.specs.Forms as forms
-use Rattle.text.specs.Course.{Found, good, Good, none-yet, one-more, AllGood}
+use Rattle.text.specs.Course.{good, Good, none-yet, one-more, AllGood}
 use Rattle.text.proofs.Words.{word-is, is-word}
-use Rattle.text.proofs.Plain.{Between, plain-was, plain-good, IsPlain}
+use Rattle.text.proofs.Plain.{Between, plain-was, plain-good}
 use Rattle.judge.proofs.Rows.{all-at}
 use Rattle.schedule.specs.Rendering.{writer-key, run-key, plain-line, lines-of-rows, lines-after}
-use Rattle.schedule.specs.Awaited.{numbers-of, found}
-use Rattle.schedule.specs.Course.{Written, written, Due, writer-due, run-due, end-due, nothing-due, runs-due, with-row, writer-form, run-form, next-due, judge, end}
+use Rattle.schedule.specs.Course.{Written, written, Due, writer-due, run-due, end-due, nothing-due, runs-due, with-row}
+use Rattle.schedule.specs.Course.{writer-form, run-form, next-due, judge, end}
 use Rattle.schedule.proofs.Awaited.{numbered-good, good-numbered, word-good, good-word, none-refused}
 use Rattle.schedule.proofs.PlainLines.{all-from, plain-numbers}
 
@@ -113,7 +111,9 @@ module _ (P : Instance) where
 
   rows-good : 0 < P .periods → (w : Written) (s : Schedule) → All (λ r. length r ≡ P .periods) s → All (λ r. All GoodOutput r) s
       → Good (judge P) end (runs-due (length s) w) (map ended (lines-of-rows s)) (nothing-due (written (w .writer) (w .rows ++ s)))
-  rows-good h w [] long ok = one-more (line-end P w) (subst (λ (s : Schedule). Good (judge P) end (nothing-due w) [] (nothing-due (written (w .writer) s))) (sym (append-nil (w .rows))) none-yet)
+  rows-good h w [] long ok =
+      one-more (line-end P w)
+      (subst (λ (s : Schedule). Good (judge P) end (nothing-due w) [] (nothing-due (written (w .writer) s))) (sym (append-nil (w .rows))) none-yet)
   rows-good h w (r ∷ s) long ok =
       one-more (line-run P h (length s) w r (long .0) (ok .0))
       (subst (λ (t : Schedule). Good (judge P) end (runs-due (length s) (with-row w r)) (map ended (lines-of-rows s)) (nothing-due (written (w .writer) t)))
@@ -152,17 +152,18 @@ module _ (P : Instance) where
       let x = ended (plain-line writer-key (w ∷ [])) in
       let each : Between 1 65535 (w ∷ []) = all-at GoodWriter (w ∷ []) 0 (ok, tt) in
       numbered-good (next-due P writer-due x) writer-form x (plain-good writer-key 1 1 65535 (w ∷ []) (omega arith) refl each)
-      ∙ ap (λ (vs : List ℕ). good (runs-due (length (P .units)) (written (getD vs 0 0) []))) (plain-numbers writer-key 1 1 65535 (w ∷ []) (omega arith) refl each)
+      ∙ ap (λ (vs : List ℕ). good (runs-due (length (P .units)) (written (getD vs 0 0) [])))
+      (plain-numbers writer-key 1 1 65535 (w ∷ []) (omega arith) refl each)
 
   good-lines : (w : ℕ) (s : Schedule) (ls : List Line) (last : Due) → Good (judge P) end writer-due ls last → end last ≡ some (written w s)
       → (ls ≡ map ended (lines-after w s)) × (GoodWriter w × GoodRows P s)
   good-lines w s [] last none-yet e = absurd (let z : _≡_ {A = ℕ} 0 1 = cc in omega arith)
   good-lines w s (x ∷ ls) last (one-more {s′ = s′} j g) e =
       let k = writer-line x s′ j in
-      let m = good-rows P (length (P .units)) (written (k .writer) []) (written w s) ls last (subst (λ (t : Due). Good (judge P) end t ls last) (k .next) g) e in
+      let rest = subst (λ (t : Due). Good (judge P) end t ls last) (k .next) g in
+      let m = good-rows P (length (P .units)) (written (k .writer) []) (written w s) ls last rest e in
       let u : k .writer ≡ w = ap (λ (v : Written). v .writer) (sym (m .whole)) in
-      let r : m .rows ≡ s = ap (λ (v : Written). v .rows) (sym (m .whole)) in
-      (
+      let r : m .rows ≡ s = ap (λ (v : Written). v .rows) (sym (m .whole)) in (
         (λ i. (k .line ∙ ap (λ (n : ℕ). ended (plain-line writer-key (n ∷ []))) u) i ∷ (m .lines ∙ ap (λ (t : Schedule). map ended (lines-of-rows t)) r) i),
         (
           subst GoodWriter u (k .in-range),
@@ -177,9 +178,7 @@ module _ (P : Instance) where
     where
       back : (ls ≡ map ended (lines-after w s)) × (GoodWriter w × GoodRows P s) → AllGood (judge P) end (written w s) writer-due ls
       back (e, (ok, rows)) =
-          rw e record {
-            last = nothing-due (written w s);
-            good-lines = one-more (line-writer w ok)
-            (subst (λ (n : ℕ). Good (judge P) end (runs-due n (written w [])) (map ended (lines-of-rows s)) (nothing-due (written w s))) (rows .0 .0) (rows-good P h (written w []) s (rows .0 .1) (rows .1)));
-            ends = refl;
-          }
+          let v = nothing-due (written w s) in
+          let runs = subst (λ (n : ℕ). Good (judge P) end (runs-due n (written w [])) (map ended (lines-of-rows s)) v) (rows .0 .0)
+          (rows-good P h (written w []) s (rows .0 .1) (rows .1)) in
+          rw e record { last = v; good-lines = one-more (line-writer w ok) runs; ends = refl }

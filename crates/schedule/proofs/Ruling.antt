@@ -13,10 +13,9 @@ use Rattle.judge.specs.declared.Judgement.the-variants.{Breaks, Costs}
 use Rattle.judge.specs.Judgement.{judged, judgement}
 use Rattle.judge.specs.Rows.{cut-rows}
 use Rattle.schedule.specs.Course.{written}
-use Rattle.schedule.specs.Reading.{Outcome, refused-by, accepted-as, by-rules, ruled, in-arrays}
+use Rattle.schedule.specs.Reading.{refused-by, accepted-as, by-rules, ruled, in-arrays}
 use Rattle.schedule.specs.Storing.{Filled}
 use Rattle.schedule.specs.declared.ScheduleAnswer.the-variants.{Accepted}
-use Rattle.schedule.specs.declared.ScheduleRead.{ScheduleRead}
 use Rattle.schedule.proofs.Filling.{filled-joined}
 
 module _ (P : Instance) (s : Schedule) (w : ℕ) where

@@ -1,30 +1,28 @@
 -- The run lines, one after the other: after k of them their rows fill the array, and the rest of the text gives what the whole gives.
-use Prim.Native.Nat.{ℕ, zero, suc, _+_, _-_, _*_, _≤_, _<_}
+use Prim.Native.Nat.{ℕ, suc, _+_, _-_, _*_, _≤_, _<_}
 use native.Mathlib.Nat.{sub-zero, mul-le-mul-right, mul-le-mul-left}
 use native.Mathlib.Numerals.{add-one}
 use native.Mathlib.Omega.{arith}
-use mathlib.Core.Path.{_≡_, refl, sym, ap, subst, _∙_}
+use mathlib.Core.Path.{_≡_, refl, ap, subst, _∙_}
 use mathlib.Core.Bool.{true, false}
 use mathlib.Core.List.{List, [], _∷_, _++_}
-use lib.ListN.{length, take, replicate}
+use lib.ListN.{length, replicate}
 use lib.Seq.{paste, length-take-le}
 use Rattle.model.specs.declared.problem.Problem.{Problem}
-use Rattle.model.specs.Instance.{Instance, Schedule}
+use Rattle.model.specs.Instance.{Instance}
 use Rattle.model.specs.Held.{view, Valid}
-use Rattle.refusal.specs.Refusals.{refusalOf}
 use Rattle.text.specs.Lines.{Line, lineAt}
-use Rattle.text.specs.Forms.{refusedBy, after, rowOf}
+use Rattle.text.specs.Forms.{Form, refusedBy, after}
 use Rattle.text.specs.Forms as forms
 use Rattle.text.specs.declared.Row.{Row}
 use Rattle.judge.specs.Rows.{cut-rows}
 use Rattle.schedule.specs.Rendering.{run-key}
 use Rattle.schedule.specs.Awaited.{numbers-of}
-use Rattle.schedule.specs.Course.{Written, written, Due, run-due, end-due, runs-due, with-row, run-form}
-use Rattle.schedule.specs.Reading.{refused-by, in-arrays}
-use Rattle.schedule.specs.Storing.{read-from, Filled}
+use Rattle.schedule.specs.Course.{Written, written, run-due, end-due, runs-due, with-row, run-form}
+use Rattle.schedule.specs.Storing.{refused-read, read-from, Filled}
 use Rattle.schedule.specs.declared.ScheduleRead.{ScheduleRead}
 use Rattle.schedule.proofs.Steps.{row-passed, row-stopped}
-use Rattle.schedule.proofs.RowsRead.{RowGood}
+use Rattle.schedule.proofs.RowsRead.{RowGood, RowRefused}
 use Rattle.schedule.proofs.Filling.{filled-none, filled-more, filled-length, cut-more}
 
 -- ---- room for the rows
@@ -44,36 +42,42 @@ rows-fit p valid k h =
 -- ---- one line
 
 module _ (P : Instance) (text : List ℕ) (i k units : ℕ) (v : Written) (left : k < units) where
+  abbrev here : Line
+  here = lineAt text i
+
+  abbrev run : Form
+  run = run-form (P .periods)
+
   one-due : runs-due (units - k) v ≡ run-due (units - suc k) v
   one-due = let e : units - k ≡ suc (units - suc k) = omega arith in rw e refl
 
-  run-stopped : forms.good (run-form (P .periods)) (lineAt text i) ≡ false
-      → read-from P text i (k + 3) (runs-due (units - k) v) ≡ in-arrays (refused-by (refusalOf (refusedBy (run-form (P .periods)) (lineAt text i)) (k + 3) 0 0))
-  run-stopped g = rw one-due (row-stopped P text i (k + 3) (run-due (units - suc k) v) refl (run-form (P .periods)) refl g)
+  run-stopped : forms.good run here ≡ false → read-from P text i (k + 3) (runs-due (units - k) v) ≡ refused-read (refusedBy run here) (k + 3)
+  run-stopped g = rw one-due (row-stopped P text i (k + 3) (run-due (units - suc k) v) refl run refl g)
 
-  run-passed : forms.good (run-form (P .periods)) (lineAt text i) ≡ true
+  run-passed : forms.good run here ≡ true
       → read-from P text i (k + 3) (runs-due (units - k) v)
-      ≡ read-from P text (after (lineAt text i) i) (suc k + 3) (runs-due (units - suc k) (with-row v (numbers-of (run-form (P .periods)) (lineAt text i))))
+      ≡ read-from P text (after here i) (suc k + 3) (runs-due (units - suc k) (with-row v (numbers-of run here)))
   run-passed g =
       let e : suc (k + 3) ≡ suc k + 3 = omega arith in
-      rw (one-due, ← e) (row-passed P text i (k + 3) (run-due (units - suc k) v) refl (run-form (P .periods)) refl g)
+      rw (one-due, ← e) (row-passed P text i (k + 3) (run-due (units - suc k) v) refl run refl g)
 
 -- ---- line by line
 
-module _ (P : Instance) (text : List ℕ) (T w units : ℕ) (start : ScheduleRead) where
-  pub record Reading (rows : List ℕ) (i k : ℕ) : Type 0 where
-    pub some-left : k ≤ units
-    pub filled : Filled k T rows
-    pub same : start ≡ read-from P text i (k + 3) (runs-due (units - k) (written w (cut-rows k T rows)))
+-- k run lines are read, their rows fill the array, and the rest of the text gives `whole`
+pub record Reading (P : Instance) (text : List ℕ) (T w units : ℕ) (whole : ScheduleRead) (rows : List ℕ) (i k : ℕ) : Type 0 where
+  pub some-left : k ≤ units
+  pub filled : Filled k T rows
+  pub same : whole ≡ read-from P text i (k + 3) (runs-due (units - k) (written w (cut-rows k T rows)))
 
+module _ {P : Instance} {text : List ℕ} {T w units : ℕ} {whole : ScheduleRead} where
   -- before the first
-  pub reading-none : (at : ℕ) → start ≡ read-from P text at 3 (runs-due units (written w [])) → Reading (replicate 1536 0) at 0
+  pub reading-none : {at : ℕ} → whole ≡ read-from P text at 3 (runs-due units (written w [])) → Reading P text T w units whole (replicate 1536 0) at 0
   unfolding cut-rows
-  reading-none at e = record { some-left = omega arith; filled = filled-none T; same = rw sub-zero e }
+  reading-none e = record { some-left = omega arith; filled = filled-none T; same = rw sub-zero e }
 
-  module _ (rows : List ℕ) (i k : ℕ) (reading : Reading rows i k) where
+  module _ {rows : List ℕ} {i k : ℕ} (reading : Reading P text T w units whole rows i k) where
     -- after the last
-    pub reading-done : units ≤ k → start ≡ read-from P text i (units + 3) (end-due (written w (cut-rows units T rows)))
+    pub reading-done : units ≤ k → whole ≡ read-from P text i (units + 3) (end-due (written w (cut-rows units T rows)))
     reading-done h =
         let e : k ≡ units = omega (arith, reading .some-left) in
         let z : units - units ≡ 0 = omega arith in
@@ -84,25 +88,23 @@ module _ (P : Instance) (text : List ℕ) (T w units : ℕ) (start : ScheduleRea
 
     module _ (long : P .periods ≡ T) (left : k < units) where
       -- at a line that is refused
-      pub reading-stopped : (number : ℕ) → (forms.good (run-form T) (lineAt text i) ≡ false) × (refusedBy (run-form T) (lineAt text i) ≡ number)
-          → start ≡ in-arrays (refused-by (refusalOf number (k + 3) 0 0))
-      reading-stopped number g =
+      pub reading-stopped : {number : ℕ} → RowRefused run-key T 0 10000 (lineAt text i) i number → whole ≡ refused-read number (k + 3)
+      reading-stopped g =
           reading .same
-          ∙ run-stopped P text i k units (written w (cut-rows k T rows)) left (rw long (g .0))
-          ∙ ap (λ (n : ℕ). in-arrays (refused-by (refusalOf n (k + 3) 0 0))) (rw long (g .1))
+          ∙ run-stopped P text i k units (written w (cut-rows k T rows)) left (rw long (g .line-bad))
+          ∙ ap (λ (n : ℕ). refused-read n (k + 3)) (rw long (g .number-is))
 
-      -- past a good line
-      pub reading-more : (row : Row) (read : row ≡ rowOf (run-form T) (lineAt text i) i) (next : ℕ) (stored : List ℕ)
-          → RowGood run-key T 0 10000 (lineAt text i) i row read next → suc k * T ≤ 1536 → T ≤ length (row .values)
-          → stored ≡ paste rows (k * T) (row .values) T → Reading stored next (k + 1)
-      reading-more row read next stored g fits values e =
+      -- past a good line, whose row is stored
+      pub reading-more : {row : Row} {next : ℕ} → RowGood run-key T 0 10000 (lineAt text i) i row next
+          → suc k * T ≤ 1536 → T ≤ length (row .values) → {stored : List ℕ} → stored ≡ paste rows (k * T) (row .values) T
+          → Reading P text T w units whole stored next (k + 1)
+      reading-more {row} g fits values e =
           let room : suc k * T ≤ length rows = omega (arith, filled-length k T rows (reading .filled) (omega arith)) in
+          let v = written w (cut-rows k T rows) in
           let f = filled-more k T rows (row .values) (reading .filled) room values (g .in-range) in
           let c = cut-more k T rows (row .values) (reading .filled) room values ∙ ap (λ (r : List ℕ). cut-rows k T rows ++ (r ∷ [])) (g .numbers) in
           rw (e, add-one, g .next-is) record {
             some-left = left;
             filled = f;
-            same = reading .same
-                ∙ run-passed P text i k units (written w (cut-rows k T rows)) left (rw long (g .line-good))
-                ∙ rw (long, c) refl;
+            same = reading .same ∙ run-passed P text i k units v left (rw long (g .line-good)) ∙ rw (long, c) refl;
           }

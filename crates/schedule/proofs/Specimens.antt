@@ -18,12 +18,12 @@ use Rattle.schedule.specs.Rendering.{text-of, writer-key, run-key, plain
 use Rattle.schedule.specs.Awaited.{found}
 use Rattle.schedule.specs.Course.{judge, schedule-judged}
 use Rattle.schedule.specs.Reading.{IsSchedule, Outcome, refused-by, accepted-as, schedule-outcome}
-use Rattle.schedule.specs.Answers.{at-line, at-breach, Accepts, Breaks}
+use Rattle.schedule.specs.Answers.{line-refusal, rule-refusal, Accepts, BreaksFirst}
 use Rattle.schedule.proofs.Wholes.{render-is-schedule}
 use Rattle.schedule.proofs.Outcomes.{accepted-is, refused-rule-is}
 
 -- the text of document 01's schedule, byte by byte
-abbrev text : List ℕ
+abbrev pub text : List ℕ
 text =
     107 ∷ 105 ∷ 110 ∷ 100 ∷ 61 ∷ 115 ∷ 99 ∷ 104 ∷ 101 ∷ 100 ∷ 117 ∷ 108 ∷ 101 ∷ 10 ∷
     119 ∷ 114 ∷ 105 ∷ 116 ∷ 101 ∷ 114 ∷ 61 ∷ 55 ∷ 10 ∷
@@ -31,18 +31,18 @@ text =
     114 ∷ 117 ∷ 110 ∷ 61 ∷ 48 ∷ 44 ∷ 50 ∷ 48 ∷ 10 ∷
     101 ∷ 110 ∷ 100 ∷ 61 ∷ 115 ∷ 99 ∷ 104 ∷ 101 ∷ 100 ∷ 117 ∷ 108 ∷ 101 ∷ 10 ∷ []
 
-rendered : render 7 (rows (60 ∷ 80 ∷ []) (0 ∷ 20 ∷ [])) ≡ text
+pub rendered : render 7 (rows (60 ∷ 80 ∷ []) (0 ∷ 20 ∷ [])) ≡ text
 unfolding render digits digitsBy
 rendered = refl
 
 -- ---- accepted, and refused by a rule
 
-specimens : map (schedule-outcome example) (
+pub specimens : map (schedule-outcome example) (
     text ∷ render 65535 (rows (50 ∷ 80 ∷ []) (10 ∷ 20 ∷ [])) ∷ render 1 (rows (49 ∷ 80 ∷ []) (11 ∷ 20 ∷ [])) ∷ render 1 (rows (59 ∷ 80 ∷ []) (0 ∷ 20 ∷ []))
     ∷ render 1 (rows (60 ∷ 80 ∷ []) (0 ∷ 9 ∷ [])) ∷ [])
     ≡ accepted-as 7 1980 (rows (60 ∷ 80 ∷ []) (0 ∷ 20 ∷ [])) ∷ accepted-as 65535 2060 (rows (50 ∷ 80 ∷ []) (10 ∷ 20 ∷ []))
-    ∷ refused-by (at-breach (record { number = 25; unit = 1; period = 2 })) ∷ refused-by (at-breach (record { number = 22; unit = 0; period = 1 }))
-    ∷ refused-by (at-breach (record { number = 21; unit = 2; period = 2 })) ∷ []
+    ∷ refused-by (rule-refusal (record { number = 25; unit = 1; period = 2 })) ∷ refused-by (rule-refusal (record { number = 22; unit = 0; period = 1 }))
+    ∷ refused-by (rule-refusal (record { number = 21; unit = 2; period = 2 })) ∷ []
 unfolding schedule-outcome schedule-judged judged-from judge found malformed wrongCount outOfRange first-breach output capacity cost row-cost refusalOf carriesLine carriesUnit carriesPeriod render digits digitsBy
 specimens = refl
 
@@ -60,7 +60,7 @@ run r = plain-line run-key r
 
 -- nothing after the first line; writer 0 and 65,536; two writers; one output; output 10,001; a run line too few, one too many; no end
 -- line; byte 10 after the end line; the end line without its byte 10
-damaged : map (schedule-outcome example) (
+pub damaged : map (schedule-outcome example) (
     with-lines [] ∷ with-lines (writer 0 ∷ []) ∷ with-lines (writer 65536 ∷ []) ∷ with-lines (plain-line writer-key (7 ∷ 7 ∷ []) ∷ [])
     ∷ with-lines (writer 7 ∷ run (60 ∷ []) ∷ []) ∷ with-lines (writer 7 ∷ run (60 ∷ 80 ∷ []) ∷ run (0 ∷ 10001 ∷ []) ∷ [])
     ∷ with-lines (writer 7 ∷ run (60 ∷ 80 ∷ []) ∷ endSchedule ∷ [])
@@ -68,14 +68,14 @@ damaged : map (schedule-outcome example) (
     ∷ with-lines (writer 7 ∷ run (60 ∷ 80 ∷ []) ∷ run (0 ∷ 20 ∷ []) ∷ [])
     ∷ (text ++ (10 ∷ [])) ∷ (with-lines (writer 7 ∷ run (60 ∷ 80 ∷ []) ∷ run (0 ∷ 20 ∷ []) ∷ []) ++ endSchedule) ∷ [])
     ≡ map refused-by (
-    at-line 12 2 ∷ at-line 13 2 ∷ at-line 13 2 ∷ at-line 14 2 ∷ at-line 14 3 ∷ at-line 13 4 ∷ at-line 12 4 ∷ at-line 12 5 ∷ at-line 12 5 ∷ at-line 12 6
-    ∷ at-line 12 5 ∷ [])
+    line-refusal 12 2 ∷ line-refusal 13 2 ∷ line-refusal 13 2 ∷ line-refusal 14 2 ∷ line-refusal 14 3 ∷ line-refusal 13 4
+    ∷ line-refusal 12 4 ∷ line-refusal 12 5 ∷ line-refusal 12 5 ∷ line-refusal 12 6 ∷ line-refusal 12 5 ∷ [])
 unfolding schedule-outcome schedule-judged judged-from judge found malformed wrongCount outOfRange first-breach output capacity cost row-cost refusalOf carriesLine carriesUnit carriesPeriod render digits digitsBy
 damaged = refl
 
 -- ---- the premises of the laws can be met
 
-example-good : WellFormed example
+pub example-good : WellFormed example
 unfolding in-range costs-in-range outputs-in-range times-in-range ordered
 example-good = record {
   periods-in = (lit≤ tt, lit≤ tt);
@@ -90,19 +90,19 @@ example-good = record {
   );
 }
 
-text-kind : IsSchedule text
+pub text-kind : IsSchedule text
 unfolding kindOf
 text-kind = refl
 
 -- document 01's schedule renders rows that meet the rules, and its text is accepted for that
-text-accepts : Accepts example text 7 1980 (rows (60 ∷ 80 ∷ []) (0 ∷ 20 ∷ []))
+pub text-accepts : Accepts example text 7 1980 (rows (60 ∷ 80 ∷ []) (0 ∷ 20 ∷ []))
 text-accepts = accepted-is example example-good text text-kind 7 1980 (rows (60 ∷ 80 ∷ []) (0 ∷ 20 ∷ [])) .0 (first specimens)
   where
     first : {x y : Outcome} {xs ys : List Outcome} → x ∷ xs ≡ y ∷ ys → x ≡ y
     first e = cc
 
 -- a rise of 31 breaks 25 first
-steep : Breaks example (render 1 (rows (49 ∷ 80 ∷ []) (11 ∷ 20 ∷ []))) (record { number = 25; unit = 1; period = 2 })
+pub steep : BreaksFirst example (render 1 (rows (49 ∷ 80 ∷ []) (11 ∷ 20 ∷ []))) (record { number = 25; unit = 1; period = 2 })
 steep =
     refused-rule-is example example-good _ (render-is-schedule 1 (rows (49 ∷ 80 ∷ []) (11 ∷ 20 ∷ []))) (record { number = 25; unit = 1; period = 2 }) .0 (third specimens)
   where

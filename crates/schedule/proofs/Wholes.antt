@@ -4,16 +4,15 @@ use native.Mathlib.Omega.{arith}
 use mathlib.Core.Path.{_≡_, refl, sym, ap, _∙_}
 use mathlib.Core.Bool.{true, false}
 use mathlib.Core.Logic.{_↔_}
-use mathlib.Core.List.{List, [], _∷_, _++_, map}
+use mathlib.Core.List.{List, [], _∷_, map}
 use Rattle.model.specs.Instance.{Instance, Schedule}
 use Rattle.model.specs.Ranges.{All, GoodWriter, GoodRows, WellFormed}
-use Rattle.text.specs.Lines.{Line, ended, due, later, linesOf, lineAt, oneLine, isLine, kindOf, kindProblem, kindSchedule, endSchedule}
+use Rattle.text.specs.Lines.{Line, ended, due, later, linesOf, lineAt, oneLine, kindOf, kindSchedule}
 use Rattle.text.specs.Course.{accepted}
-use Rattle.text.specs.declared.Kind.the-variants as kind
-use Rattle.text.proofs.Words.{word-is, is-word, kind-schedule}
+use Rattle.text.proofs.Words.{word-is, kind-schedule}
 use Rattle.text.proofs.Bytes.{one-line}
 use Rattle.text.proofs.Courses as courses
-use Rattle.schedule.specs.Rendering.{writer-key, run-key, plain-line, text-of, lines-of-rows, lines-after, render}
+use Rattle.schedule.specs.Rendering.{writer-key, run-key, lines-of-rows, lines-after, render}
 use Rattle.schedule.specs.Course.{Written, written, writer-due, judge, end, schedule-judged}
 use Rattle.schedule.specs.Reading.{IsSchedule}
 use Rattle.schedule.proofs.Texts.{lines-text, text-lines}
@@ -43,9 +42,12 @@ rendered-is : (text : List ℕ) → IsSchedule text → (w : ℕ) (s : Schedule)
 unfolding render
 rendered-is text is w s = (
   λ e. text-lines (kindSchedule ∷ lines-after w s) text
-      (after-first (linesOf text) kindSchedule (word-is kindSchedule (lineAt text 0) (kind-is (lineAt text 0) is)) ∙ ap (λ (ls : List Line). ended kindSchedule ∷ ls) e),
+      (after-first (linesOf text) kindSchedule first-line ∙ ap (λ (ls : List Line). ended kindSchedule ∷ ls) e),
   λ e. ap (λ (t : List ℕ). later (linesOf t)) e ∙ ap later (lines-rendered w s),
 )
+  where
+    first-line : lineAt text 0 ≡ ended kindSchedule
+    first-line = word-is kindSchedule (lineAt text 0) (kind-is (lineAt text 0) is)
 
 -- ---- accepted line by line
 
@@ -56,8 +58,7 @@ module _ (P : Instance) (W : WellFormed P) where
   judged-is text is w s =
       let a = courses.accepted-is (judge P) end (written w s) 2 writer-due (later (linesOf text)) in
       let g = lines-good-is P (W .periods-in .0) w s (later (linesOf text)) in
-      let r = rendered-is text is w s in
-      (
+      let r = rendered-is text is w s in (
         (λ e. let p = g .0 (a .0 e) in (r .0 (p .0), p .1)),
         (λ p. a .1 (g .1 (r .1 (p .0), p .1))),
       )

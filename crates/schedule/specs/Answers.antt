@@ -18,11 +18,11 @@ use Rattle.schedule.specs.Awaited.{FirstTest}
 use Rattle.schedule.specs.Course.{Due, writer-due, awaited, judge, end}
 
 -- the refusal of a line, and that of a broken rule
-abbrev pub at-line : ℕ → ℕ → Refusal
-at-line n l = record { number = n; line = l; unit = 0; period = 0 }
+abbrev pub line-refusal : ℕ → ℕ → Refusal
+line-refusal n l = record { number = n; line = l; unit = 0; period = 0 }
 
-abbrev pub at-breach : Breach → Refusal
-at-breach b = record { number = b .number; line = 0; unit = b .unit; period = b .period }
+abbrev pub rule-refusal : Breach → Refusal
+rule-refusal b = record { number = b .number; line = 0; unit = b .unit; period = b .period }
 
 module _ (P : Instance) (text : List ℕ) where
   -- the text renders a writer and rows in range, which meet the rules and cost c
@@ -40,7 +40,7 @@ module _ (P : Instance) (text : List ℕ) where
     pub accepts : Accepts writer cost rows
 
   -- the text renders a writer and rows in range, and of the rules that the rows break b is the first
-  pub record Breaks (b : Breach) : Type 0 where
+  pub record BreaksFirst (b : Breach) : Type 0 where
     pub writer : ℕ
     pub rows : Schedule
     pub renders : text ≡ render writer rows
@@ -50,17 +50,17 @@ module _ (P : Instance) (text : List ℕ) where
     pub first : (c : Breach) → Lower c b → Broken P rows c → ⊥
 
   -- every line before line l is good at its place, and n is the first of 12, 14, 13 whose test holds of line l, which may be missing
-  pub record RefusesLine (n l : ℕ) : Type 0 where
+  pub record RefusedAt (n l : ℕ) : Type 0 where
     pub before : List Line
     pub after : List Line
-    pub due-there : Due
+    pub stands : Due
     pub parts : later (linesOf text) ≡ before ++ after
-    pub good-before : Good (judge P) end writer-due before due-there
+    pub good-before : Good (judge P) end writer-due before stands
     pub place : l ≡ 2 + length before
-    pub no-end : after ≡ [] → end due-there ≡ none
-    pub test : FirstTest (awaited P due-there) (due after) n
+    pub unfinished : after ≡ [] → end stands ≡ none
+    pub test : FirstTest (awaited P stands) (due after) n
 
   -- the refusals that meet the text
-  pub data Refuses : Refusal → Type 0 where
-    by-line : (n l : ℕ) → RefusesLine n l → Refuses (at-line n l)
-    by-rule : (b : Breach) → Breaks b → Refuses (at-breach b)
+  pub data RefusedFor : Refusal → Type 0 where
+    by-line : (n l : ℕ) → RefusedAt n l → RefusedFor (line-refusal n l)
+    by-rule : (b : Breach) → BreaksFirst b → RefusedFor (rule-refusal b)

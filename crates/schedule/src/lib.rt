@@ -1,7 +1,7 @@
 // A schedule's text, read and judged under a held problem.
 ghost use mathlib.Core.Path.{_≡_};
 ghost use mathlib.Core.List.{[]};
-ghost use Prim.Native.Nat.{ℕ, _+_, _≤_};
+ghost use Prim.Native.Nat.{_+_};
 ghost use Rattle.model.specs.Held.{view, Valid};
 ghost use Rattle.refusal.specs.Refusals.{refusalOf};
 ghost use Rattle.judge.specs.Rows.{schedule-of};
@@ -122,12 +122,11 @@ fn judge_rows(problem: Problem, writer: u64, rows: [u16; 1536]) -> ScheduleRead
     let n = problem.units * problem.periods;
     let judgement = judge::judge(problem, &rows[..n]);
     match judgement {
-        Judgement::Breaks(broken) => refuse_text(
-            broken.number,
-            0,
-            broken.unit as usize,
-            broken.period as usize,
-        ),
+        Judgement::Breaks(broken) => {
+            let unit = broken.unit as usize;
+            let period = broken.period as usize;
+            refuse_text(broken.number, 0, unit, period)
+        }
         Judgement::Costs(cost) => ScheduleRead {
             answer: ScheduleAnswer::Accepted(Priced { writer, cost }),
             rows,

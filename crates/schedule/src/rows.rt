@@ -1,6 +1,6 @@
 // Rows of outputs in one array.
 ghost use mathlib.Core.Path.{_≡_};
-ghost use Prim.Native.Nat.{ℕ, _+_, _≤_, _<_};
+ghost use Prim.Native.Nat.{_+_, _≤_, _<_};
 ghost use lib.ListN.{take};
 ghost use lib.Seq.{paste};
 ghost use Rattle.model.specs.Ranges.{All, GoodOutput};

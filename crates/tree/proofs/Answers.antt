@@ -15,15 +15,15 @@ use Rattle.model.specs.Cost.{cost}
 use Rattle.model.specs.Above.{root}
 use Rattle.model.specs.Tree.{Tree, bound, never, number}
 use Rattle.model.proofs.Soundness.{number-sound, never-sound}
-use Rattle.text.specs.Lines.{Line, missing, ended, due, later, linesOf, lineAt, isLine, kindTree, endTree}
+use Rattle.text.specs.Lines.{Line, missing, ended, due, later, linesOf, lineAt, kindTree}
 use Rattle.text.specs.Forms.{malformed}
 use Rattle.text.specs.Course.{refused-at, accepted, Refuses, missing-line, wrong-line}
 use Rattle.text.proofs.Courses.{accepted-good, refused-is}
-use Rattle.text.proofs.Words.{word-is}
+use Rattle.text.proofs.FirstLine.{tree-is}
 use Rattle.tree.specs.Rendering.{numbers, writer-key, node-lines, tree-lines, render}
 use Rattle.tree.specs.Tests.{Test, _if_, First}
 use Rattle.tree.specs.NodeLines.{kind-of}
-use Rattle.tree.specs.Due.{Figures, by-writer, pending, Pending, Due, writer-due, nodes-due, reserve-due, nothing-due, tests, next, judge, end, judged}
+use Rattle.tree.specs.Due.{Figures, by-writer, pending, Pending, Due, writer-due, nodes-due, reserve-due, nothing-due, tests, next, judge, end, IsTree, judged}
 use Rattle.tree.specs.Answers.{figures-of, Accepted, Refused}
 use Rattle.tree.proofs.Tests.{refused-first, head-first, none-first}
 use Rattle.tree.proofs.Bounds.{add, add-is, figures-same}
@@ -33,7 +33,7 @@ use Rattle.tree.proofs.Correct.{Forest, Whole, Grown, forest-lines, wit
 
 -- ---- accepted
 
-module _ (P : Instance) (text : List ℕ) (first : isLine kindTree (lineAt text 0) ≡ true) (F : Figures) where
+module _ (P : Instance) (text : List ℕ) (first : IsTree text) (F : Figures) where
   -- the first line and those that are left
   all-lines : (ls : List Line) → due ls ≡ ended kindTree → ls ≡ ended kindTree ∷ later ls
   all-lines [] e = absurd (let z : _≡_ {A = ℕ} 0 1 = cc in omega arith)
@@ -44,7 +44,7 @@ module _ (P : Instance) (text : List ℕ) (first : isLine kindTree (lineAt text 
   whole-tree w = go (w .forest .trees) (w .forest .grown) (w .forest .lines) (w .forest .gives)
     where
       lines : linesOf text ≡ ended kindTree ∷ ended (numbers writer-key (w .writer ∷ [])) ∷ w .after
-      lines = all-lines (linesOf text) (word-is kindTree (lineAt text 0) first) ∙ ap (λ (x : List Line). ended kindTree ∷ x) (w .lines)
+      lines = all-lines (linesOf text) (tree-is (lineAt text 0) .0 first) ∙ ap (λ (x : List Line). ended kindTree ∷ x) (w .lines)
 
       go : (ts : List Tree) → Grown P (pending root 0 ∷ []) ts → w .after ≡ map ended (forest-lines ts)
           → F ≡ with-forest P (by-writer (w .writer)) (pending root 0 ∷ []) ts
@@ -70,12 +70,12 @@ module _ (P : Instance) (text : List ℕ) (first : isLine kindTree (lineAt text 
   unfolding judged
   accepted-is W = (
     (λ e.
-      let g = accepted-good (judge P) end F 2 writer-due (later (linesOf text)) e in
-      whole-tree (good-left P writer-due (g .last) (later (linesOf text)) F (later-there (linesOf text) (lines-there text)) (g .good-lines) (g .ends))),
+        let g = accepted-good (judge P) end F 2 writer-due (later (linesOf text)) e in
+        whole-tree (good-left P writer-due (g .last) (later (linesOf text)) F (later-there (linesOf text) (lines-there text)) (g .good-lines) (g .ends))),
     (λ a.
-      ap (judged P) (a .written)
-      ∙ tree-accepted P (W .periods-in .0) (F .writer) (a .tree) (a .writer-in) (a .within) (a .holds)
-      ∙ ap accepted (sym (a .figures))),
+        ap (judged P) (a .written)
+        ∙ tree-accepted P (W .periods-in .0) (F .writer) (a .tree) (a .writer-in) (a .within) (a .holds)
+        ∙ ap accepted (sym (a .figures))),
   )
 
 -- ---- refused
@@ -85,7 +85,7 @@ module _ (P : Instance) (n : ℕ) where
   always-due : (s : Due) (b : Bool) (ts : List Test) → end s ≡ none → b ≡ true → ((n ≡ 12) × (end s ≡ none)) ↔ First n (12 if b ∷ ts)
   always-due s b ts e h = let f = head-first n 12 b ts h in ((λ p. f .0 (p .0)), (λ w. (f .1 w, e)))
 
-  missing-first : (s : Due) → ((n ≡ 12) × (end s ≡ none)) ↔ First n (tests P s missing)
+  pub missing-first : (s : Due) → ((n ≡ 12) × (end s ≡ none)) ↔ First n (tests P s missing)
   unfolding tests kind-of malformed
   missing-first writer-due = always-due writer-due _ _ refl refl
   missing-first (nodes-due F []) = always-due (nodes-due F []) _ _ refl refl
@@ -110,31 +110,31 @@ pub refused-is-first : (P : Instance) (text : List ℕ) (n m : ℕ) → (judged 
 unfolding judged
 refused-is-first P text n m = (
   (λ e.
-    let r = refused-is (judge P) end n m 2 writer-due (later (linesOf text)) .0 e in
-    record {
-      before = r .before;
-      after = r .after;
-      place-due = r .due;
-      lines = r .parts;
-      good-before = r .good-before;
-      place = r .place;
-      first = refuses-first P n (r .due) (r .after) .0 (r .refuses);
-    }),
+      let r = refused-is (judge P) end n m 2 writer-due (later (linesOf text)) .0 e in
+      record {
+        before = r .before;
+        after = r .after;
+        place-due = r .due;
+        lines = r .parts;
+        good-before = r .good-before;
+        place = r .place;
+        first = refuses-first P n (r .due) (r .after) .0 (r .refuses);
+      }),
   (λ r.
-    refused-is (judge P) end n m 2 writer-due (later (linesOf text)) .1 (record {
-      before = r .before;
-      after = r .after;
-      due = r .place-due;
-      parts = r .lines;
-      good-before = r .good-before;
-      place = r .place;
-      refuses = refuses-first P n (r .place-due) (r .after) .1 (r .first);
-    })),
+      refused-is (judge P) end n m 2 writer-due (later (linesOf text)) .1 (record {
+        before = r .before;
+        after = r .after;
+        due = r .place-due;
+        parts = r .lines;
+        good-before = r .good-before;
+        place = r .place;
+        refuses = refuses-first P n (r .place-due) (r .after) .1 (r .first);
+      })),
 )
 
 -- ---- sound
 
-module _ (P : Instance) (W : WellFormed P) (text : List ℕ) (first : isLine kindTree (lineAt text 0) ≡ true) (F : Figures) (e : judged P text ≡ accepted F) where
+module _ (P : Instance) (W : WellFormed P) (text : List ℕ) (first : IsTree text) (F : Figures) (e : judged P text ≡ accepted F) where
   -- the tree of an accepted text gives its figures
   accepted-tree : Accepted P text F
   accepted-tree = accepted-is P text first F W .0 e

@@ -9,3 +9,13 @@ pub mod Correct
 pub mod Answers
 pub mod Unique
 pub mod Witnesses
+pub mod Rows
+pub mod Steps
+pub mod Marked
+pub mod Keys
+pub mod Leaves
+pub mod SplitLines
+pub mod Short
+pub mod Problems
+pub mod StuckUnits
+pub mod Texts

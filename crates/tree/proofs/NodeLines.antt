@@ -57,6 +57,9 @@ module _ (P : Instance) where
 
   pub record WasSplit (l : Line) : Type 0 where
     pub line : l ≡ ended (numbers split-key (suc (named (node-form P split-line) l 0) ∷ suc (named (node-form P split-line) l 1) ∷ []))
+    pub count : length (numbers-of (node-form P split-line) l) ≡ 2
+    pub first : 1 ≤ numbers-of (node-form P split-line) l at 0
+    pub second : 1 ≤ numbers-of (node-form P split-line) l at 1
     pub unit : named (node-form P split-line) l 0 < length (P .units)
     pub period : named (node-form P split-line) l 1 < P .periods
 
@@ -81,7 +84,7 @@ module _ (P : Instance) where
           let v = leb-true t (P .periods) (f .0) in
           let m : suc (pred u) ≡ u = omega arith in
           let n : suc (pred t) ≡ t = omega arith in
-          record { line = rw (e, m, n) line; unit = rw e (omega arith); period = rw e (omega arith) }
+          record { line = rw (e, m, n) line; count = rw e c; first = rw e x; second = rw e z; unit = rw e (omega arith); period = rw e (omega arith) }
       go (u ∷ t ∷ v ∷ vs) e line c r = absurd (omega arith)
 
 -- ---- a node's line, written from a node within the limits and with its rule, is good

@@ -1,4 +1,5 @@
 -- Document 01, Texts: which line of a tree's text is due after which. Units and periods count from 0.
+use mathlib.Core.Path.{_≡_}
 use mathlib.Core.Bool.{Bool, true, false, not}
 use mathlib.Core.List.{List, [], _∷_}
 use mathlib.Core.Option.{Option, none, some}
@@ -7,7 +8,8 @@ use Rattle.model.specs.Instance.{Instance, _at_}
 use Rattle.model.specs.Above.{Above, root, fix}
 use Rattle.model.specs.Leaf.{leaf-value}
 use Rattle.model.specs.Tree.{Bound, never, number, lower}
-use Rattle.text.specs.Lines.{Line, missing, unended, ended, later, linesOf, isLine, endTree}
+use Rattle.text.specs.Lines.{Line, missing, unended, ended, later, linesOf, lineAt, isLine, kindOf, endTree}
+use Rattle.text.specs.declared.Kind.the-variants as kind
 use Rattle.text.specs.Course.{Found, Judged, judged-from}
 use Rattle.tree.specs.Tests.{Test, _if_, found}
 use Rattle.tree.specs.NodeLines.{Kind, split-line, short-line, stuck-line, price-line, kind-of, node-form, writer-form, reserve-form, numbers-of, named, form-tests, node-tests, reserve-tests}
@@ -88,6 +90,10 @@ end (nodes-due F ps) = none
 end (reserve-due F A q ps) = none
 end (nothing-due F) = some F
 
--- a text whose first line is kind=tree, from its second line on
+-- a text whose first line is kind=tree ..
+abbrev pub IsTree : List ℕ → Type 0
+IsTree text = kindOf (lineAt text 0) ≡ kind.Tree
+
+-- .. from its second line on
 unfoldable pub judged : Instance → List ℕ → Judged Figures
 judged P s = judged-from (judge P) end 2 writer-due (later (linesOf s))

@@ -4,3 +4,6 @@ pub mod Tests
 pub mod NodeLines
 pub mod Due
 pub mod Answers
+pub mod Coded
+pub mod Kinds
+pub mod Reading

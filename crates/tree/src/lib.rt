@@ -1,1 +1,80 @@
 // A tree's text, judged line by line: its bound and its counts.
+ghost use mathlib.Core.Path.{_≡_};
+ghost use Prim.Native.Nat.{ℕ, _≤_};
+ghost use lib.ListN.{length};
+ghost use Rattle.model.specs.Held.{view, Valid};
+ghost use Rattle.tree.specs.Due.{IsTree};
+ghost use Rattle.tree.specs.Reading.{Came, ended-as, tree-read};
+use crate::above::Above;
+use crate::figures::Bound;
+use crate::figures::Tally;
+use crate::leaf::Read;
+use crate::node::read_node;
+use model::problem::Problem;
+use model::ranges::Writer;
+use refusal::Refusal;
+use text::Verdict;
+
+pub mod above;
+pub mod figures;
+pub mod leaf;
+pub mod node;
+pub mod splitting;
+
+// What a tree's text is found to be.
+pub enum TreeRead {
+    Refused(Refusal),
+    Accepted {
+        writer: u64,
+        bound: Bound,
+        splits: usize,
+        leaves: usize,
+    },
+}
+
+// The answer where the tree was read as this, and the end line is due.
+fn read_end(text: &[u8], writer: u64, read: Read) -> TreeRead
+    requires { ⌜ Came (now text) read ⌝ }
+    ensures { λ r. ⌜ r ≡ ended-as (now (text .entry)) writer read ⌝ }
+{
+    match read {
+        Read::Refused { number, line } => TreeRead::Refused(refusal::refuse(number, line, 0, 0)),
+        Read::Tree { next, line, tally } => {
+            if text::is_line(text, next, b"end=tree") {
+                if next + 9 == text.len() {
+                    let bound = tally.bound;
+                    let splits = tally.splits;
+                    let leaves = tally.leaves;
+                    return TreeRead::Accepted {
+                        writer,
+                        bound,
+                        splits,
+                        leaves,
+                    };
+                }
+                return TreeRead::Refused(refusal::refuse(12, line + 1, 0, 0));
+            }
+            TreeRead::Refused(refusal::refuse(12, line, 0, 0))
+        }
+    }
+}
+
+// What the text, whose first line is kind=tree, is found to be under the problem.
+pub fn read_tree(problem: Problem, text: &[u8]) -> TreeRead
+    requires { ⌜ Valid problem ⌝ }
+    requires { ⌜ length (now text) ≤ 1048576 ⌝ }
+    requires { ⌜ IsTree (now text) ⌝ }
+    ensures { λ r. ⌜ r ≡ tree-read (view problem) (now (text .entry)) ⌝ }
+{
+    let row = text::read_row(text, 10, b"writer=", 1, Writer::LEAST, Writer::MOST);
+    let verdict = row.verdict;
+    match verdict {
+        Verdict::Refused { number } => TreeRead::Refused(refusal::refuse(number, 2, 0, 0)),
+        Verdict::Good { next } => {
+            let values = row.values;
+            let writer = values[0];
+            let read = read_node(problem, text, next, 3, 0, Above::root(), Tally::none());
+            read_end(text, writer, read)
+        }
+    }
+}

@@ -1,11 +1,7 @@
-use Prim.Native.Nat.{ℕ}
-use native.Mathlib.Omega.{arith}
-use mathlib.Core.Path.{refl, ap, _∙_}
-use mathlib.Core.List.{List}
+use mathlib.Core.Path.{refl, sym, ap}
 use Rattle.text.specs.Lines.{lineAt}
 use Rattle.problem.specs.Rendering.{demand-key}
 use Rattle.problem.specs.Course.{demand-due, spare-due, demand-form}
-use Rattle.problem.specs.Following.{read-from}
 use Rattle.problem.proofs.Following.{line-refused, line-good, row-holds}
 use borrow.Author.Needs.{needs}
 use Rattle.problem.proofs.read_from_demand.Statement.{statement}
@@ -38,18 +34,15 @@ returns : tie.Need-returns
 returns c =
     let a = c .before .before .before .before .before .before .before .args in
     let row = c .before .before .before .before .read-row in
-    c .refuse-text .ensures ∙ line-refused (a .s .now) (a .at) 4 (demand-due (a .periods) (a .units)) (demand-form (a .periods)) refl (row .result) (row .ensures) _ refl (c .before .before .verdict .given .1)
+    line-refused (a .s .now) (a .at) 4 (demand-due (a .periods) (a .units)) (demand-form (a .periods)) refl (row .result) (row .ensures) _ _ refl (c .before .before .verdict .given .1) (c .refuse-text .ensures)
 
 returns-2 : tie.Need-returns-2
 returns-2 c =
     let a = c .before .before .before .before .before .before .before .before .args in
     let row = c .before .before .before .before .before .read-row in
-    let next = c .before .before .before .verdict2 .given .0 .0 in
     let v = c .before .before .before .verdict2 .given .1 in
     let h = row-holds demand-key (a .periods) 0 320000 (lineAt (a .s .now) (a .at)) (a .at) _ (row .result) (row .ensures) v in
-    c .read-from-spare .ensures
-    ∙ ap (λ (D : List ℕ). read-from (a .s .now) next 5 (spare-due (a .periods) (a .units) D)) (h .values)
-    ∙ line-good (a .s .now) (a .at) 4 (demand-due (a .periods) (a .units)) (demand-form (a .periods)) refl (row .result) (row .ensures) _ v refl
+    line-good (a .s .now) (a .at) 4 (demand-due (a .periods) (a .units)) (demand-form (a .periods)) refl (row .result) (row .ensures) _ _ _ v refl (ap (spare-due (a .periods) (a .units)) (sym (h .values))) (c .read-from-spare .ensures)
 
 pub read-from-demand-spec : {M : Type 1} → statement M
 read-from-demand-spec =

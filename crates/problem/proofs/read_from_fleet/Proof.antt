@@ -1,12 +1,12 @@
-use Prim.Native.Nat.{ℕ, _+_, _-_, _≤_}
+use Prim.Native.Nat.{ℕ, _-_, _≤_}
 use native.Mathlib.Omega.{arith}
 use mathlib.Core.Path.{_≡_, refl, sym, ap, _∙_}
 use lib.ListN.{length, take, length-set}
-use Rattle.model.specs.declared.generator.Generator.{Generator}
 use Rattle.model.specs.Held.{pad, blank-generator}
 use Rattle.problem.specs.Course.{fleet-due, no-units}
 use Rattle.problem.specs.Following.{read-from}
-use Rattle.problem.proofs.Fleets.{some-units, none-read, one-stored, fleet-refused, fleet-on, arrays-held, fleet-ended}
+use Rattle.problem.proofs.Padding.{pad-none, pad-set}
+use Rattle.problem.proofs.Fleets.{remains, fleet-refused, fleet-on, arrays-held, fleet-ended}
 use borrow.Author.Needs.{needs}
 use Rattle.problem.proofs.read_from_fleet.Statement.{statement}
 use Rattle.problem.proofs.read_from_fleet.Tie as tie
@@ -14,7 +14,7 @@ use Rattle.problem.proofs.read_from_fleet.Tie as tie
 abbrev Inv-loop : tie.InvT-loop
 Inv-loop s at periods units demand spare generators₀ i₀ k₀ generators i k =
     (k ≤ units) × ((length generators ≡ 32) × ((pad blank-generator 32 (take k generators) ≡ generators)
-    × (read-from s i (k + 6) (fleet-due (units - k) (some-units periods (take periods demand) (take periods spare) (take k generators)))
+    × (remains s periods units i (take periods demand) (take periods spare) k generators
     ≡ read-from s at 6 (fleet-due units (no-units periods (take periods demand) (take periods spare))))))
 
 abbrev μ-loop : tie.MeasureT-loop
@@ -31,7 +31,7 @@ loop-holds c =
       (
         refl,
         (
-          none-read (c .blank .result) (c .blank .ensures),
+          pad-none blank-generator 32 (c .blank .result) (c .blank .ensures),
           ap (λ (m : ℕ). read-from (a .s .now) (a .at) 6 (fleet-due m (no-units (a .periods) (take (a .periods) (a .demand)) (take (a .periods) (a .spare))))) e,
         ),
       ),
@@ -51,12 +51,11 @@ refuse-text-requires c κs = search needs
 
 returns : tie.Need-returns Inv-loop μ-loop
 returns c =
-    let l = c .before .before .before .before .before .before in
+    let l = c .before .before .before .before .before .before .loop in
     let a = c .before .before .before .before .before .before .before .before .before .args in
     let row = c .before .before .before .before .read-unit in
-    c .refuse-text .ensures
-    ∙ fleet-refused (a .s .now) (l .loop .i) (a .periods) (a .units) (l .loop .k) (take (a .periods) (a .demand)) (take (a .periods) (a .spare)) (l .loop .generators) (c .before .before .before .before .before .loop-test .taken) (row .result) (row .ensures) _ (c .before .before .verdict .given .1)
-    ∙ l .loop .inv .1 .1 .1
+    fleet-refused (a .s .now) (a .periods) (a .units) (l .i) (take (a .periods) (a .demand)) (take (a .periods) (a .spare)) (l .k) (l .generators) _ (l .inv .1 .1 .1)
+    (c .before .before .before .before .before .loop-test .taken) (row .result) (row .ensures) _ _ (c .before .before .verdict .given .1) (c .refuse-text .ensures)
 
 enum-known-verdict-2 : tie.Need-enum-known-verdict-2 Inv-loop μ-loop
 enum-known-verdict-2 c = search needs
@@ -75,19 +74,18 @@ loop-less c = search needs
 
 loop-again : tie.Need-loop-again Inv-loop μ-loop
 loop-again c =
-    let l = c .before .before .before .before .before .before in
+    let l = c .before .before .before .before .before .before .loop in
     let st = c .before .before .before .before .before .before .before .before .before in
     let a = st .args in
     let row = c .before .before .before .before .read-unit in
     let h = c .before .before .before .before .before .loop-test .taken in
-    let n = l .loop .inv .1 .0 in (
+    let n = l .inv .1 .0 in (
       omega (arith, h),
       (
         simp length-set n,
         (
-          one-stored (l .loop .generators) (l .loop .k) (row .result .generator) n (omega (arith, h, st .pre .1 .0)) (l .loop .inv .1 .1 .0),
-          fleet-on (a .s .now) (l .loop .i) (a .periods) (a .units) (l .loop .k) (take (a .periods) (a .demand)) (take (a .periods) (a .spare)) (l .loop .generators) h (row .result) (row .ensures) _ (c .before .before .verdict2 .given .1) (omega (arith, h, n, st .pre .1 .0))
-              ∙ l .loop .inv .1 .1 .1,
+          pad-set blank-generator 32 (l .generators) (l .k) n (omega (arith, h, st .pre .1 .0)) (l .inv .1 .1 .0) (row .result .generator),
+          fleet-on (a .s .now) (a .periods) (a .units) (l .i) (take (a .periods) (a .demand)) (take (a .periods) (a .spare)) (l .k) (l .generators) _ (l .inv .1 .1 .1) h (row .result) (row .ensures) _ (c .before .before .verdict2 .given .1) (omega (arith, h, n, st .pre .1 .0)),
         ),
       ),
     )
@@ -108,11 +106,9 @@ read-from-end-requires c κs =
 
 returns-2 : tie.Need-returns-2 Inv-loop μ-loop
 returns-2 c =
-    let l = c .before .before in
+    let l = c .before .before .loop in
     let a = c .before .before .before .before .before .args in
-    c .read-from-end .ensures
-    ∙ fleet-ended (a .periods) (a .units) (a .demand) (a .spare) (l .loop .generators) (a .s .now) (l .loop .i) (l .loop .k) (l .loop .inv .0) (c .before .loop-test .left)
-    ∙ l .loop .inv .1 .1 .1
+    fleet-ended (a .periods) (a .units) (a .demand) (a .spare) (l .generators) (a .s .now) (l .i) (l .k) _ _ (l .inv .1 .1 .1) (l .inv .0) (c .before .loop-test .left) (c .read-from-end .ensures)
 
 pub read-from-fleet-spec : {M : Type 1} → statement M
 read-from-fleet-spec =

@@ -1,12 +1,10 @@
 use Prim.Native.Nat.{ℕ}
-use native.Mathlib.Omega.{arith}
-use mathlib.Core.Path.{refl, ap, _∙_}
+use mathlib.Core.Path.{refl, sym, ap}
 use mathlib.Core.List.{List}
 use lib.ListN.{take}
 use Rattle.text.specs.Lines.{lineAt}
 use Rattle.problem.specs.Rendering.{spare-key}
 use Rattle.problem.specs.Course.{spare-due, fleet-due, no-units, spare-form}
-use Rattle.problem.specs.Following.{read-from}
 use Rattle.problem.proofs.Following.{line-refused, line-good, row-holds}
 use borrow.Author.Needs.{needs}
 use Rattle.problem.proofs.read_from_spare.Statement.{statement}
@@ -39,18 +37,15 @@ returns : tie.Need-returns
 returns c =
     let a = c .before .before .before .before .before .before .before .args in
     let row = c .before .before .before .before .read-row in
-    c .refuse-text .ensures ∙ line-refused (a .s .now) (a .at) 5 (spare-due (a .periods) (a .units) (take (a .periods) (a .demand))) (spare-form (a .periods)) refl (row .result) (row .ensures) _ refl (c .before .before .verdict .given .1)
+    line-refused (a .s .now) (a .at) 5 (spare-due (a .periods) (a .units) (take (a .periods) (a .demand))) (spare-form (a .periods)) refl (row .result) (row .ensures) _ _ refl (c .before .before .verdict .given .1) (c .refuse-text .ensures)
 
 returns-2 : tie.Need-returns-2
 returns-2 c =
     let a = c .before .before .before .before .before .before .before .before .args in
     let row = c .before .before .before .before .before .read-row in
-    let next = c .before .before .before .verdict2 .given .0 .0 in
     let v = c .before .before .before .verdict2 .given .1 in
     let h = row-holds spare-key (a .periods) 0 320000 (lineAt (a .s .now) (a .at)) (a .at) _ (row .result) (row .ensures) v in
-    c .read-from-fleet .ensures
-    ∙ ap (λ (R : List ℕ). read-from (a .s .now) next 6 (fleet-due (a .units) (no-units (a .periods) (take (a .periods) (a .demand)) R))) (h .values)
-    ∙ line-good (a .s .now) (a .at) 5 (spare-due (a .periods) (a .units) (take (a .periods) (a .demand))) (spare-form (a .periods)) refl (row .result) (row .ensures) _ v refl
+    line-good (a .s .now) (a .at) 5 (spare-due (a .periods) (a .units) (take (a .periods) (a .demand))) (spare-form (a .periods)) refl (row .result) (row .ensures) _ _ _ v refl (ap (λ (R : List ℕ). fleet-due (a .units) (no-units (a .periods) (take (a .periods) (a .demand)) R)) (sym (h .values))) (c .read-from-fleet .ensures)
 
 pub read-from-spare-spec : {M : Type 1} → statement M
 read-from-spare-spec =

@@ -1,10 +1,8 @@
-use Prim.Native.Nat.{ℕ}
 use native.Mathlib.Omega.{arith}
-use mathlib.Core.Path.{refl, ap, _∙_}
+use mathlib.Core.Path.{refl, sym, ap}
 use Rattle.text.specs.Lines.{lineAt}
 use Rattle.problem.specs.Rendering.{units-key}
 use Rattle.problem.specs.Course.{units-due, demand-due, units-form}
-use Rattle.problem.specs.Following.{read-from}
 use Rattle.problem.proofs.Following.{line-refused, line-good, row-holds}
 use borrow.Author.Needs.{needs}
 use Rattle.problem.proofs.read_from_units.Statement.{statement}
@@ -40,18 +38,15 @@ returns : tie.Need-returns
 returns c =
     let a = c .before .before .before .before .before .before .before .args in
     let row = c .before .before .before .before .read-row in
-    c .refuse-text .ensures ∙ line-refused (a .s .now) (a .at) 3 (units-due (a .periods)) units-form refl (row .result) (row .ensures) _ refl (c .before .before .verdict .given .1)
+    line-refused (a .s .now) (a .at) 3 (units-due (a .periods)) units-form refl (row .result) (row .ensures) _ _ refl (c .before .before .verdict .given .1) (c .refuse-text .ensures)
 
 returns-2 : tie.Need-returns-2
 returns-2 c =
     let a = c .before .before .before .before .before .before .before .before .args in
     let row = c .before .before .before .before .before .read-row in
-    let next = c .before .before .before .verdict2 .given .0 .0 in
     let v = c .before .before .before .verdict2 .given .1 in
     let h = row-holds units-key 1 1 32 (lineAt (a .s .now) (a .at)) (a .at) _ (row .result) (row .ensures) v in
-    c .read-from-demand .ensures
-    ∙ ap (λ (n : ℕ). read-from (a .s .now) next 4 (demand-due (a .periods) n)) (h .first (omega arith))
-    ∙ line-good (a .s .now) (a .at) 3 (units-due (a .periods)) units-form refl (row .result) (row .ensures) _ v refl
+    line-good (a .s .now) (a .at) 3 (units-due (a .periods)) units-form refl (row .result) (row .ensures) _ _ _ v refl (ap (demand-due (a .periods)) (sym (h .first (omega arith)))) (c .read-from-demand .ensures)
 
 pub read-from-units-spec : {M : Type 1} → statement M
 read-from-units-spec =

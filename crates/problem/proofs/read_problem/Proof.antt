@@ -1,10 +1,8 @@
-use Prim.Native.Nat.{ℕ}
 use native.Mathlib.Omega.{arith}
-use mathlib.Core.Path.{refl, ap, _∙_}
+use mathlib.Core.Path.{refl, sym, ap, _∙_}
 use Rattle.text.specs.Lines.{lineAt}
 use Rattle.problem.specs.Rendering.{periods-key}
 use Rattle.problem.specs.Course.{periods-due, units-due, periods-form}
-use Rattle.problem.specs.Following.{read-from}
 use Rattle.problem.proofs.Following.{line-refused, line-good, row-holds}
 use Rattle.problem.proofs.FirstLine.{from-second}
 use borrow.Author.Needs.{needs}
@@ -41,19 +39,16 @@ returns : tie.Need-returns
 returns c =
     let a = c .before .before .before .before .before .before .before .args in
     let row = c .before .before .before .before .read-row in
-    c .refuse-text .ensures ∙ line-refused (a .s .now) 13 2 periods-due periods-form refl (row .result) (row .ensures) _ refl (c .before .before .verdict .given .1)
+    line-refused (a .s .now) 13 2 periods-due periods-form refl (row .result) (row .ensures) _ _ refl (c .before .before .verdict .given .1) (c .refuse-text .ensures)
     ∙ from-second (a .s .now) (c .before .before .before .before .before .before .before .pre)
 
 returns-2 : tie.Need-returns-2
 returns-2 c =
     let a = c .before .before .before .before .before .before .before .before .args in
     let row = c .before .before .before .before .before .read-row in
-    let next = c .before .before .before .verdict2 .given .0 .0 in
     let v = c .before .before .before .verdict2 .given .1 in
     let h = row-holds periods-key 1 1 48 (lineAt (a .s .now) 13) 13 _ (row .result) (row .ensures) v in
-    c .read-from-units .ensures
-    ∙ ap (λ (n : ℕ). read-from (a .s .now) next 3 (units-due n)) (h .first (omega arith))
-    ∙ line-good (a .s .now) 13 2 periods-due periods-form refl (row .result) (row .ensures) _ v refl
+    line-good (a .s .now) 13 2 periods-due periods-form refl (row .result) (row .ensures) _ _ _ v refl (ap units-due (sym (h .first (omega arith)))) (c .read-from-units .ensures)
     ∙ from-second (a .s .now) (c .before .before .before .before .before .before .before .before .pre)
 
 pub read-problem-spec : {M : Type 1} → statement M

@@ -4,9 +4,8 @@ use mathlib.Core.Path.{sym, _∙_}
 use borrow.Author.Needs.{needs}
 use Rattle.model.specs.Held.{view}
 use Rattle.text.specs.Lines.{endSchedule}
-use Rattle.judge.specs.Rows.{schedule-of}
-use Rattle.schedule.specs.Course.{written}
-use Rattle.schedule.proofs.Steps.{word-within, text-ends, text-goes-on, end-missing}
+use Rattle.schedule.proofs.Texts.{word-within}
+use Rattle.schedule.proofs.Ends.{text-ends, text-goes-on, end-missing}
 use Rattle.schedule.proofs.read_from_end.Statement.{statement}
 use Rattle.schedule.proofs.read_from_end.Tie as tie
 
@@ -35,7 +34,7 @@ returns c =
     let a = c .before .before .before .before .before .before .before .args in
     let there = sym (c .before .before .before .is-line .ensures) ∙ c .before .before .if1 .taken in
     c .refuse-text .ensures
-    ∙ sym (text-goes-on (view (a .problem)) (a .text .now) (a .at) (a .problem .units + 3) (written (a .writer) (schedule-of (a .problem) (a .rows))) there (c .before .if2 .taken))
+    ∙ sym (text-goes-on (view (a .problem)) (a .text .now) (a .at) (a .problem .units + 3) _ there (c .before .if2 .taken))
 
 judge-rows-requires : tie.Need-judge-rows-requires
 judge-rows-requires c κs = search needs
@@ -45,7 +44,7 @@ returns-2 c =
     let a = c .before .before .before .before .before .before .before .args in
     let there = sym (c .before .before .before .is-line .ensures) ∙ c .before .before .if1 .taken in
     c .judge-rows .ensures
-    ∙ sym (text-ends (view (a .problem)) (a .text .now) (a .at) (a .problem .units + 3) (written (a .writer) (schedule-of (a .problem) (a .rows))) there (c .before .if2 .left))
+    ∙ sym (text-ends (view (a .problem)) (a .text .now) (a .at) (a .problem .units + 3) _ there (c .before .if2 .left))
 
 refuse-text-requires-2 : tie.Need-refuse-text-requires-2
 refuse-text-requires-2 c κs = search needs
@@ -55,7 +54,7 @@ returns-3 c =
     let a = c .before .before .before .before .before .before .args in
     let missing = sym (c .before .before .is-line .ensures) ∙ c .before .if1 .left in
     c .refuse-text2 .ensures
-    ∙ sym (end-missing (view (a .problem)) (a .text .now) (a .at) (a .problem .units + 3) (written (a .writer) (schedule-of (a .problem) (a .rows))) missing)
+    ∙ sym (end-missing (view (a .problem)) (a .text .now) (a .at) (a .problem .units + 3) _ missing)
 
 pub read-from-end-spec : {M : Type 1} → statement M
 read-from-end-spec =

@@ -1,10 +1,10 @@
-use Prim.Native.Nat.{ℕ, suc, _+_, _-_, _*_, _≤_}
+use Prim.Native.Nat.{suc, _-_, _*_, _≤_}
 use native.Mathlib.Omega.{arith}
 use mathlib.Core.Path.{_≡_, refl, sym, _∙_}
 use mathlib.Core.List.{[]}
 use lib.ListN.{length}
 use borrow.Author.Needs.{needs}
-use Rattle.model.specs.Held.{view, Valid}
+use Rattle.model.specs.Held.{view}
 use Rattle.text.specs.Lines.{lineAt}
 use Rattle.schedule.specs.Rendering.{run-key}
 use Rattle.schedule.specs.Course.{written, runs-due}
@@ -22,7 +22,7 @@ abbrev μ-loop : tie.MeasureT-loop
 μ-loop problem text at writer units periods rows₀ i₀ k₀ t16 rows i k = units - k
 
 loop-holds : tie.Need-loop-holds Inv-loop μ-loop
-loop-holds c = let a = c .before .args in reading-none (view (a .problem)) (a .text .now) (a .problem .periods) (a .writer) (a .problem .units) _ (a .at) refl
+loop-holds c = reading-none refl
 
 slice-aggregate-read-row : tie.Need-slice-aggregate-read-row Inv-loop μ-loop
 slice-aggregate-read-row c = search needs
@@ -35,7 +35,9 @@ enum-known-verdict : tie.Need-enum-known-verdict Inv-loop μ-loop
 enum-known-verdict c = search needs
 
 add-refuse-text : tie.Need-add-refuse-text Inv-loop μ-loop
-add-refuse-text c = omega (arith, c .before .before .before .before .before .before .loop .inv .some-left, c .before .before .before .before .before .before .before .before .pre .units-fit)
+add-refuse-text c =
+    let l = c .before .before .before .before .before .before in
+    omega (arith, l .loop .inv .some-left, l .before .before .pre .units-fit)
 
 refuse-text-requires : tie.Need-refuse-text-requires Inv-loop μ-loop
 refuse-text-requires c κs = search needs
@@ -43,43 +45,38 @@ refuse-text-requires c κs = search needs
 returns : tie.Need-returns Inv-loop μ-loop
 unfolding view
 returns c =
-    let a = c .before .before .before .before .before .before .before .before .before .args in
-    let l = c .before .before .before .before .before .before .before .loop in
-    let row = c .before .before .before .before .read-row in
     c .refuse-text .ensures
-    ∙ sym (reading-stopped (view (a .problem)) (a .text .now) (a .problem .periods) (a .writer) (a .problem .units) _ (l .rows) (l .i) (l .k) (l .inv) refl
-    (c .before .before .before .before .before .before .loop-test .taken) _
-    (row-refused run-key (a .problem .periods) 0 10000 (lineAt (a .text .now) (l .i)) (l .i) (row .result) (row .ensures) _ (c .before .before .verdict .given .1)))
+    ∙ sym (reading-stopped (c .before .before .before .before .before .before .before .loop .inv) refl (c .before .before .before .before .before .before .loop-test .taken)
+    (row-refused (c .before .before .before .before .read-row .ensures) (c .before .before .verdict .given .1)))
 
 enum-known-verdict-2 : tie.Need-enum-known-verdict-2 Inv-loop μ-loop
 enum-known-verdict-2 c = search needs
 
 -- the row of the line is good
-good-row : (c : tie.After-values Inv-loop μ-loop) → let a = c .before .before .before .before .before .before .before .before .before .args in
-    let l = c .before .before .before .before .before .before .before .loop in
-    let row = c .before .before .before .before .read-row in
-    RowGood run-key (a .problem .periods) 0 10000 (lineAt (a .text .now) (l .i)) (l .i) (row .result) (row .ensures) (c .before .before .verdict2 .given .0 .0)
-good-row c =
+good-row : (c : tie.After-values Inv-loop μ-loop) →
     let a = c .before .before .before .before .before .before .before .before .before .args in
-    let l = c .before .before .before .before .before .before .before .loop in
-    let row = c .before .before .before .before .read-row in
-    row-good run-key (a .problem .periods) 0 10000 (lineAt (a .text .now) (l .i)) (l .i) (row .result) (row .ensures) _ (c .before .before .verdict2 .given .1)
+    let i = c .before .before .before .before .before .before .before .loop .i in
+    RowGood run-key (a .problem .periods) 0 10000 (lineAt (a .text .now) i) i (c .before .before .before .before .read-row .result) (c .before .before .verdict2 .given .0 .0)
+good-row c = row-good (c .before .before .before .before .read-row .ensures) (c .before .before .verdict2 .given .1)
 
 -- there is room for it
-room : (c : tie.After-values Inv-loop μ-loop) → let a = c .before .before .before .before .before .before .before .before .before .args in
-    suc (c .before .before .before .before .before .before .before .loop .k) * a .problem .periods ≤ 1536
+room : (c : tie.After-values Inv-loop μ-loop) →
+    let s = c .before .before .before .before .before .before .before .before .before in
+    suc (c .before .before .before .before .before .before .before .loop .k) * s .args .problem .periods ≤ 1536
 room c =
     let s = c .before .before .before .before .before .before .before .before .before in
-    rows-fit (s .args .problem) (s .pre) (suc (c .before .before .before .before .before .before .before .loop .k)) (c .before .before .before .before .before .before .loop-test .taken)
+    rows-fit (s .args .problem) (s .pre) _ (c .before .before .before .before .before .before .loop-test .taken)
 
 mul-store-row : tie.Need-mul-store-row Inv-loop μ-loop
-mul-store-row c = omega (arith, room c)
+mul-store-row c =
+    let s = c .before .before .before .before .before .before .before .before .before in
+    omega (arith, room c, s .pre .units-fit)
 
 store-row-requires : tie.Need-store-row-requires Inv-loop μ-loop
 unfolding view
 store-row-requires c κs =
     let s = c .before .before .before .before .before .before .before .before .before in
-    (s .pre .well-formed .periods-in .1, (omega (arith, room c), good-row c .in-range))
+    (s .pre .well-formed .periods-in .1, (omega (arith, room c, s .pre .units-fit, s .pre .well-formed .periods-in .1), good-row c .in-range))
 
 add-k : tie.Need-add-k Inv-loop μ-loop
 add-k c = search needs
@@ -91,29 +88,17 @@ loop-again : tie.Need-loop-again Inv-loop μ-loop
 unfolding view
 loop-again c =
     let s = c .before .before .before .before .before .before .before .before .before .before in
-    let a = s .args in
     let l = c .before .before .before .before .before .before .before .before .loop in
     let row = c .before .before .before .before .before .read-row in
     let values : length (row .result .values) ≡ 48 = search needs in
-    reading-more (view (a .problem)) (a .text .now) (a .problem .periods) (a .writer) (a .problem .units) _ (l .rows) (l .i) (l .k) (l .inv) refl
-    (c .before .before .before .before .before .before .before .loop-test .taken) (row .result) (row .ensures) _ (c .store-row .result) (good-row (c .before))
-    (room (c .before)) (omega (arith, s .pre .well-formed .periods-in .1)) (c .store-row .ensures)
+    reading-more (l .inv) refl (c .before .before .before .before .before .before .before .loop-test .taken) (good-row (c .before)) (room (c .before))
+    (omega (arith, s .pre .well-formed .periods-in .1)) (c .store-row .ensures)
 
 read-from-end-requires : tie.Need-read-from-end-requires Inv-loop μ-loop
-read-from-end-requires c κs =
-    let s = c .before .before .before in
-    let a = s .args in
-    let l = c .before .loop in (
-      s .pre,
-      reading-filled (view (a .problem)) (a .text .now) (a .problem .periods) (a .writer) (a .problem .units) _ (l .rows) (l .i) (l .k) (l .inv) (c .loop-test .left),
-    )
+read-from-end-requires c κs = (c .before .before .before .pre, reading-filled (c .before .loop .inv) (c .loop-test .left))
 
 returns-2 : tie.Need-returns-2 Inv-loop μ-loop
-returns-2 c =
-    let a = c .before .before .before .before .args in
-    let l = c .before .before .loop in
-    c .read-from-end .ensures
-    ∙ sym (reading-done (view (a .problem)) (a .text .now) (a .problem .periods) (a .writer) (a .problem .units) _ (l .rows) (l .i) (l .k) (l .inv) (c .before .loop-test .left))
+returns-2 c = c .read-from-end .ensures ∙ sym (reading-done (c .before .before .loop .inv) (c .before .loop-test .left))
 
 pub read-from-runs-spec : {M : Type 1} → statement M
 read-from-runs-spec =

@@ -1,11 +1,7 @@
-use Prim.Native.Nat.{ℕ}
-use native.Mathlib.Omega.{arith}
-use mathlib.Core.Path.{_≡_, refl, sym, ap, _∙_}
+use mathlib.Core.Path.{_≡_, sym, ap, _∙_}
 use lib.ListN.{length, length-map}
 use borrow.Author.Needs.{needs}
 use Rattle.model.specs.Held.{view}
-use Rattle.text.specs.Lines.{lineAt}
-use Rattle.schedule.specs.Rendering.{writer-key}
 use Rattle.schedule.proofs.RowsRead.{row-good, row-refused}
 use Rattle.schedule.proofs.Opening.{opening-stopped, opening-passed}
 use Rattle.schedule.proofs.read_schedule.Statement.{statement}
@@ -39,18 +35,16 @@ read-from-runs-requires c κs = search needs
 returns : tie.Need-returns
 returns c =
     let s = c .before .before .before .before .before .before .before in
-    let row = c .before .before .before .before .read-row in
     c .refuse-text .ensures
-    ∙ sym (opening-stopped (view (s .args .problem)) (s .args .text .now) (s .pre .1) _
-    (row-refused writer-key 1 1 65535 (lineAt (s .args .text .now) 14) 14 (row .result) (row .ensures) _ (c .before .before .verdict .given .1)))
+    ∙ sym (opening-stopped (view (s .args .problem)) (s .args .text .now) (s .pre .1)
+    (row-refused (c .before .before .before .before .read-row .ensures) (c .before .before .verdict .given .1)))
 
 returns-2 : tie.Need-returns-2
 returns-2 c =
     let s = c .before .before .before .before .before .before .before .before in
-    let row = c .before .before .before .before .before .read-row in
     c .read-from-runs .ensures
-    ∙ sym (opening-passed (s .args .problem) (s .pre .0) (many s) (s .args .text .now) (s .pre .1) (row .result) (row .ensures) _
-    (row-good writer-key 1 1 65535 (lineAt (s .args .text .now) 14) 14 (row .result) (row .ensures) _ (c .before .before .before .verdict2 .given .1)))
+    ∙ sym (opening-passed (s .args .problem) (s .pre .0) (many s) (s .args .text .now) (s .pre .1)
+    (row-good (c .before .before .before .before .before .read-row .ensures) (c .before .before .before .verdict2 .given .1)))
 
 pub read-schedule-spec : {M : Type 1} → statement M
 read-schedule-spec =

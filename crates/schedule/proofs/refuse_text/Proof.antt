@@ -1,5 +1,4 @@
 use mathlib.Core.Path.{ap}
-use lib.ListN.{replicate}
 use borrow.Author.Needs.{needs}
 use Rattle.refusal.specs.declared.Refusal.{Refusal}
 use Rattle.schedule.specs.Reading.{in-arrays, refused-by}

@@ -1,25 +1,19 @@
+-- `least_on` meets its contract: the best output lies at most at pU.
 use mathlib.Core.Path.{_∙_, ap}
+use borrow.Author.Needs.{needs}
 use Rattle.model.specs.Prices.{on-value}
 use Rattle.model.proofs.BestOutputs.{best-at-is}
-use borrow.Author.Needs.{needs}
 use Rattle.least.proofs.output.least_on.Statement.{statement}
 use Rattle.least.proofs.output.least_on.Tie as tie
-use Rattle.least.proofs.output.least_on.Reads as reads
-use Rattle.least.proofs.output.least_on.Lts as lts
-use Rattle.least.proofs.output.best_output.Reads as best-output-reads
-use Rattle.least.proofs.output.on_value.Reads as on-value-reads
 
--- src/output.rt:50:23
 best-output-requires : tie.Need-best-output-requires
 best-output-requires c κs = search needs
 
--- src/output.rt:50:5
 on-value-requires : tie.Need-on-value-requires
 on-value-requires c κs =
     let s = c .before in
     (s .pre .0, (s .pre .1, rw (c .best-output .ensures) (best-at-is (s .args .g) (s .args .x) (s .args .y) (s .pre .0 .ordered .limits) .high)))
 
--- src/output.rt:45:1
 returns : tie.Need-returns
 returns c =
     let s = c .before .before in

@@ -1,5 +1,7 @@
-use Prim.Native.Nat.{ℕ, _+_, _-_, _≤_, _<_}
+-- `chain_back` meets its contract. The loop's invariant: the states passed have their new values, the others their old ones, so
+-- that a state's neighbour is still old when it is read.
 use mathlib.Core.Path.{_≡_, refl, ap, ap₂, _∙_}
+use Prim.Native.Nat.{ℕ, _-_, _≤_, _<_}
 use native.Mathlib.Omega.{arith}
 use borrow.Author.Needs.{needs}
 use borrow.Author.Count.{below-more, below-none}
@@ -10,12 +12,6 @@ use Rattle.model.specs.Walk.{lesser}
 use Rattle.model.specs.Table.{kept, chain-at}
 use Rattle.least.proofs.table.chain_back.Statement.{statement}
 use Rattle.least.proofs.table.chain_back.Tie as tie
-use Rattle.least.proofs.table.chain_back.Reads as reads
-use Rattle.least.proofs.table.chain_back.Lts as lts
-use Rattle.least.proofs.table.gone_value.Reads as gone-value-reads
-use Rattle.least.proofs.table.kept_value.Reads as kept-value-reads
-use Rattle.least.proofs.table.lesser_value.Reads as lesser-value-reads
-use Rattle.least.proofs.table.next_state.Reads as next-state-reads
 
 abbrev Inv-loop : tie.InvT-loop
 Inv-loop states₀ need early last allowed cost n i₀ states i =
@@ -26,31 +22,24 @@ Inv-loop states₀ need early last allowed cost n i₀ states i =
 abbrev μ-loop : tie.MeasureT-loop
 μ-loop states₀ need early last allowed cost n i₀ states i = n - i
 
--- src/table.rt:77:5
 loop-holds : tie.Need-loop-holds Inv-loop μ-loop
 loop-holds c = (omega arith, refl, refl, below-none _, λ k h. refl)
 
--- src/table.rt:78:13
 next-state-requires : tie.Need-next-state-requires Inv-loop μ-loop
 next-state-requires c κs = omega arith
 
--- src/table.rt:79:34
 add-gone-value : tie.Need-add-gone-value Inv-loop μ-loop
 add-gone-value c = omega arith
 
--- src/table.rt:79:13
 gone-value-requires : tie.Need-gone-value-requires Inv-loop μ-loop
 gone-value-requires c κs = search needs
 
--- src/table.rt:80:49
 mul-kept-value : tie.Need-mul-kept-value Inv-loop μ-loop
 mul-kept-value c = omega arith
 
--- src/table.rt:80:49
 slice-read-kept-value : tie.Need-slice-read-kept-value Inv-loop μ-loop
 slice-read-kept-value c = omega arith
 
--- src/table.rt:80:13
 kept-value-requires : tie.Need-kept-value-requires Inv-loop μ-loop
 kept-value-requires c κs =
     let loop = c .before .before .before .before in
@@ -58,27 +47,21 @@ kept-value-requires c κs =
     let j = c .before .before .next-state .result in
     (omega (arith, s .pre .1), rw (loop .loop .inv .4 j (omega arith)) (s .pre .0 j))
 
--- src/table.rt:81:21
 lesser-value-requires : tie.Need-lesser-value-requires Inv-loop μ-loop
 lesser-value-requires c κs = search needs
 
--- src/table.rt:81:9
 mul-states : tie.Need-mul-states Inv-loop μ-loop
 mul-states c = omega arith
 
--- src/table.rt:81:9
 slice-write-states : tie.Need-slice-write-states Inv-loop μ-loop
 slice-write-states c = omega arith
 
--- src/table.rt:82:9
 add-i : tie.Need-add-i Inv-loop μ-loop
 add-i c = omega arith
 
--- src/table.rt:77:5
 loop-less : tie.Need-loop-less Inv-loop μ-loop
 loop-less c = omega arith
 
--- src/table.rt:77:5
 loop-again : tie.Need-loop-again Inv-loop μ-loop
 loop-again c =
     let loop = c .before .before .before .before .before .before in
@@ -100,11 +83,9 @@ loop-again c =
       λ k h. getD-set-other v i k x 0 (omega arith) ∙ inv .4 k (omega arith),
     )
 
--- src/table.rt:70:1
 same-length : tie.Need-same-length Inv-loop μ-loop
 same-length c = search needs
 
--- src/table.rt:70:1
 returns : tie.Need-returns Inv-loop μ-loop
 returns c =
     let inv = c .before .loop .inv in

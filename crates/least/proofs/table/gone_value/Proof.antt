@@ -1,18 +1,14 @@
+-- `gone_value` meets its contract: each way through it is one case of the definition.
 use borrow.Author.Tests.{eq-eqb, ne-eqb, le-leb, lt-leb}
 use Rattle.least.proofs.table.gone_value.Statement.{statement}
 use Rattle.least.proofs.table.gone_value.Tie as tie
-use Rattle.least.proofs.table.gone_value.Reads as reads
-use Rattle.least.proofs.table.gone_value.Lts as lts
 
--- src/table.rt:50:9
 returns : tie.Need-returns
 returns c = simp (eq-eqb _ _ (c .if1 .taken))
 
--- src/table.rt:53:9
 returns-2 : tie.Need-returns-2
 returns-2 c = simp (ne-eqb _ _ (c .before .if1 .left), le-leb _ _ (c .if2 .taken))
 
--- src/table.rt:46:1
 returns-3 : tie.Need-returns-3
 returns-3 c = simp (ne-eqb _ _ (c .before .if1 .left), lt-leb _ _ (c .if2 .left))
 

@@ -1,27 +1,22 @@
+-- `lesser_value` meets its contract: each way through it is one case of the definition.
 use native.Mathlib.Omega.{arith}
 use Rattle.model.specs.Walk.{lesser}
 use Rattle.model.proofs.Coded.{lesser-none, lesser-some}
 use Rattle.least.proofs.table.lesser_value.Statement.{statement}
 use Rattle.least.proofs.table.lesser_value.Tie as tie
-use Rattle.least.proofs.table.lesser_value.Reads as reads
-use Rattle.least.proofs.table.lesser_value.Lts as lts
 
--- src/table.rt:34:9
 returns : tie.Need-returns
 unfolding lesser
 returns c = rw (c .if1 .taken)
 
--- src/table.rt:37:9
 returns-2 : tie.Need-returns-2
 returns-2 c = rw (c .if2 .taken, lesser-none)
 
--- src/table.rt:40:9
 returns-3 : tie.Need-returns-3
 returns-3 c =
     let a = c .before .before .before .args in
     rw (lesser-some (a .x) (a .y) (omega arith) (omega arith)) (omega arith)
 
--- src/table.rt:30:1
 returns-4 : tie.Need-returns-4
 returns-4 c =
     let a = c .before .before .before .args in

@@ -1,68 +1,52 @@
+-- `step_back` meets its contract: the values of leaving and starting are read from the old lists, before either changes.
 use native.Mathlib.Omega.{arith}
-use Rattle.least.proofs.StatusMarks.{allows-on, allows-off}
 use borrow.Author.Needs.{needs}
+use Rattle.least.proofs.StatusMarks.{allows-on, allows-off}
 use Rattle.least.proofs.table.step_back.Statement.{statement}
 use Rattle.least.proofs.table.step_back.Tie as tie
-use Rattle.least.proofs.table.step_back.Reads as reads
-use Rattle.least.proofs.table.step_back.Lts as lts
-use Rattle.least.proofs.table.chain_back.Reads as chain-back-reads
-use Rattle.least.proofs.table.kept_value.Reads as kept-value-reads
 
--- src/table.rt:101:20
 slice-read-first-on : tie.Need-slice-read-first-on
 slice-read-first-on c = search needs
 
--- src/table.rt:102:21
 slice-read-first-off : tie.Need-slice-read-first-off
 slice-read-first-off c = search needs
 
--- src/table.rt:103:39
 add-kept-value : tie.Need-add-kept-value
 add-kept-value c = search needs
 
--- src/table.rt:103:9
 kept-value-requires : tie.Need-kept-value-requires
 kept-value-requires c κs =
     let s = c .before .before .before .before in
     omega (arith, s .pre .0 .in-range .Dc-in, s .pre .1 .0, s .pre .1 .1 .1 .1 0)
 
--- src/table.rt:104:39
 add-kept-value-2 : tie.Need-add-kept-value-2
 add-kept-value-2 c = search needs
 
--- src/table.rt:104:9
 kept-value-requires-2 : tie.Need-kept-value-requires-2
 kept-value-requires-2 c κs =
     let s = c .before .before .before .before .before in
     omega (arith, s .pre .0 .in-range .Hsc-in, s .pre .1 .0, s .pre .1 .1 .1 .0 0)
 
--- src/table.rt:105:44
 add-kept-value-3 : tie.Need-add-kept-value-3
 add-kept-value-3 c = search needs
 
--- src/table.rt:105:9
 kept-value-requires-3 : tie.Need-kept-value-requires-3
 kept-value-requires-3 c κs =
     let s = c .before .before .before .before .before .before in
     omega (arith, s .pre .0 .in-range .Csc-in, s .pre .1 .0, s .pre .1 .1 .1 .0 0)
 
--- src/table.rt:106:5
 chain-back-requires : tie.Need-chain-back-requires
 chain-back-requires c κs = search needs
 
--- src/table.rt:107:5
 chain-back-requires-2 : tie.Need-chain-back-requires-2
 chain-back-requires-2 c κs = search needs
 
--- src/table.rt:87:1
 same-length : tie.Need-same-length
 same-length c = search needs
 
--- src/table.rt:87:1
 same-length-2 : tie.Need-same-length-2
 same-length-2 c = search needs
 
--- src/table.rt:87:1
 returns : tie.Need-returns
 returns c =
     let chain = c .before .before .before .before .before .before in

@@ -1,5 +1,6 @@
-use Prim.Native.Nat.{ℕ, _-_, _≤_, _<_}
+-- `walk_back` meets its contract. The loop's invariant: before period t, the lists are the table of the periods from t on.
 use mathlib.Core.Path.{_≡_}
+use Prim.Native.Nat.{_-_, _≤_, _<_}
 use native.Mathlib.Omega.{arith}
 use borrow.Author.Needs.{needs}
 use lib.ListN.{length}
@@ -10,9 +11,6 @@ use Rattle.least.specs.Steps.{costs-of, Tables}
 use Rattle.least.proofs.Walks.{tabled-good, tables-end, tables-back}
 use Rattle.least.proofs.table.walk_back.Statement.{statement}
 use Rattle.least.proofs.table.walk_back.Tie as tie
-use Rattle.least.proofs.table.walk_back.Reads as reads
-use Rattle.least.proofs.table.walk_back.Lts as lts
-use Rattle.least.proofs.table.step_back.Reads as step-back-reads
 
 abbrev Inv-loop : tie.InvT-loop
 Inv-loop g on off fixed ons₀ offs₀ t₀ ons offs t =
@@ -21,38 +19,30 @@ Inv-loop g on off fixed ons₀ offs₀ t₀ ons offs t =
 abbrev μ-loop : tie.MeasureT-loop
 μ-loop g on off fixed ons₀ offs₀ t₀ ons offs t = t
 
--- src/table.rt:119:5
 loop-holds : tie.Need-loop-holds Inv-loop μ-loop
 loop-holds c =
     let s = c .before .before .before .before .before in
     let a = s .args in
     (omega arith, tables-end (a .g) (s .pre .0) (length (a .on .now)) (a .on .now) (a .off .now) (a .fixed .now) (s .pre .1 .0 .0) (a .ons .now) (a .offs .now) (s .pre .1 .1 .0) (s .pre .1 .1 .1))
 
--- src/table.rt:120:9
 sub-t : tie.Need-sub-t Inv-loop μ-loop
 sub-t c = omega arith
 
--- src/table.rt:121:22
 shared-slice-read-step-back : tie.Need-shared-slice-read-step-back Inv-loop μ-loop
 shared-slice-read-step-back c = omega arith
 
--- src/table.rt:121:32
 mul-step-back : tie.Need-mul-step-back Inv-loop μ-loop
 mul-step-back c = omega arith
 
--- src/table.rt:121:32
 shared-slice-read-step-back-2 : tie.Need-shared-slice-read-step-back-2 Inv-loop μ-loop
 shared-slice-read-step-back-2 c = omega arith
 
--- src/table.rt:121:39
 mul-step-back-2 : tie.Need-mul-step-back-2 Inv-loop μ-loop
 mul-step-back-2 c = omega arith
 
--- src/table.rt:121:39
 shared-slice-read-step-back-3 : tie.Need-shared-slice-read-step-back-3 Inv-loop μ-loop
 shared-slice-read-step-back-3 c = omega arith
 
--- src/table.rt:121:9
 step-back-requires : tie.Need-step-back-requires Inv-loop μ-loop
 step-back-requires c κs =
     let loop = c .before .before .before .before .before .before in
@@ -69,11 +59,9 @@ step-back-requires c κs =
       ),
     )
 
--- src/table.rt:119:5
 loop-less : tie.Need-loop-less Inv-loop μ-loop
 loop-less c = omega arith
 
--- src/table.rt:119:5
 loop-again : tie.Need-loop-again Inv-loop μ-loop
 loop-again c =
     let step = c .before .before .before .before in
@@ -87,15 +75,12 @@ loop-again c =
       tables-back (a .g) (s .pre .0) (length (a .on .now)) (a .on .now) (a .off .now) (a .fixed .now) (s .pre .1 .0 .0) t more within _ _ _ _ (loop .loop .inv .1) (step .step-back .ensures),
     )
 
--- src/table.rt:111:1
 same-length : tie.Need-same-length Inv-loop μ-loop
 same-length c = search needs
 
--- src/table.rt:111:1
 same-length-2 : tie.Need-same-length-2 Inv-loop μ-loop
 same-length-2 c = search needs
 
--- src/table.rt:111:1
 returns : tie.Need-returns Inv-loop μ-loop
 returns c =
     let e : c .before .loop .t ≡ 0 = omega arith in

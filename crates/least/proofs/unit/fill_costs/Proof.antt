@@ -1,6 +1,7 @@
-use Prim.Native.Nat.{ℕ, _+_, _*_, _-_, _≤_, _<_}
+-- `fill_costs` meets its contract. The loop's invariant: the periods passed have their costs.
 use mathlib.Core.Path.{_≡_, refl, _∙_}
 use mathlib.Core.Bool.{true, false}
+use Prim.Native.Nat.{ℕ, _+_, _*_, _-_, _≤_, _<_}
 use native.Mathlib.Omega.{arith}
 use borrow.Author.Needs.{needs}
 use borrow.Author.Count.{below-more, below-none}
@@ -11,9 +12,6 @@ use Rattle.model.specs.Prices.{worth}
 use Rattle.least.proofs.Costs.{price-in, reserve-in, slopes-in, period-added-fits}
 use Rattle.least.proofs.unit.fill_costs.Statement.{statement}
 use Rattle.least.proofs.unit.fill_costs.Tie as tie
-use Rattle.least.proofs.unit.fill_costs.Reads as reads
-use Rattle.least.proofs.unit.fill_costs.Lts as lts
-use Rattle.least.proofs.output.least_on.Reads as least-on-reads
 
 abbrev Inv-loop : tie.InvT-loop
 Inv-loop g q s on₀ off₀ b high n t₀ on off t =
@@ -24,54 +22,43 @@ Inv-loop g q s on₀ off₀ b high n t₀ on off t =
 abbrev μ-loop : tie.MeasureT-loop
 μ-loop g q s on₀ off₀ b high n t₀ on off t = n - t
 
--- src/unit.rt:33:5
 loop-holds : tie.Need-loop-holds Inv-loop μ-loop
 loop-holds c =
     let s = c .before .before .before .before in
     (omega arith, refl, s .pre .1 .1 .0, s .pre .1 .1 .1, below-none _, below-none _)
 
--- src/unit.rt:34:32
 mul-least-on : tie.Need-mul-least-on Inv-loop μ-loop
 mul-least-on c = omega arith
 
--- src/unit.rt:34:32
 shared-slice-read-least-on : tie.Need-shared-slice-read-least-on Inv-loop μ-loop
 shared-slice-read-least-on c = omega arith
 
--- src/unit.rt:34:17
 least-on-requires : tie.Need-least-on-requires Inv-loop μ-loop
 least-on-requires c κs =
     let loop = c .before .before in
     let s = loop .before .before .before .before .before in
     (s .pre .0, slopes-in (length (s .args .q .now)) (s .args .q .now) (s .args .s .now) (s .pre .1 .0) (s .args .g) (s .pre .0) (loop .loop .t))
 
--- src/unit.rt:34:9
 mul-on : tie.Need-mul-on Inv-loop μ-loop
 mul-on c = omega arith
 
--- src/unit.rt:34:9
 slice-write-on : tie.Need-slice-write-on Inv-loop μ-loop
 slice-write-on c = omega arith
 
--- src/unit.rt:35:19
 mul-off : tie.Need-mul-off Inv-loop μ-loop
 mul-off c = omega arith
 
--- src/unit.rt:35:19
 shared-slice-read-off : tie.Need-shared-slice-read-off Inv-loop μ-loop
 shared-slice-read-off c = omega arith
 
--- src/unit.rt:35:26
 mul-off-2 : tie.Need-mul-off-2 Inv-loop μ-loop
 mul-off-2 c = omega arith
 
--- src/unit.rt:35:26
 shared-slice-read-off-2 : tie.Need-shared-slice-read-off-2 Inv-loop μ-loop
 shared-slice-read-off-2 c =
     let s = c .before .before .before .before .before .before .before .before .before .before in
     omega (arith, s .pre .1 .0 .s-long)
 
--- src/unit.rt:35:19
 add-off : tie.Need-add-off Inv-loop μ-loop
 add-off c =
     let loop = c .before .before .before .before .before in
@@ -82,30 +69,24 @@ add-off c =
       reserve-in (length (s .args .q .now)) (s .args .q .now) (s .args .s .now) (s .pre .1 .0) (loop .loop .t),
     )
 
--- src/unit.rt:35:18
 mul-off-3 : tie.Need-mul-off-3 Inv-loop μ-loop
 mul-off-3 c =
     let loop = c .before .before .before .before .before in
     let s = loop .before .before .before .before .before in
     omega (arith, period-added-fits (length (s .args .q .now)) (s .args .q .now) (s .args .s .now) (s .pre .1 .0) (s .args .g) (s .pre .0) (loop .loop .t))
 
--- src/unit.rt:35:9
 mul-off-4 : tie.Need-mul-off-4 Inv-loop μ-loop
 mul-off-4 c = omega arith
 
--- src/unit.rt:35:9
 slice-write-off : tie.Need-slice-write-off Inv-loop μ-loop
 slice-write-off c = omega arith
 
--- src/unit.rt:36:9
 add-t : tie.Need-add-t Inv-loop μ-loop
 add-t c = omega arith
 
--- src/unit.rt:33:5
 loop-less : tie.Need-loop-less Inv-loop μ-loop
 loop-less c = omega arith
 
--- src/unit.rt:33:5
 loop-again : tie.Need-loop-again Inv-loop μ-loop
 loop-again c =
     let loop = c .before .before .before .before .before in
@@ -127,15 +108,12 @@ loop-again c =
       below-more _ t (λ k h. getD-set-other off t k y 0 (omega arith) ∙ inv .5 k h) (getD-set-same off t y 0 (omega arith)),
     )
 
--- src/unit.rt:23:1
 same-length : tie.Need-same-length Inv-loop μ-loop
 same-length c = search needs
 
--- src/unit.rt:23:1
 same-length-2 : tie.Need-same-length-2 Inv-loop μ-loop
 same-length-2 c = search needs
 
--- src/unit.rt:23:1
 returns : tie.Need-returns Inv-loop μ-loop
 returns c =
     let inv = c .before .loop .inv in

@@ -1,18 +1,15 @@
+-- `price_value` meets its contract: the two arrays begin with the costs at the prices, and the walk over those is the walk in
+-- prices.
+use mathlib.Core.Path.{sym, _∙_}
+use mathlib.Core.List.{List}
+use Prim.Native.Nat.{ℕ, _≤_}
+use borrow.Author.Needs.{needs}
+use lib.ListN.{length, drop, replicate}
 use Rattle.least.specs.Marks.{marks-of}
 use Rattle.least.proofs.Costs.{on-front-fits, off-front-fits, on-front-long, off-front-long, front-good, front-walk}
-use Prim.Native.Nat.{ℕ, _+_, _≤_, _<_}
-use mathlib.Core.Path.{_≡_, refl, sym, _∙_}
-use native.Mathlib.Omega.{arith}
-use mathlib.Core.List.{List}
-use lib.ListN.{length, drop, replicate}
 use Rattle.least.proofs.Fronts.{front-length}
-use borrow.Author.Needs.{needs}
 use Rattle.least.proofs.unit.price_value.Statement.{statement}
 use Rattle.least.proofs.unit.price_value.Tie as tie
-use Rattle.least.proofs.unit.price_value.Reads as reads
-use Rattle.least.proofs.unit.price_value.Lts as lts
-use Rattle.least.proofs.table.walk_value.Reads as walk-value-reads
-use Rattle.least.proofs.unit.fill_costs.Reads as fill-costs-reads
 
 -- the periods fit the arrays
 periods-fit : (c : tie.Start) → length (c .args .q .now) ≤ 48
@@ -22,58 +19,48 @@ periods-fit c = c .pre .1 .0 .periods-in .1
 abbrev rest : tie.Start → List ℕ
 rest c = drop (length (c .args .q .now)) (replicate 48 0)
 
--- src/unit.rt:49:25
 array-borrow-prefix-on : tie.Need-array-borrow-prefix-on
 array-borrow-prefix-on c = search needs
 
--- src/unit.rt:49:25
 slice-aggregate-fill-costs : tie.Need-slice-aggregate-fill-costs
 slice-aggregate-fill-costs c =
     let s = c .before .before .before .before in
     sym (front-length 0 (length (s .args .q .now)) 48 (periods-fit s))
 
--- src/unit.rt:49:39
 array-borrow-prefix-off : tie.Need-array-borrow-prefix-off
 array-borrow-prefix-off c = search needs
 
--- src/unit.rt:49:39
 slice-aggregate-fill-costs-2 : tie.Need-slice-aggregate-fill-costs-2
 slice-aggregate-fill-costs-2 c =
     let s = c .before .before .before .before .before in
     sym (front-length 0 (length (s .args .q .now)) 48 (periods-fit s))
 
--- src/unit.rt:49:5
 fill-costs-requires : tie.Need-fill-costs-requires
 fill-costs-requires c κs =
     let s = c .before .before .before .before .before in
     let long = front-length 0 (length (s .args .q .now)) 48 (periods-fit s) in
     (s .pre .0, (s .pre .1 .0, (long, long)))
 
--- src/unit.rt:50:19
 array-share-prefix-on : tie.Need-array-share-prefix-on
 array-share-prefix-on c =
     let fill = c .before .before in
     on-front-fits (fill .fill-costs .ensures) (rest (fill .before .before .before .before .before .before))
 
--- src/unit.rt:50:19
 slice-aggregate-walk-value : tie.Need-slice-aggregate-walk-value
 slice-aggregate-walk-value c =
     let fill = c .before .before .before in
     on-front-long (fill .fill-costs .ensures) (rest (fill .before .before .before .before .before .before))
 
--- src/unit.rt:50:29
 array-share-prefix-off : tie.Need-array-share-prefix-off
 array-share-prefix-off c =
     let fill = c .before .before .before in
     off-front-fits (fill .fill-costs .ensures) (rest (fill .before .before .before .before .before .before))
 
--- src/unit.rt:50:29
 slice-aggregate-walk-value-2 : tie.Need-slice-aggregate-walk-value-2
 slice-aggregate-walk-value-2 c =
     let fill = c .before .before .before .before in
     off-front-long (fill .fill-costs .ensures) (rest (fill .before .before .before .before .before .before))
 
--- src/unit.rt:50:5
 walk-value-requires : tie.Need-walk-value-requires
 walk-value-requires c κs =
     let fill = c .before .before .before .before in
@@ -81,7 +68,6 @@ walk-value-requires c κs =
     let s = fill .before .before .before .before .before .before in
     (s .pre .0, (front-good (s .pre .0) (s .pre .1 .0) K (rest s), s .pre .1 .1 ∙ on-front-long K (rest s)))
 
--- src/unit.rt:41:1
 returns : tie.Need-returns
 returns c =
     let fill = c .before .before .before .before .before in

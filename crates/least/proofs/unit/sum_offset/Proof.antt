@@ -1,5 +1,6 @@
-use Prim.Native.Nat.{ℕ, suc, _+_, _*_, _-_, _≤_, _<_}
+-- `sum_offset` meets its contract. The loop's invariant: the sum is that of the periods passed.
 use mathlib.Core.Path.{_≡_, refl, ap, _∙_}
+use Prim.Native.Nat.{suc, ℕ, _+_, _*_, _-_, _≤_}
 use native.Mathlib.Numerals.{add-one}
 use native.Mathlib.Omega.{arith}
 use lib.ListN.{length}
@@ -9,8 +10,8 @@ use Rattle.model.proofs.PeriodSums.{sum-more}
 use Rattle.least.proofs.Costs.{price-in, reserve-in, period-added-fits, part-offset-fits}
 use Rattle.least.proofs.unit.sum_offset.Statement.{statement}
 use Rattle.least.proofs.unit.sum_offset.Tie as tie
-use Rattle.least.proofs.unit.sum_offset.Reads as reads
-use Rattle.least.proofs.unit.sum_offset.Lts as lts
+
+-- `sum_offset` meets its contract. The loop's invariant: the sum is that of the periods passed.
 
 abbrev Inv-loop : tie.InvT-loop
 Inv-loop q s high n sum₀ t₀ sum t = (t ≤ n) × (n ≡ length q) × (sum ≡ sum-of t (λ i. (q at i + s at i) * high))
@@ -18,29 +19,23 @@ Inv-loop q s high n sum₀ t₀ sum t = (t ≤ n) × (n ≡ length q) × (sum �
 abbrev μ-loop : tie.MeasureT-loop
 μ-loop q s high n sum₀ t₀ sum t = n - t
 
--- src/unit.rt:63:5
 loop-holds : tie.Need-loop-holds Inv-loop μ-loop
 loop-holds c = (omega arith, refl, refl)
 
--- src/unit.rt:64:17
 mul-sum : tie.Need-mul-sum Inv-loop μ-loop
 mul-sum c = omega arith
 
--- src/unit.rt:64:17
 shared-slice-read-sum : tie.Need-shared-slice-read-sum Inv-loop μ-loop
 shared-slice-read-sum c = omega arith
 
--- src/unit.rt:64:24
 mul-sum-2 : tie.Need-mul-sum-2 Inv-loop μ-loop
 mul-sum-2 c = omega arith
 
--- src/unit.rt:64:24
 shared-slice-read-sum-2 : tie.Need-shared-slice-read-sum-2 Inv-loop μ-loop
 shared-slice-read-sum-2 c =
     let s = c .before .before .before .before in
     omega (arith, s .pre .1 .s-long)
 
--- src/unit.rt:64:17
 add-sum : tie.Need-add-sum Inv-loop μ-loop
 add-sum c =
     let s = c .before .before .before .before in
@@ -48,41 +43,36 @@ add-sum c =
     let P = s .pre .1 in
     omega (arith, price-in (length (s .args .q .now)) (s .args .q .now) (s .args .s .now) P t, reserve-in (length (s .args .q .now)) (s .args .q .now) (s .args .s .now) P t)
 
--- src/unit.rt:64:16
 mul-sum-3 : tie.Need-mul-sum-3 Inv-loop μ-loop
 mul-sum-3 c =
     let s = c .before .before .before .before in
     omega (arith, period-added-fits (length (s .args .q .now)) (s .args .q .now) (s .args .s .now) (s .pre .1) (s .args .g) (s .pre .0) (c .before .before .before .loop .t))
 
--- src/unit.rt:64:9
 add-sum-2 : tie.Need-add-sum-2 Inv-loop μ-loop
 add-sum-2 c =
     let s = c .before .before .before .before in
     let loop = c .before .before .before .loop in
     let a = s .args in
+    let more : suc (loop .t) ≤ length (a .q .now) = c .before .before .loop-test .taken in
     omega (
       arith,
       loop .inv .2,
-      period-added-fits (length (a .q .now)) (a .q .now) (a .s .now) (s .pre .1) (a .g) (s .pre .0) (loop .t),
-      part-offset-fits (length (a .q .now)) (a .q .now) (a .s .now) (s .pre .1) (a .g) (s .pre .0) (loop .t) (omega arith),
+      sum-more (loop .t) (λ i. (a .q .now at i + a .s .now at i) * a .g .pU),
+      part-offset-fits (length (a .q .now)) (a .q .now) (a .s .now) (s .pre .1) (a .g) (s .pre .0) (suc (loop .t)) more,
     )
 
--- src/unit.rt:65:9
 add-t : tie.Need-add-t Inv-loop μ-loop
 add-t c = omega arith
 
--- src/unit.rt:63:5
 loop-less : tie.Need-loop-less Inv-loop μ-loop
 loop-less c = omega arith
 
--- src/unit.rt:63:5
 loop-again : tie.Need-loop-again Inv-loop μ-loop
 loop-again c =
     let loop = c .before .before .before .loop in
     let a = c .before .before .before .before .args in
     (omega arith, refl, rw (add-one (loop .t)) (omega (arith, loop .inv .2, sum-more (loop .t) (λ i. (a .q .now at i + a .s .now at i) * a .g .pU))))
 
--- src/unit.rt:54:1
 returns : tie.Need-returns Inv-loop μ-loop
 unfolding offset
 returns c =

@@ -1,17 +1,14 @@
 -- One unit's answer from its walk: stuck where the walk finds nothing, else its value less what was added.
-use mathlib.Core.Path.{_≡_, refl, sym, _∙_, ap}
-use mathlib.Core.Bool.{Bool, true, false, cond}
+use mathlib.Core.Path.{_≡_, refl, sym}
 use Prim.Native.Nat.{ℕ, zero, suc, _-_}
 use native.Mathlib.Omega.{arith}
-use lib.Dec.{eqb, eqb·suc-zero}
+use lib.Dec.{eqb·suc-zero}
 use lib.IntN.{pos, _-ℤ_}
 use Rattle.model.specs.declared.generator.Generator.{Generator}
 use Rattle.model.specs.Ranges.{GoodUnit}
 use Rattle.model.specs.Above.{Mark}
-use Rattle.model.specs.Leaf.{unit-least}
 use Rattle.model.specs.Prices.{price-walk, offset}
 use Rattle.model.proofs.PriceWalks.{unit-least-is, price-walk-stuck}
-use Rattle.least.specs.declared.unit.Least.{Least}
 use Rattle.least.specs.declared.unit.Least.the-variants.{Stuck, Value}
 use Rattle.least.specs.Answers.{least-of}
 

@@ -1,0 +1,158 @@
+-- A leaf's line, judged at its place by what the code found of its rule: one law for each way through the readers of leaves.
+use mathlib.Core.Path.{_≡_, refl, sym, ap, _∙_}
+use mathlib.Core.Bool.{Bool, true, false, not, cond}
+use mathlib.Core.List.{List, [], _∷_}
+use Prim.Native.Nat.{ℕ, suc, pred, _+_, _-_, _≤_, _<_}
+use native.Mathlib.Omega.{arith}
+use lib.Dec.{ltb}
+use lib.IntN.{ℤ}
+use lib.ListN.{length, take}
+use Rattle.model.specs.Instance.{Instance, _at_}
+use Rattle.model.specs.Ranges.{WellFormed}
+use Rattle.model.specs.Above.{Marks, Above}
+use Rattle.model.specs.Leaf.{stuck-at, any-stuck, leaf-value}
+use Rattle.model.specs.Tree.{never, number}
+use Rattle.model.proofs.Extents.{SameMarks, any-stuck-ext, leaf-value-ext}
+use Rattle.text.specs.Lines.{Line, lineAt}
+use Rattle.text.specs.Forms.{plain, rowOf}
+use Rattle.text.specs.Course.{Found, refused, good}
+use Rattle.text.specs.declared.Row.{Row}
+use Rattle.text.specs.declared.Verdict.the-variants.{Refused, Good}
+use Rattle.least.specs.declared.unit.Least.the-variants.{Stuck, Value}
+use Rattle.least.specs.Marks.{all-marks}
+use Rattle.least.specs.Answers.{leaf-of}
+use Rattle.tree.specs.Rendering.{short-key, stuck-key, price-key, reserve-key}
+use Rattle.tree.specs.Tests.{Test, _if_, found}
+use Rattle.tree.specs.NodeLines.{Kind, short-line, stuck-line, price-line, kind-of, node-form, reserve-form, numbers-of, split-again, too-deep, not-short, not-stuck, form-tests, node-tests}
+use Rattle.tree.specs.Due.{Figures, with-leaf, Pending, pending, Due, nodes-due, reserve-due, tests, next, after-node, judge}
+use Rattle.tree.specs.Coded.{marks-in, short-there}
+use Rattle.tree.proofs.Rows.{passes-found, row-refused, row-passes, OneValue, one-value, values-taken}
+use Rattle.tree.proofs.Marked.{marks-same}
+use Rattle.tree.proofs.Steps.{AtNode, AtReserve}
+
+-- the tests after 12, 14, 13
+abbrev pub rules : Instance → Above → ℕ → Kind → Line → List Test
+rules P A d k l = 31 if split-again P A k l ∷ 32 if too-deep d k ∷ 33 if not-short P A k l ∷ 34 if not-stuck P A k l ∷ []
+
+-- ---- where a node is due
+
+module _ (P : Instance) (text : List ℕ) (here : ℕ) (A : Above) (d : ℕ) where
+  -- the tests by the line's kind
+  pub judge-by : (k : Kind) → kind-of (lineAt text here) ≡ k → (F : Figures) (rest : List Pending)
+      → judge P (nodes-due F (pending A d ∷ rest)) (lineAt text here)
+      ≡ found (node-tests P A d k (lineAt text here)) (after-node P F (pending A d) rest k (lineAt text here))
+  unfolding judge tests next
+  judge-by k e F rest = ap (λ (x : Kind). found (node-tests P A d x (lineAt text here)) (after-node P F (pending A d) rest x (lineAt text here))) e
+
+  module _ (k : Kind) (e : kind-of (lineAt text here) ≡ k) (row : Row) (is : row ≡ rowOf (node-form P k) (lineAt text here) here) where
+    -- 12, 14 or 13
+    pub line-refused : (n : ℕ) → row .verdict ≡ Refused n → AtNode P text here A d (λ F rest. refused n)
+    line-refused n v F rest = judge-by k e F rest ∙ row-refused (node-form P k) text here row is n v (after-node P F (pending A d) rest k (lineAt text here)) (rules P A d k (lineAt text here))
+
+    -- none of these: the other tests are left
+    pub line-passed : (n : ℕ) → row .verdict ≡ Good n → (F : Figures) (rest : List Pending)
+        → judge P (nodes-due F (pending A d ∷ rest)) (lineAt text here)
+        ≡ found (rules P A d k (lineAt text here))
+        (after-node P F (pending A d) rest k (lineAt text here))
+    line-passed n v F rest =
+        judge-by k e F rest
+        ∙ passes-found (after-node P F (pending A d) rest k (lineAt text here))
+        (rules P A d k (lineAt text here))
+        (node-form P k) (lineAt text here) (row-passes (node-form P k) text here row is n v)
+
+  module _ (e : kind-of (lineAt text here) ≡ short-line) (row : Row) (is : row ≡ rowOf (node-form P short-line) (lineAt text here) here) (n : ℕ)
+      (v : row .verdict ≡ Good n) where
+    short-by : (b : Bool) → b ≡ short-there P (A .marks) (row .values at 0 - 1) → not-short P A short-line (lineAt text here) ≡ not b
+    unfolding not-short
+    short-by b s =
+        let w = one-value short-key (P .periods) text here row is n v in
+        ap not (sym (s ∙ ap (λ (t : ℕ). short-there P (A .marks) t) (w .is-named)))
+
+    pub short-holds : true ≡ short-there P (A .marks) (row .values at 0 - 1) → AtNode P text here A d (λ F rest. good (nodes-due (with-leaf F never) rest))
+    unfolding split-again too-deep not-stuck after-node
+    short-holds s F rest = line-passed short-line e row is n v F rest ∙ rw (short-by true s) refl
+
+    pub short-fails : false ≡ short-there P (A .marks) (row .values at 0 - 1) → AtNode P text here A d (λ F rest. refused 33)
+    unfolding split-again too-deep not-stuck after-node
+    short-fails s F rest = line-passed short-line e row is n v F rest ∙ rw (short-by false s) refl
+
+  module _ (e : kind-of (lineAt text here) ≡ stuck-line) (row : Row) (is : row ≡ rowOf (node-form P stuck-line) (lineAt text here) here) (n : ℕ)
+      (v : row .verdict ≡ Good n) where
+    stuck-by : (b : Bool) → b ≡ stuck-at (P .periods) (P .units) (A .marks) (row .values at 0 - 1) → not-stuck P A stuck-line (lineAt text here) ≡ not b
+    unfolding not-stuck
+    stuck-by b s =
+        let w = one-value stuck-key (length (P .units)) text here row is n v in
+        ap not (sym (s ∙ ap (λ (U : ℕ). stuck-at (P .periods) (P .units) (A .marks) U) (w .is-named)))
+
+    pub stuck-holds : true ≡ stuck-at (P .periods) (P .units) (A .marks) (row .values at 0 - 1)
+        → AtNode P text here A d (λ F rest. good (nodes-due (with-leaf F never) rest))
+    unfolding split-again too-deep not-short after-node
+    stuck-holds s F rest = line-passed stuck-line e row is n v F rest ∙ rw (stuck-by true s) refl
+
+    pub stuck-fails : false ≡ stuck-at (P .periods) (P .units) (A .marks) (row .values at 0 - 1) → AtNode P text here A d (λ F rest. refused 34)
+    unfolding split-again too-deep not-short after-node
+    stuck-fails s F rest = line-passed stuck-line e row is n v F rest ∙ rw (stuck-by false s) refl
+
+  pub price-read : (e : kind-of (lineAt text here) ≡ price-line) (row : Row) (is : row ≡ rowOf (node-form P price-line) (lineAt text here) here) (n : ℕ)
+      (v : row .verdict ≡ Good n)
+      → AtNode P text here A d (λ F rest. good (reserve-due F A (take (P .periods) (row .values)) rest))
+  unfolding split-again too-deep not-short not-stuck after-node
+  price-read e row is n v F rest =
+      line-passed price-line e row is n v F rest
+      ∙ ap (λ (q : List ℕ). good (reserve-due F A q rest)) (sym (values-taken P price-key text here row is n v))
+
+-- ---- the reserve line of a price leaf
+
+module _ (P : Instance) (W : WellFormed P) (text : List ℕ) (here : ℕ) (bytes : List ℕ) (q : List ℕ) (row : Row)
+    (is : row ≡ rowOf (reserve-form P) (lineAt text here) here) where
+  pub reserve-line-refused : (n : ℕ) → row .verdict ≡ Refused n → AtReserve P text here (record { marks = marks-in (P .periods) bytes }) q (λ F rest. refused n)
+  unfolding judge tests next
+  reserve-line-refused n v F rest =
+      row-refused (reserve-form P) text here row is n v (next P (reserve-due F (record { marks = marks-in (P .periods) bytes }) q rest) (lineAt text here))
+      (35 if any-stuck (P .periods) (P .units) (marks-in (P .periods) bytes) ∷ [])
+
+  module _ (n : ℕ) (v : row .verdict ≡ Good n) where
+    same : SameMarks (length (P .units)) (P .periods) (all-marks (P .periods) bytes) (marks-in (P .periods) bytes)
+    same = marks-same (length (P .units)) (P .periods) bytes
+
+    passed : (F : Figures) (rest : List Pending) (b : Bool) → any-stuck (P .periods) (P .units) (all-marks (P .periods) bytes) ≡ b
+        → judge P (reserve-due F (record { marks = marks-in (P .periods) bytes }) q rest) (lineAt text here)
+        ≡ found (35 if b ∷ []) (next P (reserve-due F (record { marks = marks-in (P .periods) bytes }) q rest) (lineAt text here))
+    unfolding judge tests
+    passed F rest b e =
+        passes-found (next P (reserve-due F (record { marks = marks-in (P .periods) bytes }) q rest) (lineAt text here))
+        (35 if any-stuck (P .periods) (P .units) (marks-in (P .periods) bytes) ∷ []) (reserve-form P) (lineAt text here)
+        (row-passes (reserve-form P) text here row is n v)
+        ∙ ap (λ (x : Bool). found (35 if x ∷ []) (next P (reserve-due F (record { marks = marks-in (P .periods) bytes }) q rest) (lineAt text here)))
+        (sym (any-stuck-ext (P .periods) (P .units) (all-marks (P .periods) bytes) (marks-in (P .periods) bytes) same) ∙ e)
+
+    -- 35
+    pub unit-stuck : Stuck ≡ leaf-of P (all-marks (P .periods) bytes) (λ t. q at t) (λ t. take (P .periods) (row .values) at t)
+        → AtReserve P text here (record { marks = marks-in (P .periods) bytes }) q (λ F rest. refused 35)
+    unit-stuck e F rest = go (any-stuck (P .periods) (P .units) (all-marks (P .periods) bytes)) refl e
+      where
+        go : (b : Bool) → any-stuck (P .periods) (P .units) (all-marks (P .periods) bytes) ≡ b
+            → Stuck ≡ cond b Stuck (Value (leaf-value P (all-marks (P .periods) bytes) (λ t. q at t) (λ t. take (P .periods) (row .values) at t)))
+            → judge P (reserve-due F (record { marks = marks-in (P .periods) bytes }) q rest) (lineAt text here) ≡ refused 35
+        go true p z = passed F rest true p
+        go false p z = absurd (let y : _≡_ {A = ℕ} 0 1 = cc in omega arith)
+
+    pub leaf-read : (z : ℤ) → Value z ≡ leaf-of P (all-marks (P .periods) bytes) (λ t. q at t) (λ t. take (P .periods) (row .values) at t)
+        → AtReserve P text here (record { marks = marks-in (P .periods) bytes }) q (λ F rest. good (nodes-due (with-leaf F (number z)) rest))
+    unfolding next
+    leaf-read z e F rest = go (any-stuck (P .periods) (P .units) (all-marks (P .periods) bytes)) refl e
+      where
+        value : leaf-value P (all-marks (P .periods) bytes) (λ t. q at t) (λ t. take (P .periods) (row .values) at t)
+            ≡ leaf-value P (marks-in (P .periods) bytes) (λ t. q at t) (λ t. numbers-of (reserve-form P) (lineAt text here) at t)
+        value =
+            leaf-value-ext P (W .units-good) (all-marks (P .periods) bytes) (marks-in (P .periods) bytes) same (λ t. q at t) (λ t. q at t)
+            (λ t. take (P .periods) (row .values) at t) (λ t. numbers-of (reserve-form P) (lineAt text here) at t) (λ t l. refl)
+            (λ t l. ap (λ (x : List ℕ). x at t) (values-taken P reserve-key text here row is n v))
+
+        go : (b : Bool) → any-stuck (P .periods) (P .units) (all-marks (P .periods) bytes) ≡ b
+            → Value z ≡ cond b Stuck (Value (leaf-value P (all-marks (P .periods) bytes) (λ t. q at t) (λ t. take (P .periods) (row .values) at t)))
+            → judge P (reserve-due F (record { marks = marks-in (P .periods) bytes }) q rest) (lineAt text here) ≡ good (nodes-due (with-leaf F (number z)) rest)
+        go true p x = absurd (let y : _≡_ {A = ℕ} 0 1 = cc in omega arith)
+        go false p x =
+            let r : z ≡ leaf-value P (all-marks (P .periods) bytes) (λ t. q at t) (λ t. take (P .periods) (row .values) at t) = cc in
+            passed F rest false p ∙ ap (λ (y : ℤ). good (nodes-due (with-leaf F (number y)) rest)) (sym (r ∙ value))

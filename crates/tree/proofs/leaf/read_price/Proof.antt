@@ -1,0 +1,104 @@
+use borrow.Author.Needs.{needs}
+use mathlib.Core.Path.{_≡_, refl, sym, _∙_}
+use native.Mathlib.Omega.{arith}
+use lib.ListN.{take, length-map}
+use Rattle.model.specs.Held.{view}
+use Rattle.text.specs.Lines.{lineAt}
+use Rattle.text.specs.Forms.{rowOf}
+use Rattle.tree.specs.Rendering.{price-key}
+use Rattle.tree.specs.NodeLines.{price-line, node-form}
+use Rattle.tree.specs.Coded.{above-of}
+use Rattle.tree.specs.Reading.{Moved}
+use Rattle.tree.proofs.Problems.{Sizes, valid-sizes}
+use Rattle.tree.proofs.Rows.{row-moved, taken-multipliers}
+use Rattle.tree.proofs.Steps.{node-refused, node-price, moved-placed, later-past}
+use Rattle.tree.proofs.Leaves.{line-refused, price-read}
+use Rattle.tree.proofs.leaf.read_price.Statement.{statement}
+use Rattle.tree.proofs.leaf.read_price.Tie as tie
+use Rattle.text.proofs.read_row.Reads as read-row-reads
+use Rattle.tree.proofs.leaf.read_reserve.Reads as read-reserve-reads
+
+sizes : (c : tie.Start) → Sizes (c .args .problem)
+sizes c = valid-sizes (c .args .problem) (sym (length-map (c .args .problem .generators) _) ∙ c .good .0 .1 .1 .1 .1 .1 .1 .0 .1 .0 .1) (c .pre .0)
+
+-- the row is that of a price line of the problem
+is-row : (c : tie.After-read-row) →
+    let a = c .before .before .before .args in
+    c .read-row .result ≡ rowOf (node-form (view (a .problem)) price-line) (lineAt (a .text .now) (a .at)) (a .at)
+unfolding view
+is-row c = c .read-row .ensures
+
+moved : (c : tie.After-verdict2) → Moved (c .before .before .before .before .before .args .text .now) (c .before .before .before .before .before .args .at) (c .verdict2 .given .0 .0)
+moved c =
+    let r = c .before .before in
+    let a = r .before .before .before .args in
+    row-moved (node-form (view (a .problem)) price-line) (a .text .now) (a .at) (r .read-row .result) (is-row r) (c .verdict2 .given .0 .0) (c .verdict2 .given .1)
+
+slice-aggregate-read-row : tie.Need-slice-aggregate-read-row
+slice-aggregate-read-row c = search needs
+
+read-row-requires : tie.Need-read-row-requires
+read-row-requires c κs = (refl, (sizes (c .before .before) .most-periods, omega arith))
+
+enum-known-verdict : tie.Need-enum-known-verdict
+enum-known-verdict c = search needs
+
+enum-known-verdict-2 : tie.Need-enum-known-verdict-2
+enum-known-verdict-2 c = search needs
+
+add-read-reserve : tie.Need-add-read-reserve
+add-read-reserve c = search needs
+
+read-reserve-requires : tie.Need-read-reserve-requires
+unfolding view
+read-reserve-requires c κs =
+    let r = c .before .before .before .before in
+    let s = r .before .before .before in
+    let a = s .args in
+    let v = c .before .before .verdict2 .given in (
+      s .pre .0,
+      (
+        moved-placed (a .text .now) (a .at) (a .line) (a .tally) (s .pre .1 .0) (v .0 .0) (moved (c .before .before)) (a .tally) (omega arith),
+        taken-multipliers (view (a .problem)) price-key (a .text .now) (a .at) (r .read-row .result) (is-row r) (v .0 .0) (v .1),
+      ),
+    )
+
+returns : tie.Need-returns
+returns c =
+    let r = c .before .before .before in
+    let s = r .before .before .before in
+    let a = s .args in
+    let v = c .before .verdict .given in
+    let P = view (a .problem) in (
+      (λ d. node-refused P (a .text .now) (a .at) (a .line) (a .tally) (above-of (a .problem .periods) (a .above)) d (v .0 .0)
+          (line-refused P (a .text .now) (a .at) (above-of (a .problem .periods) (a .above)) d price-line (s .pre .1 .1) (r .read-row .result) (is-row r) (v .0 .0) (v .1))),
+      tt,
+    )
+
+returns-2 : tie.Need-returns-2
+unfolding view
+returns-2 c =
+    let r = c .before .before .before .before .before in
+    let s = r .before .before .before in
+    let a = s .args in
+    let v = c .before .before .before .verdict2 .given in
+    let P = view (a .problem) in
+    let A = above-of (a .problem .periods) (a .above) in
+    let m = moved (c .before .before .before) in (
+      (λ d. node-price P (a .text .now) (a .at) (a .line) (a .tally) A d (take (a .problem .periods) (r .read-row .result .values)) (v .0 .0) (c .read-reserve .result)
+          (price-read P (a .text .now) (a .at) A d (s .pre .1 .1) (r .read-row .result) (is-row r) (v .0 .0) (v .1)) m (c .read-reserve .ensures .0)),
+      later-past (a .text .now) (a .at) (a .line) (a .tally) (s .pre .1 .0) (v .0 .0) m (c .read-reserve .result) (c .read-reserve .ensures .1),
+    )
+
+pub read-price-spec : {M : Type 1} → statement M
+read-price-spec =
+    tie.close
+    (tie.spec
+    slice-aggregate-read-row
+    read-row-requires
+    enum-known-verdict
+    enum-known-verdict-2
+    add-read-reserve
+    read-reserve-requires
+    returns
+    returns-2)

@@ -1,0 +1,67 @@
+-- How the code holds what stands above a node and what was read so far, and what these mean.
+use mathlib.Core.Path.{_≡_}
+use mathlib.Core.Bool.{Bool, cond}
+use mathlib.Core.List.{List}
+use Prim.Native.Nat.{ℕ, suc, _+_, _*_}
+use lib.Dec.{ltb}
+use lib.ListN.{set, replicate}
+use Rattle.model.specs.Instance.{Instance, _at_}
+use Rattle.model.specs.Above.{free, Marks}
+use Rattle.model.specs.Leaf.{available}
+use Rattle.model.specs.Above as model
+use Rattle.model.specs.Tree.{never, number, lower}
+use Rattle.model.specs.Tree as model-tree
+use Rattle.least.specs.Marks.{mark-of, all-marks}
+use Rattle.tree.specs.declared.above.Above.{Above}
+use Rattle.tree.specs.declared.figures.Bound.{Bound}
+use Rattle.tree.specs.declared.figures.Bound.the-variants.{Never, Number}
+use Rattle.tree.specs.declared.figures.Tally.{Tally}
+use Rattle.tree.specs.NodeLines.{is-fixed}
+use Rattle.tree.specs.Due.{Figures}
+
+-- ---- what stands above a node
+
+-- the marks that the bytes hold for T periods; beyond these nothing is fixed
+unfoldable pub marks-in : ℕ → List ℕ → Marks
+marks-in T bytes u t = cond (ltb t T) (all-marks T bytes u t) free
+
+abbrev pub above-of : ℕ → Above → model.Above
+above-of T a = record { marks = marks-in T (a .fixed) }
+
+unfoldable pub none-fixed : Above
+none-fixed = record { fixed = replicate 1536 0 }
+
+abbrev pub with-status : Above → ℕ → ℕ → Above
+with-status a place status = record { fixed = set (a .fixed) place status }
+
+-- ---- what was read so far
+
+abbrev pub bound-of : Bound → model-tree.Bound
+bound-of Never = never
+bound-of (Number z) = number z
+
+abbrev pub figures : ℕ → Tally → Figures
+figures w S = record { writer = w; bound = bound-of (S .bound); splits = S .splits; leaves = S .leaves }
+
+abbrev pub none-read : Tally
+none-read = record { bound = Never; splits = 0; leaves = 0 }
+
+abbrev pub one-split : Tally → Tally
+one-split S = record { bound = S .bound; splits = S .splits + 1; leaves = S .leaves }
+
+-- S′ is S with one leaf more, which has the bound b
+pub record LeafAdded (S : Tally) (b : Bound) (S′ : Tally) : Type 0 where
+  pub bound : bound-of (S′ .bound) ≡ lower (bound-of (S .bound)) (bound-of b)
+  pub splits : S′ .splits ≡ S .splits
+  pub leaves : S′ .leaves ≡ S .leaves + 1
+
+-- ---- 31 and 32
+
+-- the number that refuses a split on the status at a place, at depth d; or 0
+unfoldable pub split-refusal : Above → ℕ → ℕ → ℕ
+split-refusal a place d = cond (is-fixed (mark-of (a .fixed at place))) 31 (cond (ltb 63 d) 32 0)
+
+-- ---- 33
+
+abbrev pub short-there : Instance → Marks → ℕ → Bool
+short-there P m t = ltb (available (P .units) m t) (P .demand at t + P .spare at t)
