@@ -1,0 +1,2 @@
+-- What the program's functions say of each other.
+pub mod Desk
