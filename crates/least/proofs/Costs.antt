@@ -20,7 +20,7 @@ use Rattle.least.specs.Limits.{GoodPrices, GoodSlopes, GoodCosts}
 use Rattle.least.specs.Steps.{costs-of, Priced}
 
 -- a list whose every entry is in range
-all-of : (M : ℕ) (l : List ℕ) → ((t : ℕ) → t < length l → l at t ≤ M) → All (λ v. Between 0 v M) l
+pub all-of : (M : ℕ) (l : List ℕ) → ((t : ℕ) → t < length l → l at t ≤ M) → All (λ v. Between 0 v M) l
 all-of M [] h = tt
 all-of M (v ∷ l) h = ((omega arith, h 0 (omega arith)), all-of M l (λ t i. h (suc t) (omega arith)))
 

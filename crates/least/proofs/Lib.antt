@@ -9,3 +9,5 @@ pub mod UnitAnswers
 pub mod Units
 pub mod Requirements
 pub mod LeafAnswers
+pub mod StuckUnits
+pub mod Shorts

@@ -4,7 +4,6 @@ use mathlib.Core.List.{List}
 use Prim.Native.Nat.{ℕ, _+_, _*_, _≤_, _<_}
 use native.Mathlib.Nat.{mul-le-mul}
 use native.Mathlib.Omega.{arith}
-use lib.ListN.{take}
 use lib.Seq.{getD-take}
 use Rattle.model.specs.declared.problem.Problem.{Problem}
 use Rattle.model.specs.Instance.{_at_, sum}
@@ -31,27 +30,35 @@ sizes q s D R hq hs hD hR =
 abbrev pub required-at : List ℕ → List ℕ → List ℕ → List ℕ → ℕ → ℕ
 required-at q s D R t = q at t * D at t + s at t * (D at t + R at t)
 
+-- ---- a problem's arrays
+
+module _ (p : Problem) (valid : Valid p) (t : ℕ) (within : t < p .periods) where
+  pub demand-view : p .demand at t ≡ view p .demand at t
+  unfolding view
+  demand-view = sym (getD-take (p .periods) (p .demand) t 0 within)
+
+  pub spare-view : p .spare at t ≡ view p .spare at t
+  unfolding view
+  spare-view = sym (getD-take (p .periods) (p .spare) t 0 within)
+
+  pub demand-in : GoodLoad (p .demand at t)
+  demand-in = rw demand-view (all-at 320000 (view p .demand) (valid .well-formed .demand-in) t)
+
+  pub spare-in : GoodLoad (p .spare at t)
+  spare-in = rw spare-view (all-at 320000 (view p .spare) (valid .well-formed .spare-in) t)
+
 -- ---- all periods
 
 module _ (p : Problem) (valid : Valid p) (q s : List ℕ) (P : GoodPrices (p .periods) q s) where
-  pub demand-in : (t : ℕ) → t < p .periods → GoodLoad (p .demand at t)
-  unfolding view
-  demand-in t l = rw (getD-take (p .periods) (p .demand) t 0 l) at (all-at 320000 (take (p .periods) (p .demand)) (valid .well-formed .demand-in) t)
-
-  pub spare-in : (t : ℕ) → t < p .periods → GoodLoad (p .spare at t)
-  unfolding view
-  spare-in t l = rw (getD-take (p .periods) (p .spare) t 0 l) at (all-at 320000 (take (p .periods) (p .spare)) (valid .well-formed .spare-in) t)
-
   required-view : (t : ℕ) → t < p .periods
-      → required-at q s (p .demand) (p .spare) t ≡ required-at q s (take (p .periods) (p .demand)) (take (p .periods) (p .spare)) t
-  required-view t l =
-      ap₂ (λ (d r : ℕ). q at t * d + s at t * (d + r)) (sym (getD-take (p .periods) (p .demand) t 0 l)) (sym (getD-take (p .periods) (p .spare) t 0 l))
+      → required-at q s (p .demand) (p .spare) t ≡ required-at q s (view p .demand) (view p .spare) t
+  required-view t l = ap₂ (λ (d r : ℕ). q at t * d + s at t * (d + r)) (demand-view p valid t l) (spare-view p valid t l)
 
   pub required-sum : sum (p .periods) (λ t. required-at q s (p .demand) (p .spare) t) ≡ requirement (view p) (λ t. q at t) (λ t. s at t)
   unfolding requirement view
   required-sum =
       sum-eq (p .periods) (λ t. required-at q s (p .demand) (p .spare) t)
-      (λ t. required-at q s (take (p .periods) (p .demand)) (take (p .periods) (p .spare)) t) required-view
+      (λ t. required-at q s (view p .demand) (view p .spare) t) required-view
 
   pub required-sum-fits : requirement (view p) (λ t. q at t) (λ t. s at t) ≤ 46_080_000_000_000_000
   unfolding view

@@ -4,7 +4,9 @@ use mathlib.Core.Bool.{Bool, true, false, not, cond}
 use Prim.Native.Nat.{ℕ}
 use native.Mathlib.Omega.{arith}
 use lib.Dec.{T, eqb, eqb→eq}
+use borrow.Author.Tests.{eq-eqb, ne-eqb}
 use Rattle.model.specs.Above.{free, fixed, allows}
+use Rattle.model.specs.Leaf.{unless-off}
 use Rattle.least.specs.Marks.{mark-of}
 
 pub allows-on : (x : ℕ) → allows (mark-of x) true ≡ not (eqb x 1)
@@ -25,3 +27,16 @@ allows-off x = go (eqb x 1) (eqb x 2) (λ a b. omega (arith, eqb→eq x 1 a, eqb
     go true false h = refl
     go false true h = refl
     go false false h = refl
+
+-- what a unit has available: nothing where it is fixed off
+pub unless-off-one : (x v : ℕ) → x ≡ 1 → 0 ≡ unless-off (mark-of x) v
+unfolding mark-of
+unless-off-one x v e = rw (eq-eqb x 1 e)
+
+pub unless-off-other : (x v : ℕ) → (x ≡ 1 → ⊥) → v ≡ unless-off (mark-of x) v
+unfolding mark-of
+unless-off-other x v h = rw (ne-eqb x 1 h) (go (eqb x 2))
+  where
+    go : (b : Bool) → v ≡ unless-off (cond b (fixed true) free) v
+    go true = refl
+    go false = refl

@@ -1,12 +1,13 @@
 -- What a leaf answers: that a unit is stuck, or a least value (document 01, Rules for a leaf: a least cost is taken only when no
 -- unit is stuck).
-use mathlib.Core.Bool.{cond}
+use mathlib.Core.Bool.{Bool, cond}
 use mathlib.Core.List.{List}
-use Prim.Native.Nat.{ℕ}
+use Prim.Native.Nat.{ℕ, _+_}
+use lib.Dec.{ltb}
 use Rattle.model.specs.declared.generator.Generator.{Generator}
-use Rattle.model.specs.Instance.{Instance}
+use Rattle.model.specs.Instance.{Instance, _at_}
 use Rattle.model.specs.Above.{Mark, Marks}
-use Rattle.model.specs.Leaf.{is-stuck, any-stuck, unit-least, units-least, leaf-value}
+use Rattle.model.specs.Leaf.{available, is-stuck, any-stuck, unit-least, units-least, leaf-value}
 use Rattle.least.specs.declared.unit.Least.{Least}
 use Rattle.least.specs.declared.unit.Least.the-variants.{Stuck, Value}
 
@@ -21,3 +22,7 @@ leasts-of n q s gs m = cond (any-stuck n gs m) Stuck (Value (units-least n q s g
 -- of a price leaf
 abbrev pub leaf-of : Instance → Marks → (ℕ → ℕ) → (ℕ → ℕ) → Least
 leaf-of P m q s = cond (any-stuck (P .periods) (P .units) m) Stuck (Value (leaf-value P m q s))
+
+-- whether `short` holds: the pU of the units not fixed off in period t sum to less than D + R
+abbrev pub short-at : Instance → Marks → ℕ → Bool
+short-at P m t = ltb (available (P .units) m t) (P .demand at t + P .spare at t)

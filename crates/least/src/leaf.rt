@@ -89,8 +89,8 @@ pub fn leaf_value(problem: Problem, q: &[u64], s: &[u64], fixed: &[u8]) -> Least
     match units_least(problem, q, s, fixed) {
         Least::Stuck => Least::Stuck,
         Least::Value(v) => {
-            let required = sum_requirement(problem, q, s);
-            Least::Value(add(v, required as i64))
+            let requirement = sum_requirement(problem, q, s);
+            Least::Value(add(v, requirement as i64))
         }
     }
 }

@@ -1,5 +1,7 @@
-// One unit's least value at given prices, and the value of a price leaf.
+// What a tree's leaves come to: one unit's least value at given prices, the value of a price leaf, stuck and short.
 pub mod leaf;
 pub mod output;
+pub mod short;
+pub mod stuck;
 pub mod table;
 pub mod unit;

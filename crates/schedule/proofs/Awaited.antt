@@ -1,7 +1,7 @@
 -- The line that is due: a line is refused by the first of 12, 14, 13 whose test holds of it, and good where none does.
 use Prim.Native.Nat.{ℕ}
 use native.Mathlib.Omega.{arith}
-use mathlib.Core.Path.{_≡_, refl, sym, subst, _∙_}
+use mathlib.Core.Path.{_≡_, refl, sym, ap, subst, _∙_}
 use mathlib.Core.Bool.{Bool, true, false}
 use mathlib.Core.Logic.{_↔_}
 use mathlib.Core.List.{List}
@@ -11,7 +11,7 @@ use Rattle.text.specs.Forms.{Form, malformed, wrongCount, outOfRange, pickNumbe
 use Rattle.text.specs.Forms as forms
 use Rattle.text.specs.Course.{Found, refused, good}
 use Rattle.text.proofs.Verdicts.{refused-none, good-is}
-use Rattle.schedule.specs.Awaited.{Awaited, numbered, word, no-line, breaks-12, breaks-14, breaks-13, refused-if, found, FirstTest, by-12, by-14, by-13}
+use Rattle.schedule.specs.Awaited.{Awaited, numbered, word, no-line, breaks-12, breaks-14, breaks-13, refused-if, found, FirstTest, by-12, by-14, by-13, NoTest}
 
 module _ {S : Type 0} (s : S) where
   -- ---- the number by the tests
@@ -35,6 +35,17 @@ module _ {S : Type 0} (s : S) where
       back k (by-12 p) = simp p
       back k (by-14 p q) = simp (p, q)
       back k (by-13 p q r) = simp (p, q, r)
+
+  -- a line is found good exactly where none of the tests holds
+  pub found-good-is : (a : Awaited) (l : Line) (t : S) → (found a l s ≡ good t) ↔ (NoTest a l × (s ≡ t))
+  unfolding found
+  found-good-is a l t = (go (breaks-12 a l) (breaks-14 a l) (breaks-13 a l) refl refl refl, λ h. simp (h .0 .not-12, h .0 .not-14, h .0 .not-13) (ap good (h .1)))
+    where
+      go : (m c r : Bool) → breaks-12 a l ≡ m → breaks-14 a l ≡ c → breaks-13 a l ≡ r → first m c r ≡ good t → NoTest a l × (s ≡ t)
+      go true c r p q u e = absurd (let z : _≡_ {A = ℕ} 0 1 = cc in omega arith)
+      go false true r p q u e = absurd (let z : _≡_ {A = ℕ} 0 1 = cc in omega arith)
+      go false false true p q u e = absurd (let z : _≡_ {A = ℕ} 0 1 = cc in omega arith)
+      go false false false p q u e = (record { not-12 = p; not-14 = q; not-13 = u }, cc)
 
   -- ---- a line of numbers, by its form
 

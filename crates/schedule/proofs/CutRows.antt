@@ -24,10 +24,10 @@ unfolding cut-rows
 cut-take zero n l = refl
 cut-take (suc k) n l = rw (more k n, take-take n (n + k * n) l (omega arith), drop-take n (k * n) l, cut-take k n (drop n l)) refl
 
-pub joined-cut : (k n : ℕ) (l : List ℕ) → joined (cut-rows k n l) ≡ take (k * n) l
+pub joined-front : (k n : ℕ) (l : List ℕ) → joined (cut-rows k n l) ≡ take (k * n) l
 unfolding cut-rows joined
-joined-cut zero n l = rw zero-mul refl
-joined-cut (suc k) n l = rw (more k n, take-add n (k * n) l, joined-cut k n (drop n l)) refl
+joined-front zero n l = rw zero-mul refl
+joined-front (suc k) n l = rw (more k n, take-add n (k * n) l, joined-front k n (drop n l)) refl
 
 -- one row more
 pub cut-last : (k n : ℕ) (l : List ℕ) → cut-rows (suc k) n l ≡ cut-rows k n l ++ (row n l k ∷ [])
@@ -38,8 +38,8 @@ cut-last (suc k) n l =
     ap (λ (s : Schedule). take n l ∷ s) (cut-last k n (drop n l) ∙ ap (λ (r : List ℕ). cut-rows k n (drop n l) ++ (take n r ∷ [])) e)
 
 -- rows that are joined, with anything after them, are cut out again
-pub cut-joined-front : (n : ℕ) (s : Schedule) (z : List ℕ) → All (λ r. length r ≡ n) s → cut-rows (length s) n (joined s ++ z) ≡ s
+pub cut-front : (n : ℕ) (s : Schedule) (z : List ℕ) → All (λ r. length r ≡ n) s → cut-rows (length s) n (joined s ++ z) ≡ s
 unfolding cut-rows joined
-cut-joined-front n [] z h = refl
-cut-joined-front n (r ∷ s) z h =
-    rw (append-assoc r (joined s) z, take-at r (joined s ++ z) n (h .0), drop-at r (joined s ++ z) n (h .0), cut-joined-front n s z (h .1))
+cut-front n [] z h = refl
+cut-front n (r ∷ s) z h =
+    rw (append-assoc r (joined s) z, take-at r (joined s ++ z) n (h .0), drop-at r (joined s ++ z) n (h .0), cut-front n s z (h .1))

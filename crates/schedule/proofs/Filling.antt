@@ -13,7 +13,7 @@ use Rattle.model.proofs.Held.{length-pad}
 use Rattle.judge.specs.Rows.{cut-rows, joined}
 use Rattle.judge.proofs.Rows.{row, all-at, all-append}
 use Rattle.schedule.specs.Storing.{Filled}
-use Rattle.schedule.proofs.CutRows.{cut-take, joined-cut, cut-last, cut-joined-front}
+use Rattle.schedule.proofs.CutRows.{cut-take, joined-front, cut-last, cut-front}
 
 pub drop-replicate : {A : Type 0} (z : A) (n i : ℕ) → drop i (replicate n z) ≡ replicate (n - i) z
 drop-replicate z n zero = rw sub-zero
@@ -90,9 +90,9 @@ filled-length k T l f h = ap length (f .zeros-after) ∙ length-pad 0 1536 (take
 
 -- it is the rows, joined, and zeros
 pub filled-joined : (k T : ℕ) (l : List ℕ) → Filled k T l → pad 0 1536 (joined (cut-rows k T l)) ≡ l
-filled-joined k T l f = ap (pad 0 1536) (joined-cut k T l) ∙ sym (f .zeros-after)
+filled-joined k T l f = ap (pad 0 1536) (joined-front k T l) ∙ sym (f .zeros-after)
 
 -- the array of an accepted schedule gives its rows back
 pub rows-held : (P : Instance) (s : Schedule) → Shaped P s → cut-rows (length (P .units)) (P .periods) (pad 0 1536 (joined s)) ≡ s
 unfolding pad
-rows-held P s h = rw (← h .0) (cut-joined-front (P .periods) s (replicate (1536 - length (joined s)) 0) (h .1))
+rows-held P s h = rw (← h .0) (cut-front (P .periods) s (replicate (1536 - length (joined s)) 0) (h .1))

@@ -16,5 +16,4 @@ pub mod Wholes
 pub mod LinesRefused
 pub mod Outcomes
 pub mod ReadAnswers
-pub mod Costs
 pub mod Specimens

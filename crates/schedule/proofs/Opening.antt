@@ -2,17 +2,16 @@
 use Prim.Native.Nat.{ℕ}
 use native.Mathlib.Omega.{arith}
 use mathlib.Core.Path.{_≡_, refl, sym, ap, _∙_}
-use mathlib.Core.Bool.{Bool, true, false}
 use mathlib.Core.List.{List, []}
 use lib.ListN.{length, getD}
 use lib.Seq.{getD-take}
 use Rattle.model.specs.declared.problem.Problem.{Problem}
 use Rattle.model.specs.Instance.{Instance}
 use Rattle.model.specs.Held.{view, Valid}
-use Rattle.text.specs.Lines.{Line, lineAt, isLine, kindOf, pickKind, kindProblem, kindSchedule, kindTree}
-use Rattle.text.specs.declared.Kind.the-variants as kind
+use Rattle.text.specs.Lines.{lineAt, kindSchedule}
 use Rattle.text.specs.declared.Row.{Row}
-use Rattle.text.proofs.Verdicts.{word-next}
+use Rattle.text.proofs.Cuts.{next-lines}
+use Rattle.text.proofs.FirstLine.{schedule-is}
 use Rattle.schedule.specs.Rendering.{writer-key}
 use Rattle.schedule.specs.Awaited.{numbers-of}
 use Rattle.schedule.specs.Course.{written, writer-due, runs-due, writer-form, schedule-judged}
@@ -22,25 +21,10 @@ use Rattle.schedule.proofs.Steps.{row-passed, row-stopped}
 use Rattle.schedule.proofs.RowsRead.{RowGood, RowRefused}
 use Rattle.schedule.proofs.Runs.{units-viewed}
 
--- ---- the first line
-
--- the first line is kind=schedule exactly where the text is cut so
-pub kind-is : (l : Line) → kindOf l ≡ kind.Schedule → isLine kindSchedule l ≡ true
-unfolding kindOf
-kind-is l = go (isLine kindProblem l) (isLine kindSchedule l) (isLine kindTree l)
-  where
-    go : (p s t : Bool) → pickKind p kind.Problem (pickKind s kind.Schedule (pickKind t kind.Tree kind.Unknown)) ≡ kind.Schedule → s ≡ true
-    go true s t e = absurd (let z : _≡_ {A = ℕ} 0 1 = cc in omega arith)
-    go false true t e = refl
-    go false false true e = absurd (let z : _≡_ {A = ℕ} 0 1 = cc in omega arith)
-    go false false false e = absurd (let z : _≡_ {A = ℕ} 0 1 = cc in omega arith)
-
--- ---- from the first line on
-
 module _ (P : Instance) (text : List ℕ) (is : IsSchedule text) where
   opened : schedule-read P text ≡ read-from P text 14 2 writer-due
   unfolding schedule-read schedule-outcome schedule-judged read-from
-  opened = rw (word-next kindSchedule text 0 (kind-is (lineAt text 0) is)) refl
+  opened = rw (next-lines text kindSchedule 0 (schedule-is (lineAt text 0) .0 is)) refl
 
   pub opening-stopped : {number : ℕ} → RowRefused writer-key 1 1 65535 (lineAt text 14) 14 number → schedule-read P text ≡ refused-read number 2
   opening-stopped g =

@@ -7,16 +7,15 @@ use mathlib.Core.Logic.{_↔_}
 use mathlib.Core.List.{List, [], _∷_, map}
 use Rattle.model.specs.Instance.{Instance, Schedule}
 use Rattle.model.specs.Ranges.{All, GoodWriter, GoodRows, WellFormed}
-use Rattle.text.specs.Lines.{Line, ended, due, later, linesOf, lineAt, oneLine, kindOf, kindSchedule}
+use Rattle.text.specs.Lines.{Line, ended, due, later, linesOf, lineAt, oneLine, kindSchedule}
 use Rattle.text.specs.Course.{accepted}
-use Rattle.text.proofs.Words.{word-is, kind-schedule}
+use Rattle.text.proofs.FirstLine.{schedule-is}
 use Rattle.text.proofs.Bytes.{one-line}
 use Rattle.text.proofs.Courses as courses
 use Rattle.schedule.specs.Rendering.{writer-key, run-key, lines-of-rows, lines-after, render}
 use Rattle.schedule.specs.Course.{Written, written, writer-due, judge, end, schedule-judged}
 use Rattle.schedule.specs.Reading.{IsSchedule}
 use Rattle.schedule.proofs.Texts.{lines-text, text-lines}
-use Rattle.schedule.proofs.Opening.{kind-is}
 use Rattle.schedule.proofs.Rendered.{lines-good-is}
 
 -- ---- the lines of a rendering
@@ -31,7 +30,7 @@ lines-rendered w s = lines-text (kindSchedule ∷ lines-after w s) (refl, (one-l
 
 -- its first line says the kind
 pub render-is-schedule : (w : ℕ) (s : Schedule) → IsSchedule (render w s)
-render-is-schedule w s = ap (λ (ls : List Line). kindOf (due ls)) (lines-rendered w s) ∙ sym (kind-schedule (ended kindSchedule) refl refl)
+render-is-schedule w s = schedule-is (lineAt (render w s) 0) .1 (ap due (lines-rendered w s))
 
 -- a text with these lines after its first is the rendering
 after-first : (ls : List Line) (b : List ℕ) → due ls ≡ ended b → ls ≡ ended b ∷ later ls
@@ -47,7 +46,7 @@ rendered-is text is w s = (
 )
   where
     first-line : lineAt text 0 ≡ ended kindSchedule
-    first-line = word-is kindSchedule (lineAt text 0) (kind-is (lineAt text 0) is)
+    first-line = schedule-is (lineAt text 0) .0 is
 
 -- ---- accepted line by line
 

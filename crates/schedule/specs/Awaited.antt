@@ -52,3 +52,9 @@ pub data FirstTest (a : Awaited) (l : Line) : ℕ → Type 0 where
   by-12 : breaks-12 a l ≡ true → FirstTest a l 12
   by-14 : breaks-12 a l ≡ false → breaks-14 a l ≡ true → FirstTest a l 14
   by-13 : breaks-12 a l ≡ false → breaks-14 a l ≡ false → breaks-13 a l ≡ true → FirstTest a l 13
+
+-- none of the three holds of it
+pub record NoTest (a : Awaited) (l : Line) : Type 0 where
+  pub not-12 : breaks-12 a l ≡ false
+  pub not-14 : breaks-14 a l ≡ false
+  pub not-13 : breaks-13 a l ≡ false

@@ -6,8 +6,9 @@ use lib.ListN.{length}
 use borrow.Author.Needs.{needs}
 use Rattle.model.specs.Held.{view}
 use Rattle.text.specs.Lines.{lineAt}
+use Rattle.text.specs.Forms.{rowOf}
 use Rattle.schedule.specs.Rendering.{run-key}
-use Rattle.schedule.specs.Course.{written, runs-due}
+use Rattle.schedule.specs.Course.{written, runs-due, run-form}
 use Rattle.schedule.specs.Storing.{read-from}
 use Rattle.schedule.proofs.RowsRead.{RowGood, row-good, row-refused}
 use Rattle.schedule.proofs.Runs.{rows-fit, Reading, reading-none, reading-done, reading-filled, reading-stopped, reading-more}
@@ -31,6 +32,13 @@ read-row-requires : tie.Need-read-row-requires Inv-loop μ-loop
 unfolding view
 read-row-requires c κs = (refl, (c .before .before .before .before .pre .well-formed .periods-in .1, omega arith))
 
+-- the row is that of a run line
+run-row : (c : tie.After-read-row Inv-loop μ-loop) →
+    let a = c .before .before .before .before .before .args in
+    let i = c .before .before .before .loop .i in
+    c .read-row .result ≡ rowOf (run-form (a .problem .periods)) (lineAt (a .text .now) i) i
+run-row c = c .read-row .ensures
+
 enum-known-verdict : tie.Need-enum-known-verdict Inv-loop μ-loop
 enum-known-verdict c = search needs
 
@@ -47,7 +55,7 @@ unfolding view
 returns c =
     c .refuse-text .ensures
     ∙ sym (reading-stopped (c .before .before .before .before .before .before .before .loop .inv) refl (c .before .before .before .before .before .before .loop-test .taken)
-    (row-refused (c .before .before .before .before .read-row .ensures) (c .before .before .verdict .given .1)))
+    (row-refused (run-row (c .before .before .before .before)) (c .before .before .verdict .given .1)))
 
 enum-known-verdict-2 : tie.Need-enum-known-verdict-2 Inv-loop μ-loop
 enum-known-verdict-2 c = search needs
@@ -57,7 +65,7 @@ good-row : (c : tie.After-values Inv-loop μ-loop) →
     let a = c .before .before .before .before .before .before .before .before .before .args in
     let i = c .before .before .before .before .before .before .before .loop .i in
     RowGood run-key (a .problem .periods) 0 10000 (lineAt (a .text .now) i) i (c .before .before .before .before .read-row .result) (c .before .before .verdict2 .given .0 .0)
-good-row c = row-good (c .before .before .before .before .read-row .ensures) (c .before .before .verdict2 .given .1)
+good-row c = row-good (run-row (c .before .before .before .before)) (c .before .before .verdict2 .given .1)
 
 -- there is room for it
 room : (c : tie.After-values Inv-loop μ-loop) →

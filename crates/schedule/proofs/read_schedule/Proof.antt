@@ -2,6 +2,9 @@ use mathlib.Core.Path.{_≡_, sym, ap, _∙_}
 use lib.ListN.{length, length-map}
 use borrow.Author.Needs.{needs}
 use Rattle.model.specs.Held.{view}
+use Rattle.text.specs.Lines.{lineAt}
+use Rattle.text.specs.Forms.{rowOf}
+use Rattle.schedule.specs.Course.{writer-form}
 use Rattle.schedule.proofs.RowsRead.{row-good, row-refused}
 use Rattle.schedule.proofs.Opening.{opening-stopped, opening-passed}
 use Rattle.schedule.proofs.read_schedule.Statement.{statement}
@@ -16,6 +19,12 @@ slice-aggregate-read-row c = search needs
 
 read-row-requires : tie.Need-read-row-requires
 read-row-requires c κs = search needs
+
+-- the row is that of a writer line
+writer-row : (c : tie.After-read-row) →
+    let s = c .before .before .before in
+    c .read-row .result ≡ rowOf writer-form (lineAt (s .args .text .now) 14) 14
+writer-row c = c .read-row .ensures
 
 enum-known-verdict : tie.Need-enum-known-verdict
 enum-known-verdict c = search needs
@@ -37,14 +46,14 @@ returns c =
     let s = c .before .before .before .before .before .before .before in
     c .refuse-text .ensures
     ∙ sym (opening-stopped (view (s .args .problem)) (s .args .text .now) (s .pre .1)
-    (row-refused (c .before .before .before .before .read-row .ensures) (c .before .before .verdict .given .1)))
+    (row-refused (writer-row (c .before .before .before .before)) (c .before .before .verdict .given .1)))
 
 returns-2 : tie.Need-returns-2
 returns-2 c =
     let s = c .before .before .before .before .before .before .before .before in
     c .read-from-runs .ensures
     ∙ sym (opening-passed (s .args .problem) (s .pre .0) (many s) (s .args .text .now) (s .pre .1)
-    (row-good (c .before .before .before .before .before .read-row .ensures) (c .before .before .before .verdict2 .given .1)))
+    (row-good (writer-row (c .before .before .before .before .before)) (c .before .before .before .verdict2 .given .1)))
 
 pub read-schedule-spec : {M : Type 1} → statement M
 read-schedule-spec =

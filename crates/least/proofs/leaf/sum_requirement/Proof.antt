@@ -59,7 +59,7 @@ required-requires c κs =
     let t = loop .loop .t in
     let more = c .before .before .loop-test .taken in (
       (price-in (a .problem .periods) (a .q .now) (a .s .now) (s .pre .1) t, reserve-in (a .problem .periods) (a .q .now) (a .s .now) (s .pre .1) t),
-      (demand-in (a .problem) (s .pre .0) (a .q .now) (a .s .now) (s .pre .1) t more, spare-in (a .problem) (s .pre .0) (a .q .now) (a .s .now) (s .pre .1) t more),
+      (demand-in (a .problem) (s .pre .0) t more, spare-in (a .problem) (s .pre .0) t more),
     )
 
 add-sum : tie.Need-add-sum Inv-loop μ-loop

@@ -23,8 +23,9 @@ use Rattle.least.proofs.leaf.units_least.Tie as tie
 
 abbrev Inv-loop : tie.InvT-loop
 Inv-loop q s fixed n units generators total₀ begin₀ u₀ total begin u =
-    (u ≤ units) × (begin ≡ u * n) × (any-stuck n (take u generators) (all-marks n fixed) ≡ false)
+    (any-stuck n (take u generators) (all-marks n fixed) ≡ false)
     × (toZ w64 total ≡ units-least n (λ t. q at t) (λ t. s at t) (take u generators) (all-marks n fixed))
+    × (u ≤ units) × (begin ≡ u * n)
 
 abbrev μ-loop : tie.MeasureT-loop
 μ-loop q s fixed n units generators total₀ begin₀ u₀ total begin u = units - u
@@ -77,11 +78,11 @@ answer c =
     c .unit-least .ensures
     ∙ part-answer n (loop .loop .u) (a .fixed .now) (λ t. a .q .now at t) (λ t. a .s .now at t) (getD (a .problem .generators) (loop .loop .u) blank-generator)
     (next-good (c .before .before .before))
-    (length (a .q .now)) (loop .loop .begin) (loop .loop .begin + n - loop .loop .begin) (s .pre .1 .0 .q-long) (loop .loop .inv .1) (omega arith)
+    (length (a .q .now)) (loop .loop .begin) (loop .loop .begin + n - loop .loop .begin) (s .pre .1 .0 .q-long) (loop .loop .inv .3) (omega arith)
 
 loop-holds : tie.Need-loop-holds Inv-loop μ-loop
 unfolding units-least
-loop-holds c = (omega arith, omega arith, refl, refl)
+loop-holds c = (refl, refl, omega arith, omega arith)
 
 mul-g : tie.Need-mul-g Inv-loop μ-loop
 mul-g c =
@@ -145,8 +146,8 @@ add-requires c κs =
     let m = all-marks n (a .fixed .now) in
     let v = c .before .v .given .0 .0 in
     let same : toZ w64 (ofZ w64 v) ≡ v = search needs in
-    let few : loop .loop .u ≤ 32 = omega (arith, in-array s, loop .loop .inv .0) in (
-      rw (loop .loop .inv .3) (front-small n (a .q .now) (a .s .now) (s .pre .1 .0) (loop .loop .u) (a .problem .units) (a .problem .generators) (good-units s) (loop .loop .inv .0) few m),
+    let few : loop .loop .u ≤ 32 = omega (arith, in-array s, loop .loop .inv .2) in (
+      rw (loop .loop .inv .1) (front-small n (a .q .now) (a .s .now) (s .pre .1 .0) (loop .loop .u) (a .problem .units) (a .problem .generators) (good-units s) (loop .loop .inv .2) few m),
       rw same (
           value-small n (a .q .now) (a .s .now) (s .pre .1 .0) (getD (a .problem .generators) (loop .loop .u) blank-generator) (next-good (call .before .before .before)) (m (loop .loop .u)) v
           (told (c .before) ∙ answer call)
@@ -171,8 +172,8 @@ loop-again c =
     let sum : toZ w64 (ofZ w64 (c .add .result)) ≡ c .add .result = search needs in
     let more : loop .loop .u < a .problem .units = call .before .before .before .loop-test .taken in
     let f = value-found n (λ t. a .q .now at t) (λ t. a .s .now at t) (loop .loop .u) (a .problem .generators) blank-generator (all-marks n (a .fixed .now))
-    (next-inside (call .before .before .before)) v (told (c .before .before) ∙ answer call) (loop .loop .inv .2) in
-    (omega arith, omega (arith, loop .loop .inv .1), f .0, sum ∙ c .add .ensures ∙ ap₂ _+ℤ_ (loop .loop .inv .3) same ∙ f .1)
+    (next-inside (call .before .before .before)) v (told (c .before .before) ∙ answer call) (loop .loop .inv .0) in
+    (f .0, sum ∙ c .add .ensures ∙ ap₂ _+ℤ_ (loop .loop .inv .1) same ∙ f .1, omega arith, omega (arith, loop .loop .inv .3))
 
 returns-2 : tie.Need-returns-2 Inv-loop μ-loop
 unfolding view
@@ -180,9 +181,9 @@ returns-2 c =
     let loop = c .before in
     let s = loop .before .before .before .before .before in
     let a = s .args in
-    let e : loop .loop .u ≡ a .problem .units = omega (arith, loop .loop .inv .0, c .loop-test .left) in
+    let e : loop .loop .u ≡ a .problem .units = omega (arith, loop .loop .inv .2, c .loop-test .left) in
     none-found (a .problem .periods) (λ t. a .q .now at t) (λ t. a .s .now at t) (loop .loop .u) (a .problem .units) (a .problem .generators) (all-marks (a .problem .periods) (a .fixed .now))
-    (toZ w64 (loop .loop .total)) e (loop .loop .inv .2) (loop .loop .inv .3)
+    (toZ w64 (loop .loop .total)) e (loop .loop .inv .0) (loop .loop .inv .1)
 
 pub units-least-spec : {M : Type 1} → statement M
 units-least-spec =

@@ -1,0 +1,48 @@
+-- A unit is stuck just where its walk over periods that cost nothing finds nothing; and one unit of a problem's array.
+use mathlib.Core.Path.{_≡_, refl, sym, _∙_}
+use mathlib.Core.List.{List, [], _∷_}
+use Prim.Native.Nat.{ℕ, zero, suc, _*_, _<_}
+use native.Mathlib.Omega.{arith}
+use lib.Dec.{eqb}
+use lib.ListN.{length, getD, take, drop, replicate}
+use Rattle.model.specs.declared.generator.Generator.{Generator}
+use Rattle.model.specs.Ranges.{Between}
+use Rattle.model.specs.Above.{Mark, Marks, rest}
+use Rattle.model.specs.Leaf.{is-stuck, stuck-at}
+use Rattle.model.specs.Walk.{walk}
+use Rattle.model.proofs.Stuck.{is-stuck-is}
+use Rattle.model.proofs.Extents.{is-stuck-ext}
+use Rattle.least.specs.Marks.{marks-of, all-marks}
+use Rattle.least.specs.Limits.{GoodCosts}
+use Rattle.least.specs.Steps.{costs-of}
+use Rattle.least.proofs.Fronts.{front-length, front-at}
+use Rattle.least.proofs.Costs.{all-of}
+use Rattle.least.proofs.Units.{part-marks}
+
+-- the front of an array of zeros
+abbrev free : ℕ → List ℕ
+free n = take n (replicate 48 0)
+
+pub free-good : (n : ℕ) → Between 1 n 48 → GoodCosts (length (free n)) (free n) (free n)
+free-good n h =
+    let long : length (free n) ≡ n = front-length 0 n 48 (h .1) in
+    let good = all-of 1_000_000_000_000_000 (free n) (λ t l. omega (arith, front-at 0 n 48 (h .1) t (omega arith))) in
+    record { periods-in = omega arith; on-long = refl; off-long = refl; on-in = good; off-in = good }
+
+pub free-walk : (n : ℕ) → Between 1 n 48 → (g : Generator) (m : ℕ → Mark)
+    → eqb (walk (length (free n)) g m (costs-of (free n) (free n)) (g .on) (g .since)) 0 ≡ is-stuck n g m
+free-walk n h g m = rw (front-length 0 n 48 (h .1)) (sym (is-stuck-is n g m (costs-of (free n) (free n))))
+
+-- the unit u of an array's first k
+stuck-at-is : (n u k : ℕ) (l : List Generator) (d : Generator) (m : Marks) → u < k → u < length l → is-stuck n (getD l u d) (m u) ≡ stuck-at n (take k l) m u
+stuck-at-is n u zero l d m h i = absurd (omega arith)
+stuck-at-is n u (suc k) [] d m h i = absurd (omega arith)
+stuck-at-is n zero (suc k) (g ∷ l) d m h i = refl
+stuck-at-is n (suc u) (suc k) (g ∷ l) d m h i = stuck-at-is n u k l d (rest m) (omega arith) (omega arith)
+
+pub part-stuck : (n u k : ℕ) (l : List Generator) (d : Generator) (fixed : List ℕ) → u < k → u < length l → (N long : ℕ) → N ≡ n → long ≡ n
+    → is-stuck N (getD l u d) (marks-of (take long (drop (u * n) fixed))) ≡ stuck-at n (take k l) (all-marks n fixed) u
+part-stuck n u k l d fixed h i N long e f =
+    rw (e, f)
+    (is-stuck-ext n (getD l u d) (marks-of (take n (drop (u * n) fixed))) (all-marks n fixed u) (part-marks n u fixed)
+    ∙ stuck-at-is n u k l d (all-marks n fixed) h i)
