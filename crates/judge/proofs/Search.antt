@@ -9,7 +9,7 @@ use native.Mathlib.Omega.{arith}
 use lib.ListN.{length, getD, take}
 use lib.Seq.{getD-take}
 use Rattle.model.specs.declared.generator.Generator.{Generator}
-use Rattle.model.specs.declared.problem.Problem.{Problem}
+use Rattle.model.specs.declared.arrays.Problem.{Problem}
 use Rattle.model.specs.Instance.{Schedule}
 use Rattle.model.specs.Held.{blank-generator}
 use Rattle.model.specs.Breach.{first-unit, first-place}

@@ -6,7 +6,7 @@ use Prim.Native.Nat.{ℕ, zero, suc, _*_}
 use native.Mathlib.Omega.{arith}
 use lib.ListN.{length, take, drop, length-append, length-drop, take-append-drop}
 use lib.Seq.{length-take-le, take-at, drop-at}
-use Rattle.model.specs.declared.problem.Problem.{Problem}
+use Rattle.model.specs.declared.arrays.Problem.{Problem}
 use Rattle.model.specs.Instance.{Schedule}
 use Rattle.model.specs.Held.{view, Valid}
 use Rattle.model.specs.Ranges.{All, GoodOutput, GoodRows}

@@ -9,7 +9,7 @@ use native.Mathlib.Omega.{arith}
 use borrow.Author.Tests.{le-leb, lt-leb}
 use lib.Dec.{leb}
 use lib.Seq.{getD-take}
-use Rattle.model.specs.declared.problem.Problem.{Problem}
+use Rattle.model.specs.declared.arrays.Problem.{Problem}
 use Rattle.model.specs.Instance.{_at_}
 use Rattle.model.specs.Held.{view}
 use Rattle.model.specs.Rules.{output, capacity}

@@ -8,7 +8,7 @@ use native.Mathlib.Omega.{arith}
 use lib.ListN.{length, getD, take}
 use lib.Seq.{getD-take}
 use Rattle.model.specs.declared.generator.Generator.{Generator}
-use Rattle.model.specs.declared.problem.Problem.{Problem}
+use Rattle.model.specs.declared.arrays.Problem.{Problem}
 use Rattle.model.specs.Instance.{Schedule, _at_, sum, sum-units}
 use Rattle.model.specs.Held.{view, blank-generator}
 use Rattle.model.specs.Rules.{on, if-on, output, capacity}

@@ -6,7 +6,7 @@ use native.Mathlib.Omega.{arith}
 use lib.ListN.{length, getD, take, drop}
 use lib.Seq.{length-take-le, getD-take, getD-drop}
 use Rattle.model.specs.declared.generator.Generator.{Generator}
-use Rattle.model.specs.declared.problem.Problem.{Problem}
+use Rattle.model.specs.declared.arrays.Problem.{Problem}
 use Rattle.model.specs.Instance.{_at_}
 use Rattle.model.specs.Held.{view, blank-generator}
 use Rattle.model.specs.Ranges.{All, InRange, GoodUnit, GoodOutput, GoodLoad}

@@ -3,7 +3,7 @@ use mathlib.Core.Path.{_≡_}
 use mathlib.Core.List.{List, [], _∷_, _++_}
 use Prim.Native.Nat.{ℕ, zero, suc, _*_}
 use lib.ListN.{length, take, drop}
-use Rattle.model.specs.declared.problem.Problem.{Problem}
+use Rattle.model.specs.declared.arrays.Problem.{Problem}
 use Rattle.model.specs.Instance.{Schedule}
 use Rattle.model.specs.Held.{Valid}
 use Rattle.model.specs.Ranges.{All, GoodOutput}

@@ -8,8 +8,8 @@ ghost use Rattle.model.specs.Rules.{spent};
 ghost use Rattle.model.specs.Cost.{fuel-cost, switch-cost, row-cost, cost};
 ghost use Rattle.judge.specs.Rows.{schedule-of, Fitting};
 use crate::updown;
+use model::arrays::Problem;
 use model::generator::Generator;
-use model::problem::Problem;
 
 // The cost of the output p in one period.
 fn charge_fuel(g: Generator, p: u64) -> u64

@@ -15,7 +15,7 @@ mod updown;
 
 use crate::place::Found;
 use crate::place::Place;
-use model::problem::Problem;
+use model::arrays::Problem;
 
 // A broken rule's number, 21 to 25, with the unit and the period of its first breach, which count from 1; unit 0 where the
 // rule is one of a whole period.

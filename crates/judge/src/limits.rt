@@ -8,8 +8,8 @@ ghost use Rattle.judge.specs.Judgement.{found};
 ghost use Rattle.judge.specs.Rows.{schedule-of, Fitting};
 use crate::place::Found;
 use crate::place::Place;
+use model::arrays::Problem;
 use model::generator::Generator;
-use model::problem::Problem;
 
 // Whether the row's output in period t is above 0 and not from pL to pU.
 fn is_off_limits(g: Generator, row: &[u16], t: usize) -> bool

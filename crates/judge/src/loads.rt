@@ -8,7 +8,7 @@ ghost use Rattle.judge.specs.Judgement.{found};
 ghost use Rattle.judge.specs.Rows.{schedule-of, Fitting};
 use crate::place::Found;
 use crate::place::Place;
-use model::problem::Problem;
+use model::arrays::Problem;
 
 // What the units give in period t.
 fn sum_outputs(problem: Problem, rows: &[u16], t: usize) -> u64

@@ -9,8 +9,8 @@ ghost use Rattle.judge.specs.Judgement.{found};
 ghost use Rattle.judge.specs.Rows.{schedule-of, Fitting};
 use crate::place::Found;
 use crate::place::Place;
+use model::arrays::Problem;
 use model::generator::Generator;
-use model::problem::Problem;
 
 // Whether the output, on in the period before t and in t, rises by more than UR or falls by more than DR.
 fn is_off_ramp(g: Generator, row: &[u16], t: usize) -> bool

@@ -13,8 +13,8 @@ ghost use Rattle.judge.specs.Rows.{schedule-of, Fitting};
 ghost use Rattle.judge.specs.Before.{status-before, spent-before};
 use crate::place::Found;
 use crate::place::Place;
+use model::arrays::Problem;
 use model::generator::Generator;
-use model::problem::Problem;
 
 // Whether the row's output in period t is above 0.
 pub fn is_on(row: &[u16], t: usize) -> bool

@@ -11,7 +11,7 @@ ghost use Rattle.tree.specs.Due.{IsTree};
 ghost use Rattle.judge_texts.specs.Desk.{Ready, PieceEnd};
 use libc::STDIN_FILENO;
 use libc::STDOUT_FILENO;
-use model::problem::Problem;
+use model::arrays::Problem;
 use problem::ProblemAnswer;
 use refusal::Refusal;
 use schedule::ScheduleAnswer;

@@ -7,7 +7,7 @@ use native.Mathlib.Omega.{arith}
 use lib.Dec.{ltb}
 use lib.ListN.{length, getD, take, length-take}
 use Rattle.model.specs.declared.generator.Generator.{Generator}
-use Rattle.model.specs.declared.problem.Problem.{Problem}
+use Rattle.model.specs.declared.arrays.Problem.{Problem}
 use Rattle.model.specs.Instance.{_at_}
 use Rattle.model.specs.Ranges.{All, GoodUnit}
 use Rattle.model.specs.Above.{Mark, free, fixed, Marks, rest}

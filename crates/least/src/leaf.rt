@@ -12,7 +12,7 @@ ghost use Rattle.least.specs.Answers.{leasts-of, leaf-of};
 ghost use Rattle.least.specs.Limits.{GoodPrices, Small};
 use crate::unit::Least;
 use crate::unit::unit_least;
-use model::problem::Problem;
+use model::arrays::Problem;
 
 // The sum of two values.
 fn add(x: i64, y: i64) -> i64

@@ -6,7 +6,7 @@ ghost use Rattle.model.specs.Held.{view, Valid};
 ghost use Rattle.model.specs.Leaf.{available, unless-off};
 ghost use Rattle.least.specs.Marks.{mark-of, all-marks};
 ghost use Rattle.least.specs.Answers.{short-at};
-use model::problem::Problem;
+use model::arrays::Problem;
 
 // pU, but 0 for a unit that is fixed off.
 fn available_of(mark: u8, high: u64) -> u64

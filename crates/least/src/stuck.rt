@@ -7,8 +7,8 @@ ghost use Rattle.model.specs.Held.{view, Valid};
 ghost use Rattle.model.specs.Leaf.{is-stuck, stuck-at};
 ghost use Rattle.least.specs.Marks.{marks-of, all-marks};
 use crate::table::walk_value;
+use model::arrays::Problem;
 use model::generator::Generator;
-use model::problem::Problem;
 
 // Whether no run of the unit obeys (5) to (10) and agrees with the fixed statuses.
 pub fn is_stuck(g: Generator, fixed: &[u8]) -> bool

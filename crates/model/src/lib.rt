@@ -1,4 +1,4 @@
 // A thermal unit commitment problem: its types, and the ranges of its numbers.
+pub mod arrays;
 pub mod generator;
-pub mod problem;
 pub mod ranges;

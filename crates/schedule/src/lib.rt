@@ -12,7 +12,7 @@ ghost use Rattle.schedule.specs.Storing.{read-from, Filled};
 mod rows;
 
 use judge::Judgement;
-use model::problem::Problem;
+use model::arrays::Problem;
 use model::ranges::Output;
 use model::ranges::Writer;
 use refusal::Refusal;

@@ -1,10 +1,10 @@
 -- The headline laws of a tree's text: accepted both ways, refused both ways, and sound. Each cites the file that does the work.
-use mathlib.Core.Path.{_≡_, refl, sym, ap, subst, _∙_}
+use mathlib.Core.Path.{_≡_, refl, sym, ap, _∙_}
 use mathlib.Core.Bool.{Bool, true}
-use mathlib.Core.List.{List, [], _∷_, _++_, map}
+use mathlib.Core.List.{List, [], _∷_, map}
 use mathlib.Core.Logic.{_↔_}
-use mathlib.Core.Option.{none, some}
-use Prim.Native.Nat.{ℕ, _+_, _≤_}
+use mathlib.Core.Option.{none}
+use Prim.Native.Nat.{ℕ}
 use native.Mathlib.Omega.{arith}
 use lib.IntN.{ℤ, pos}
 use lib.Signed.{_≤ℤ_}
@@ -20,16 +20,16 @@ use Rattle.text.specs.Forms.{malformed}
 use Rattle.text.specs.Course.{refused-at, accepted, Refuses, missing-line, wrong-line}
 use Rattle.text.proofs.Courses.{accepted-good, refused-is}
 use Rattle.text.proofs.FirstLine.{tree-is}
-use Rattle.tree.specs.Rendering.{numbers, writer-key, node-lines, tree-lines, render}
+use Rattle.tree.specs.Rendering.{numbers, writer-key, tree-lines, render}
 use Rattle.tree.specs.Tests.{Test, _if_, First}
 use Rattle.tree.specs.NodeLines.{kind-of}
-use Rattle.tree.specs.Due.{Figures, by-writer, pending, Pending, Due, writer-due, nodes-due, reserve-due, nothing-due, tests, next, judge, end, IsTree, judged}
+use Rattle.tree.specs.Due.{Figures, by-writer, pending, Due, writer-due, nodes-due, reserve-due, nothing-due, tests, next, judge, end, IsTree, judged}
 use Rattle.tree.specs.Answers.{figures-of, Accepted, Refused}
 use Rattle.tree.proofs.Tests.{refused-first, head-first, none-first}
-use Rattle.tree.proofs.Bounds.{add, add-is, figures-same}
-use Rattle.tree.proofs.Written.{map-both, lines-text, lines-there, later-there}
+use Rattle.tree.proofs.Bounds.{add-is, figures-same}
+use Rattle.tree.proofs.Written.{lines-text, lines-there, later-there}
 use Rattle.tree.proofs.Complete.{tree-accepted}
-use Rattle.tree.proofs.Correct.{Forest, Whole, Grown, forest-lines, with-forest, good-left}
+use Rattle.tree.proofs.Correct.{Whole, Grown, forest-lines, with-forest, good-left}
 
 -- ---- accepted
 

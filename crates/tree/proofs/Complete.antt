@@ -9,14 +9,14 @@ use Rattle.model.specs.Instance.{Instance, _at_}
 use Rattle.model.specs.Ranges.{GoodWriter}
 use Rattle.model.specs.Above.{Above, root, fix}
 use Rattle.model.specs.Tree.{Tree, split, short, stuck, price, Limits, Holds}
-use Rattle.text.specs.Lines.{Line, ended, linesOf, later, endTree}
-use Rattle.text.specs.Course.{accepted, good, Good, none-yet, one-more, judged-from}
+use Rattle.text.specs.Lines.{Line, ended, endTree}
+use Rattle.text.specs.Course.{accepted, good, Good, none-yet, one-more}
 use Rattle.text.proofs.Accepted.{Fits}
 use Rattle.text.proofs.Courses.{accepted-is}
 use Rattle.text.proofs.Plain.{Between, plain-fits}
 use Rattle.tree.specs.Rendering.{numbers, writer-key, node-lines, render}
 use Rattle.tree.specs.NodeLines.{writer-form, form-tests}
-use Rattle.tree.specs.Due.{Figures, by-writer, with-split, Pending, pending, Due, writer-due, nodes-due, reserve-due, nothing-due, tests, next, judge, end, judged}
+use Rattle.tree.specs.Due.{Figures, by-writer, with-split, Pending, pending, Due, writer-due, nodes-due, nothing-due, tests, next, judge, end, judged}
 use Rattle.tree.specs.Answers.{figures-of}
 use Rattle.tree.proofs.Tests.{none-good}
 use Rattle.tree.proofs.Bounds.{add, add-is, with-tree, figures-same}

@@ -26,7 +26,7 @@ use Rattle.tree.proofs.Tests.{good-none}
 use Rattle.tree.proofs.Bounds.{add}
 use Rattle.tree.proofs.Lines.{was-plain}
 use Rattle.tree.proofs.Written.{There}
-use Rattle.tree.proofs.NodeLines.{NodeWas, split-was, short-was, stuck-was, price-was, node-was, ReserveWas, reserve-was}
+use Rattle.tree.proofs.NodeLines.{NodeWas, split-was, short-was, stuck-was, price-was, node-was, reserve-was}
 
 -- ---- trees for the nodes still to be read
 

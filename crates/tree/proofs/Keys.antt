@@ -10,7 +10,7 @@ use borrow.Author.Tests.{not-true, ne-eqb}
 use Rattle.text.specs.Lines.{Line, missing, unended, ended, bytesOf, due, longer, cutAt, linesOf, lineAt, oneLine, begins}
 use Rattle.text.proofs.Cuts.{and-both}
 use Rattle.tree.specs.Rendering.{split-key, short-key, stuck-key}
-use Rattle.tree.specs.NodeLines.{Kind, split-line, short-line, stuck-line, price-line, kind-of}
+use Rattle.tree.specs.NodeLines.{split-line, short-line, stuck-line, price-line, kind-of}
 
 longer-bytes : (b : ℕ) (l : Line) → bytesOf (longer b l) ≡ b ∷ bytesOf l
 longer-bytes b missing = refl

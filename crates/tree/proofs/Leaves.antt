@@ -2,31 +2,31 @@
 use mathlib.Core.Path.{_≡_, refl, sym, ap, _∙_}
 use mathlib.Core.Bool.{Bool, true, false, not, cond}
 use mathlib.Core.List.{List, [], _∷_}
-use Prim.Native.Nat.{ℕ, suc, pred, _+_, _-_, _≤_, _<_}
+use Prim.Native.Nat.{ℕ}
 use native.Mathlib.Omega.{arith}
-use lib.Dec.{ltb}
 use lib.IntN.{ℤ}
 use lib.ListN.{length, take}
 use Rattle.model.specs.Instance.{Instance, _at_}
 use Rattle.model.specs.Ranges.{WellFormed}
-use Rattle.model.specs.Above.{Marks, Above}
+use Rattle.model.specs.Above.{Above}
 use Rattle.model.specs.Leaf.{stuck-at, any-stuck, leaf-value}
 use Rattle.model.specs.Tree.{never, number}
 use Rattle.model.proofs.Extents.{SameMarks, any-stuck-ext, leaf-value-ext}
 use Rattle.text.specs.Lines.{Line, lineAt}
-use Rattle.text.specs.Forms.{plain, rowOf}
-use Rattle.text.specs.Course.{Found, refused, good}
+use Rattle.text.specs.Forms.{rowOf}
+use Rattle.text.specs.Course.{refused, good}
 use Rattle.text.specs.declared.Row.{Row}
 use Rattle.text.specs.declared.Verdict.the-variants.{Refused, Good}
 use Rattle.least.specs.declared.unit.Least.the-variants.{Stuck, Value}
 use Rattle.least.specs.Marks.{all-marks}
 use Rattle.least.specs.Answers.{leaf-of}
-use Rattle.tree.specs.Rendering.{short-key, stuck-key, price-key, reserve-key}
+use Rattle.tree.specs.Rendering.{price-key, reserve-key}
 use Rattle.tree.specs.Tests.{Test, _if_, found}
-use Rattle.tree.specs.NodeLines.{Kind, short-line, stuck-line, price-line, kind-of, node-form, reserve-form, numbers-of, split-again, too-deep, not-short, not-stuck, form-tests, node-tests}
-use Rattle.tree.specs.Due.{Figures, with-leaf, Pending, pending, Due, nodes-due, reserve-due, tests, next, after-node, judge}
+use Rattle.tree.specs.NodeLines.{Kind, short-line, stuck-line, price-line, kind-of, node-form, reserve-form, numbers-of, named, Passes, split-again, too-deep, not-short, not-stuck, node-tests}
+use Rattle.tree.specs.Due.{Figures, with-leaf, Pending, pending, nodes-due, reserve-due, tests, next, after-node, judge}
 use Rattle.tree.specs.Coded.{marks-in, short-there}
-use Rattle.tree.proofs.Rows.{passes-found, row-refused, row-passes, OneValue, one-value, values-taken}
+use Rattle.tree.specs.Reading.{LineRefused}
+use Rattle.tree.proofs.Rows.{passes-found, row-refused, row-passes, values-taken}
 use Rattle.tree.proofs.Marked.{marks-same}
 use Rattle.tree.proofs.Steps.{AtNode, AtReserve}
 
@@ -44,61 +44,55 @@ module _ (P : Instance) (text : List ℕ) (here : ℕ) (A : Above) (d : ℕ) whe
   unfolding judge tests next
   judge-by k e F rest = ap (λ (x : Kind). found (node-tests P A d x (lineAt text here)) (after-node P F (pending A d) rest x (lineAt text here))) e
 
-  module _ (k : Kind) (e : kind-of (lineAt text here) ≡ k) (row : Row) (is : row ≡ rowOf (node-form P k) (lineAt text here) here) where
+  module _ (k : Kind) (e : kind-of (lineAt text here) ≡ k) where
     -- 12, 14 or 13
-    pub line-refused : (n : ℕ) → row .verdict ≡ Refused n → AtNode P text here A d (λ F rest. refused n)
-    line-refused n v F rest = judge-by k e F rest ∙ row-refused (node-form P k) text here row is n v (after-node P F (pending A d) rest k (lineAt text here)) (rules P A d k (lineAt text here))
+    pub line-refused : (n : ℕ) → LineRefused (node-form P k) (lineAt text here) n → AtNode P text here A d (λ F rest. refused n)
+    line-refused n h F rest = judge-by k e F rest ∙ h (after-node P F (pending A d) rest k (lineAt text here)) (rules P A d k (lineAt text here))
 
     -- none of these: the other tests are left
-    pub line-passed : (n : ℕ) → row .verdict ≡ Good n → (F : Figures) (rest : List Pending)
+    pub line-passed : Passes (node-form P k) (lineAt text here) → (F : Figures) (rest : List Pending)
         → judge P (nodes-due F (pending A d ∷ rest)) (lineAt text here)
-        ≡ found (rules P A d k (lineAt text here))
-        (after-node P F (pending A d) rest k (lineAt text here))
-    line-passed n v F rest =
+        ≡ found (rules P A d k (lineAt text here)) (after-node P F (pending A d) rest k (lineAt text here))
+    line-passed p F rest =
         judge-by k e F rest
-        ∙ passes-found (after-node P F (pending A d) rest k (lineAt text here))
-        (rules P A d k (lineAt text here))
-        (node-form P k) (lineAt text here) (row-passes (node-form P k) text here row is n v)
+        ∙ passes-found (after-node P F (pending A d) rest k (lineAt text here)) (rules P A d k (lineAt text here)) (node-form P k) (lineAt text here) p
 
-  module _ (e : kind-of (lineAt text here) ≡ short-line) (row : Row) (is : row ≡ rowOf (node-form P short-line) (lineAt text here) here) (n : ℕ)
-      (v : row .verdict ≡ Good n) where
-    short-by : (b : Bool) → b ≡ short-there P (A .marks) (row .values at 0 - 1) → not-short P A short-line (lineAt text here) ≡ not b
+  -- a leaf that names the period t
+  module _ (e : kind-of (lineAt text here) ≡ short-line) (p : Passes (node-form P short-line) (lineAt text here)) (t : ℕ)
+      (is : t ≡ named (node-form P short-line) (lineAt text here) 0) where
+    short-by : (b : Bool) → b ≡ short-there P (A .marks) t → not-short P A short-line (lineAt text here) ≡ not b
     unfolding not-short
-    short-by b s =
-        let w = one-value short-key (P .periods) text here row is n v in
-        ap not (sym (s ∙ ap (λ (t : ℕ). short-there P (A .marks) t) (w .is-named)))
+    short-by b s = ap not (sym (s ∙ ap (λ (x : ℕ). short-there P (A .marks) x) is))
 
-    pub short-holds : true ≡ short-there P (A .marks) (row .values at 0 - 1) → AtNode P text here A d (λ F rest. good (nodes-due (with-leaf F never) rest))
+    pub short-holds : true ≡ short-there P (A .marks) t → AtNode P text here A d (λ F rest. good (nodes-due (with-leaf F never) rest))
     unfolding split-again too-deep not-stuck after-node
-    short-holds s F rest = line-passed short-line e row is n v F rest ∙ rw (short-by true s) refl
+    short-holds s F rest = line-passed short-line e p F rest ∙ rw (short-by true s) refl
 
-    pub short-fails : false ≡ short-there P (A .marks) (row .values at 0 - 1) → AtNode P text here A d (λ F rest. refused 33)
+    pub short-fails : false ≡ short-there P (A .marks) t → AtNode P text here A d (λ F rest. refused 33)
     unfolding split-again too-deep not-stuck after-node
-    short-fails s F rest = line-passed short-line e row is n v F rest ∙ rw (short-by false s) refl
+    short-fails s F rest = line-passed short-line e p F rest ∙ rw (short-by false s) refl
 
-  module _ (e : kind-of (lineAt text here) ≡ stuck-line) (row : Row) (is : row ≡ rowOf (node-form P stuck-line) (lineAt text here) here) (n : ℕ)
-      (v : row .verdict ≡ Good n) where
-    stuck-by : (b : Bool) → b ≡ stuck-at (P .periods) (P .units) (A .marks) (row .values at 0 - 1) → not-stuck P A stuck-line (lineAt text here) ≡ not b
+  -- a leaf that names the unit U
+  module _ (e : kind-of (lineAt text here) ≡ stuck-line) (p : Passes (node-form P stuck-line) (lineAt text here)) (U : ℕ)
+      (is : U ≡ named (node-form P stuck-line) (lineAt text here) 0) where
+    stuck-by : (b : Bool) → b ≡ stuck-at (P .periods) (P .units) (A .marks) U → not-stuck P A stuck-line (lineAt text here) ≡ not b
     unfolding not-stuck
-    stuck-by b s =
-        let w = one-value stuck-key (length (P .units)) text here row is n v in
-        ap not (sym (s ∙ ap (λ (U : ℕ). stuck-at (P .periods) (P .units) (A .marks) U) (w .is-named)))
+    stuck-by b s = ap not (sym (s ∙ ap (λ (x : ℕ). stuck-at (P .periods) (P .units) (A .marks) x) is))
 
-    pub stuck-holds : true ≡ stuck-at (P .periods) (P .units) (A .marks) (row .values at 0 - 1)
-        → AtNode P text here A d (λ F rest. good (nodes-due (with-leaf F never) rest))
+    pub stuck-holds : true ≡ stuck-at (P .periods) (P .units) (A .marks) U → AtNode P text here A d (λ F rest. good (nodes-due (with-leaf F never) rest))
     unfolding split-again too-deep not-short after-node
-    stuck-holds s F rest = line-passed stuck-line e row is n v F rest ∙ rw (stuck-by true s) refl
+    stuck-holds s F rest = line-passed stuck-line e p F rest ∙ rw (stuck-by true s) refl
 
-    pub stuck-fails : false ≡ stuck-at (P .periods) (P .units) (A .marks) (row .values at 0 - 1) → AtNode P text here A d (λ F rest. refused 34)
+    pub stuck-fails : false ≡ stuck-at (P .periods) (P .units) (A .marks) U → AtNode P text here A d (λ F rest. refused 34)
     unfolding split-again too-deep not-short after-node
-    stuck-fails s F rest = line-passed stuck-line e row is n v F rest ∙ rw (stuck-by false s) refl
+    stuck-fails s F rest = line-passed stuck-line e p F rest ∙ rw (stuck-by false s) refl
 
   pub price-read : (e : kind-of (lineAt text here) ≡ price-line) (row : Row) (is : row ≡ rowOf (node-form P price-line) (lineAt text here) here) (n : ℕ)
       (v : row .verdict ≡ Good n)
       → AtNode P text here A d (λ F rest. good (reserve-due F A (take (P .periods) (row .values)) rest))
   unfolding split-again too-deep not-short not-stuck after-node
   price-read e row is n v F rest =
-      line-passed price-line e row is n v F rest
+      line-passed price-line e (row-passes (node-form P price-line) text here row is n v) F rest
       ∙ ap (λ (q : List ℕ). good (reserve-due F A q rest)) (sym (values-taken P price-key text here row is n v))
 
 -- ---- the reserve line of a price leaf

@@ -19,3 +19,5 @@ pub mod Short
 pub mod Problems
 pub mod StuckUnits
 pub mod Texts
+pub mod ReadAnswers
+pub mod WellFormedTrees

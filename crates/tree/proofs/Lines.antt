@@ -9,18 +9,13 @@ use Rattle.model.specs.Instance.{Instance}
 use Rattle.model.specs.Ranges.{All, GoodPrice}
 use Rattle.model.specs.Tree.{Multipliers}
 use Rattle.text.specs.Lines.{Line, ended}
-use Rattle.text.specs.Forms.{Form, plain, valuesOf, sizes, anyMinus, malformed, wrongCount, outOfRange, good}
-use Rattle.text.specs.Rendering.{rendered}
+use Rattle.text.specs.Forms.{Form, plain, valuesOf, sizes, anyMinus, good}
 use Rattle.text.proofs.Accepted.{Fits, renderedLine, values-rendered, rendered-good, good-rendered}
 use Rattle.text.proofs.Shown.{sizes-shown}
 use Rattle.text.proofs.Verdicts.{refused-none, good-is}
 use Rattle.text.proofs.Plain.{Between, plain-fits, plain-was}
 use Rattle.tree.specs.Rendering.{numbers}
-use Rattle.tree.specs.NodeLines.{numbers-of, named}
-
--- none of 12, 14, 13 holds
-abbrev pub Passes : Form → Line → Type 0
-Passes f l = (malformed f l ≡ false) × (wrongCount f l ≡ false) × (outOfRange f l ≡ false)
+use Rattle.tree.specs.NodeLines.{numbers-of, named, Passes}
 
 pub passes-good : (f : Form) (l : Line) → Passes f l → good f l ≡ true
 passes-good f l p = good-is f l .1 (refused-none f l .1 (p .0, (p .1, p .2)))

@@ -3,20 +3,19 @@
 use mathlib.Core.Path.{_≡_, refl, sym, ap, _∙_}
 use mathlib.Core.Bool.{Bool, true, false, cond, _&&_}
 use mathlib.Core.List.{List}
-use Prim.Native.Nat.{ℕ, zero, suc, _+_, _*_, _≤_, _<_}
+use Prim.Native.Nat.{ℕ, zero, suc, _+_, _*_, _<_}
 use native.Mathlib.Nat.{mul-le-mul-right}
 use native.Mathlib.Omega.{arith}
 use native.Mathlib.Decide.{decLt}
 use lib.Dec.{ltb, eqb}
-use lib.ListN.{length, getD, set, replicate}
+use lib.ListN.{length, set, replicate}
 use lib.Seq.{getD-set-same, getD-set-other}
 use borrow.Author.Tests.{eqb-true, eqb-false, lt-ltb, ltb-true}
 use Rattle.model.specs.Instance.{_at_}
-use Rattle.model.specs.Above.{Mark, free, fixed, Marks, root, mark, fix}
+use Rattle.model.specs.Above.{free, fixed, root, mark, fix}
 use Rattle.model.proofs.Extents.{SameMarks}
 use Rattle.least.specs.Marks.{mark-of, all-marks}
-use Rattle.tree.specs.declared.above.Above.{Above}
-use Rattle.tree.specs.Coded.{marks-in, above-of, none-fixed, with-status}
+use Rattle.tree.specs.Coded.{marks-in, above-of, none-fixed}
 
 -- ---- the root
 

@@ -1,11 +1,11 @@
 -- A node's line, written from a node within the limits, is good at its place, and a good line is so written: one law each way for
 -- each kind of node.
 use mathlib.Core.Path.{_≡_, refl, sym, ap, subst, _∙_}
-use mathlib.Core.Bool.{Bool, true, false, not, _&&_, cond}
+use mathlib.Core.Bool.{Bool, true, false, not, _&&_}
 use mathlib.Core.List.{List, [], _∷_}
 use Prim.Native.Nat.{ℕ, suc, pred, _+_, _≤_, _<_}
 use native.Mathlib.Omega.{arith}
-use lib.Dec.{T, leb, ltb}
+use lib.Dec.{T, leb}
 use lib.ListN.{length}
 use borrow.Author.Tests.{le-leb, leb-true, lt-ltb, ltb-true, le-ltb, ltb-false, not-false}
 use Rattle.model.specs.Instance.{Instance, _at_}
@@ -13,16 +13,16 @@ use Rattle.model.specs.Above.{Mark, free, fixed, Above, fix}
 use Rattle.model.specs.Leaf.{available, stuck-at, any-stuck, leaf-value}
 use Rattle.model.specs.Tree.{Multipliers, never, number}
 use Rattle.text.specs.Lines.{Line, ended}
-use Rattle.text.specs.Forms.{Form, plain, withinAll}
+use Rattle.text.specs.Forms.{withinAll}
 use Rattle.text.specs.Course.{good}
 use Rattle.text.proofs.Cuts.{and-both}
-use Rattle.text.proofs.Accepted.{Fits, renderedLine}
+use Rattle.text.proofs.Accepted.{Fits}
 use Rattle.tree.specs.Rendering.{numbers, split-key, short-key, stuck-key, price-key, reserve-key}
 use Rattle.tree.specs.Tests.{None}
-use Rattle.tree.specs.NodeLines.{Kind, split-line, short-line, stuck-line, price-line, kind-of, node-form, reserve-form, numbers-of, named, is-fixed, split-again, too-deep, not-short, not-stuck, node-tests, reserve-tests}
+use Rattle.tree.specs.NodeLines.{Passes, Kind, split-line, short-line, stuck-line, price-line, kind-of, node-form, reserve-form, numbers-of, named, is-fixed, split-again, too-deep, not-short, not-stuck, node-tests, reserve-tests}
 use Rattle.tree.specs.Due.{Figures, Pending, pending, with-split, with-leaf, Due, nodes-due, reserve-due, tests, next, after-node, judge}
 use Rattle.tree.proofs.Tests.{none-good, good-none}
-use Rattle.tree.proofs.Lines.{Passes, written-passes, written-numbers, was-written, multipliers-fit, was-plain, was-multipliers, one-fits, was-one}
+use Rattle.tree.proofs.Lines.{written-passes, written-numbers, was-written, multipliers-fit, was-plain, was-multipliers, one-fits, was-one}
 
 -- ---- tests and facts
 

@@ -1,14 +1,13 @@
 -- What the row of a line says: the number that refuses the line is the first of 12, 14, 13, and of a good line the row holds the
 -- numbers and the next line's start.
-use mathlib.Core.Path.{_≡_, refl, sym, ap, _∙_}
+use mathlib.Core.Path.{_≡_, refl, ap, _∙_}
 use mathlib.Core.Bool.{Bool, true, false}
-use mathlib.Core.List.{List, [], _∷_}
-use Prim.Native.Nat.{ℕ, suc, pred, _+_, _-_, _≤_, _<_}
+use mathlib.Core.List.{List, _∷_}
+use Prim.Native.Nat.{ℕ, suc, pred, _+_, _-_, _≤_}
 use native.Mathlib.Omega.{arith}
 use lib.Dec.{eqb}
 use lib.ListN.{length, drop, length-drop, length-append, take}
 use Rattle.model.specs.Instance.{Instance, _at_}
-use Rattle.model.specs.Ranges.{All, GoodPrice}
 use Rattle.model.specs.Tree.{Multipliers}
 use Rattle.text.specs.Lines.{Line, ended, bytesOf, later, linesOf, lineAt}
 use Rattle.text.specs.Forms.{Form, plain, malformed, wrongCount, outOfRange, pickNumber, refusedBy, good, after, rowOf, padded}
@@ -19,9 +18,9 @@ use Rattle.text.proofs.Cuts.{text-ended, later-fewer}
 use Rattle.text.proofs.Plain.{padded-at, padded-take}
 use Rattle.text.proofs.Verdicts.{verdict-refused, verdict-good, values-good, good-ended, good-next}
 use Rattle.tree.specs.Tests.{Test, _if_, found}
-use Rattle.tree.specs.NodeLines.{numbers-of, named, form-tests}
-use Rattle.tree.specs.Reading.{Moved, unread}
-use Rattle.tree.proofs.Lines.{Passes, good-passes, was-plain, was-one, was-multipliers}
+use Rattle.tree.specs.NodeLines.{Passes, numbers-of, named, form-tests}
+use Rattle.tree.specs.Reading.{LineRefused, Moved}
+use Rattle.tree.proofs.Lines.{good-passes, was-plain, was-multipliers}
 
 -- ---- refused
 
@@ -39,7 +38,7 @@ module _ {S : Type 0} (x : S) (ts : List Test) where
   passes-found f l p = rw (p .0, p .1, p .2) refl
 
 module _ (f : Form) (text : List ℕ) (here : ℕ) (row : Row) (is : row ≡ rowOf f (lineAt text here) here) where
-  pub row-refused : (n : ℕ) → row .verdict ≡ Refused n → {S : Type 0} (x : S) (ts : List Test) → found (form-tests f (lineAt text here) ts) x ≡ refused n
+  pub row-refused : (n : ℕ) → row .verdict ≡ Refused n → LineRefused f (lineAt text here) n
   unfolding refusedBy good
   row-refused n e x ts =
       let r = verdict-refused f (lineAt text here) here row is n e in

@@ -5,7 +5,7 @@ use mathlib.Core.List.{List, [], _∷_}
 use Prim.Native.Nat.{ℕ, zero, suc, _+_, _*_, _≤_, _<_}
 use native.Mathlib.Nat.{zero-add}
 use native.Mathlib.Omega.{arith}
-use lib.Dec.{eqb, ltb}
+use lib.Dec.{eqb}
 use lib.ListN.{length, getD, take, drop, drop-of-length-le}
 use lib.Seq.{drop-cons, getD-take, length-take-le}
 use borrow.Author.Tests.{lt-ltb, ne-eqb, eq-eqb}
@@ -13,9 +13,9 @@ use Rattle.model.specs.declared.generator.Generator.{Generator}
 use Rattle.model.specs.Instance.{_at_}
 use Rattle.model.specs.Ranges.{All, GoodUnit}
 use Rattle.model.specs.Held.{blank-generator}
-use Rattle.model.specs.Above.{Mark, free, fixed, Marks, rest}
+use Rattle.model.specs.Above.{Mark, free, fixed, Marks}
 use Rattle.model.specs.Leaf.{unless-off, available}
-use Rattle.least.specs.Marks.{mark-of, all-marks}
+use Rattle.least.specs.Marks.{mark-of}
 use Rattle.tree.specs.Coded.{marks-in}
 
 -- ---- one unit

@@ -7,26 +7,21 @@ use native.Mathlib.Nat.{mul-le-mul-right}
 use native.Mathlib.Omega.{arith}
 use lib.Dec.{ltb}
 use lib.ListN.{length}
-use borrow.Author.Tests.{lt-ltb, ltb-false}
 use Rattle.model.specs.Instance.{Instance, _at_}
 use Rattle.model.specs.Above.{Above, fix}
-use Rattle.text.specs.Lines.{Line, lineAt}
+use Rattle.text.specs.Lines.{lineAt}
 use Rattle.text.specs.Forms.{rowOf}
 use Rattle.text.specs.Course.{refused, good}
 use Rattle.text.specs.declared.Row.{Row}
 use Rattle.text.specs.declared.Verdict.the-variants.{Good}
 use Rattle.text.proofs.Plain.{padded-at}
-use Rattle.least.specs.Marks.{mark-of}
-use Rattle.tree.specs.Rendering.{split-key}
 use Rattle.tree.specs.Tests.{_if_, found}
 use Rattle.tree.specs.NodeLines.{split-line, kind-of, node-form, numbers-of, named, is-fixed, split-again, too-deep, not-short, not-stuck}
 use Rattle.tree.specs.Due.{Figures, with-split, Pending, pending, nodes-due, after-node, judge}
-use Rattle.tree.specs.Coded.{marks-in, split-refusal}
 use Rattle.tree.proofs.Rows.{row-passes, row-values}
-use Rattle.tree.proofs.Lines.{was-written}
 use Rattle.tree.proofs.NodeLines.{was-split}
 use Rattle.tree.proofs.Steps.{AtNode}
-use Rattle.tree.proofs.Leaves.{rules, line-passed}
+use Rattle.tree.proofs.Leaves.{line-passed}
 
 -- the place of a status lies within those of all units
 pub place-inside : (U I t T : ℕ) → U < I → t < T → I ≤ 32 → T ≤ 48 → U * T + t < 1536
@@ -86,7 +81,7 @@ module _ (P : Instance) (text : List ℕ) (here : ℕ) (A : Above) (d : ℕ) (e 
   unfolding too-deep not-short not-stuck
   by-two x y p q F rest =
       let s = after-node P F (pending A d) rest split-line (lineAt text here) in
-      line-passed P text here A d split-line e row is n v F rest
+      line-passed P text here A d split-line e (row-passes (node-form P split-line) text here row is n v) F rest
       ∙ ap (λ (z : Bool). found (31 if z ∷ 32 if ltb 63 d ∷ 33 if false ∷ 34 if false ∷ []) s) (again ∙ p)
       ∙ ap (λ (z : Bool). found (31 if x ∷ 32 if z ∷ 33 if false ∷ 34 if false ∷ []) s) q
 

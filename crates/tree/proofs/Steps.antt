@@ -1,24 +1,22 @@
 -- To read a node is to go through its lines: one law for each way through the code of the readers.
 use mathlib.Core.Path.{_≡_, refl, sym, ap, _∙_}
-use mathlib.Core.Bool.{Bool, true, false}
 use mathlib.Core.List.{List, [], _∷_}
 use mathlib.Core.Option.{none}
-use Prim.Native.Nat.{ℕ, suc, _+_, _≤_, _<_}
+use Prim.Native.Nat.{ℕ, suc, _+_, _≤_}
 use native.Mathlib.Numerals.{add-one}
 use native.Mathlib.Omega.{arith}
-use lib.ListN.{length, drop}
+use lib.ListN.{drop}
 use Rattle.model.specs.Instance.{Instance}
 use Rattle.model.specs.Above.{Above}
-use Rattle.model.specs.Tree.{lower}
 use Rattle.text.specs.Lines.{Line, missing, due, later, linesOf, lineAt}
-use Rattle.text.specs.Course.{Found, refused, good, Judged, refused-at, at-end, at-line, judged-from}
+use Rattle.text.specs.Course.{Found, refused, good, refused-at, at-end, at-line, judged-from}
 use Rattle.tree.specs.declared.figures.Bound.{Bound}
 use Rattle.tree.specs.declared.figures.Tally.{Tally}
 use Rattle.tree.specs.declared.leaf.Read.{Read}
 use Rattle.tree.specs.declared.leaf.Read.the-variants.{Refused, Tree}
 use Rattle.tree.specs.Due.{Figures, with-split, with-leaf, Pending, pending, Due, nodes-due, reserve-due, tests, next, judge, end}
 use Rattle.tree.specs.Coded.{bound-of, figures, one-split, LeafAdded}
-use Rattle.tree.specs.Reading.{from, read-on, NodeRead, TreesRead, ReserveRead, Placed, Past, Moved, unread}
+use Rattle.tree.specs.Reading.{from, NodeRead, LeafRead, TreesRead, ReserveRead, Placed, Past, Moved}
 use Rattle.tree.proofs.Tests.{refused-first}
 use Rattle.tree.proofs.Bounds.{figures-same}
 use Rattle.tree.proofs.Answers.{missing-first}
@@ -138,3 +136,14 @@ module _ (text : List ℕ) (at l : ℕ) (S : Tally) (p : Placed text at l S) (ne
 pub both-past : (text : List ℕ) (at next m : ℕ) (S : Tally) (r : Read) → Past text at (Tree next m S) → Past text next r → Past text at r
 both-past text at next m S (Refused n k) h j = tt
 both-past text at next m S (Tree k i T) h j = (j .0, let x = h .1 in let y = j .1 in omega arith)
+
+-- ---- a leaf, whatever its depth
+
+module _ (P : Instance) (text : List ℕ) (at l : ℕ) (S : Tally) (A : Above) where
+  pub leaf-done : (b : Bound) (next : ℕ) (S′ : Tally) → ((d : ℕ) → AtNode P text at A d (λ F rest. good (nodes-due (with-leaf F (bound-of b)) rest)))
+      → Moved text at next → LeafAdded S b S′ → Placed text at l S
+      → LeafRead P text at l S A (Tree next (l + 1) S′) × Past text at (Tree next (l + 1) S′)
+  leaf-done b next S′ j m a p = ((λ d. node-leaf P text at l S A d b next S′ (j d) m a), leaf-past text at l S p next m b S′ a)
+
+  pub leaf-refused : (n : ℕ) → ((d : ℕ) → AtNode P text at A d (λ F rest. refused n)) → LeafRead P text at l S A (Refused n l) × Past text at (Refused n l)
+  leaf-refused n j = ((λ d. node-refused P text at l S A d n (j d)), tt)

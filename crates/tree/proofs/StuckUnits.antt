@@ -10,7 +10,7 @@ use borrow.Author.Tests.{lt-ltb}
 use Rattle.model.specs.declared.generator.Generator.{Generator}
 use Rattle.model.specs.Instance.{_at_}
 use Rattle.model.specs.Held.{blank-generator}
-use Rattle.model.specs.Above.{Mark, free, Marks, rest}
+use Rattle.model.specs.Above.{free, Marks, rest}
 use Rattle.model.specs.Leaf.{is-stuck, stuck-at, unit-least}
 use Rattle.model.proofs.Extents.{Same, is-stuck-ext}
 use Rattle.least.specs.declared.unit.Least.{Least}

@@ -1,19 +1,18 @@
 -- A whole text: the writer line, the tree, the end line and nothing after it, each as the code finds it.
 use mathlib.Core.Path.{_≡_, refl, sym, ap, _∙_}
-use mathlib.Core.Bool.{Bool, true, false, not}
+use mathlib.Core.Bool.{Bool, true, false}
 use mathlib.Core.List.{List, [], _∷_}
 use Prim.Native.Nat.{ℕ, suc, _+_, _≤_, _<_}
-use native.Mathlib.Numerals.{add-one}
 use native.Mathlib.Omega.{arith}
 use lib.Dec.{eqb}
 use lib.ListN.{length, drop, length-drop, drop-of-length-le, length-append}
-use borrow.Author.Tests.{eq-eqb, ne-eqb, eqb-true, eqb-false}
+use borrow.Author.Tests.{eqb-true, eqb-false}
 use Rattle.model.specs.Instance.{Instance, _at_}
 use Rattle.model.specs.Above.{root}
 use Rattle.model.specs.Ranges.{All}
 use Rattle.text.specs.Lines.{Line, ended, due, later, linesOf, lineAt, isLine, kindTree, endTree}
 use Rattle.text.specs.Forms.{rowOf}
-use Rattle.text.specs.Course.{Found, refused, good, refused-at, accepted, judged-from, at-line}
+use Rattle.text.specs.Course.{refused-at, accepted, judged-from, at-line}
 use Rattle.text.specs.declared.Row.{Row}
 use Rattle.text.specs.declared.Verdict.the-variants.{Refused, Good}
 use Rattle.text.proofs.Cuts.{text-ended, next-lines, lines-none}
@@ -24,16 +23,15 @@ use Rattle.text.proofs.Verdicts.{word-next}
 use Rattle.refusal.specs.Refusals.{refusalOf}
 use Rattle.tree.specs.declared.figures.Bound.{Bound}
 use Rattle.tree.specs.declared.figures.Bound.the-variants.{Never, Number}
-use Rattle.tree.specs.declared.figures.Tally.{Tally}
 use Rattle.tree.specs.declared.leaf.Read as code
 use Rattle.tree.specs.declared.leaf.Read.the-variants as read
 use Rattle.tree.specs.declared.TreeRead.the-variants as answer
 use Rattle.tree.specs.Rendering.{writer-key}
 use Rattle.tree.specs.Tests.{_if_, found}
-use Rattle.tree.specs.NodeLines.{writer-form, numbers-of, form-tests}
-use Rattle.tree.specs.Due.{Figures, by-writer, pending, Due, writer-due, nodes-due, nothing-due, is-there, tests, next, judge, end, IsTree, judged}
+use Rattle.tree.specs.NodeLines.{writer-form, numbers-of}
+use Rattle.tree.specs.Due.{Figures, by-writer, pending, writer-due, nodes-due, nothing-due, tests, next, judge, end, IsTree, judged}
 use Rattle.tree.specs.Coded.{bound-of, figures, none-read}
-use Rattle.tree.specs.Reading.{coded, read-as, tree-read, from, read-on, NodeRead, Placed, Past, Came, Moved, pickRead, ended-as}
+use Rattle.tree.specs.Reading.{coded, read-as, from, read-on, Placed, Past, Came, Moved, pickRead, ended-as}
 use Rattle.tree.proofs.Lines.{was-plain}
 use Rattle.tree.proofs.Written.{There, lines-there}
 use Rattle.tree.proofs.Rows.{row-refused, row-passes, row-values, row-moved, passes-found}
@@ -75,7 +73,7 @@ module _ (P : Instance) (text : List ℕ) (row : Row) (is : row ≡ rowOf writer
 
 -- ---- the end line
 
-coded-is : (b : Bound) → coded (bound-of b) ≡ b
+pub coded-is : (b : Bound) → coded (bound-of b) ≡ b
 coded-is Never = refl
 coded-is (Number z) = refl
 

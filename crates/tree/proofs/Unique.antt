@@ -10,9 +10,9 @@ use borrow.Author.Tests.{le-leb}
 use Rattle.model.specs.Instance.{Instance}
 use Rattle.model.specs.Above.{Above, root, fix}
 use Rattle.model.specs.Tree.{Tree, split, short, stuck, price, Limits}
-use Rattle.text.specs.Lines.{Line, ended, bytesOf, linesOf, endTree}
+use Rattle.text.specs.Lines.{ended, bytesOf, linesOf, endTree}
 use Rattle.text.specs.Forms.{form, cutValues, sizes, withinAll}
-use Rattle.text.proofs.Accepted.{Fits, values-rendered}
+use Rattle.text.proofs.Accepted.{values-rendered}
 use Rattle.text.proofs.Shown.{sizes-shown}
 use Rattle.tree.specs.Rendering.{numbers, writer-key, split-key, short-key, stuck-key, price-key, reserve-key, node-lines, tree-lines, render}
 use Rattle.tree.specs.NodeLines.{Kind, split-line, short-line, stuck-line, price-line, kind-of}

@@ -11,15 +11,19 @@ use Rattle.model.specs.Instance.{Instance}
 use Rattle.model.specs.Above.{root, fix}
 use Rattle.model.specs.Cost.{row-cost}
 use Rattle.model.specs.Leaf.{available, rows-of, is-stuck, revenue, value, unit-least, units-least, requirement, leaf-value}
-use Rattle.model.specs.Tree.{Tree, split, short, price, Limits, Holds, number, bound, splits, leaves}
+use Rattle.model.specs.Tree.{Tree, split, short, price, Limits, Holds, Bound, number, bound, splits, leaves}
 use Rattle.text.specs.Lines.{Line, ended}
 use Rattle.text.specs.Course.{refused, good, accepted, refused-at, judged-from}
 use Rattle.text.specs.Forms.{malformed, wrongCount, outOfRange}
 use Rattle.tree.specs.Rendering.{numbers, split-key, node-lines, render}
 use Rattle.tree.specs.NodeLines.{kind-of, split-again, too-deep, not-short, not-stuck}
 use Rattle.tree.specs.Due.{Figures, by-writer, with-split, pending, nodes-due, tests, after-node, next, judge, judged}
-use Rattle.tree.specs.Answers.{figures-of}
+use Rattle.tree.specs.Reading.{coded, read-as, tree-read}
+use Rattle.tree.specs.declared.figures.Bound.the-variants.{Number}
+use Rattle.tree.specs.declared.TreeRead.the-variants.{Refused, Accepted}
 use Rattle.tree.proofs.Complete.{tree-accepted}
+use Rattle.tree.proofs.Answers.{refused-is-first}
+use Rattle.tree.proofs.ReadAnswers.{at-line, read-refused}
 
 -- ---- document 01's problem and tree
 
@@ -229,3 +233,16 @@ at-64 = refl
 again-at-64 : judge problem (nodes-due none-yet (pending (fix 0 0 true root) 64 ∷ [])) split-one ≡ refused 31
 unfolding judge tests next after-node kind-of malformed wrongCount outOfRange split-again too-deep not-short not-stuck digits digitsBy
 again-at-64 = refl
+
+-- ---- the marked specimens, as read_tree answers them
+
+pub specimen-tree : tree-read problem text ≡ Accepted 3 (Number (pos 1980)) 1 2
+unfolding tree-read read-as
+specimen-tree = ap read-as accepted-tree ∙ ap (λ (b : Bound). Accepted 3 (coded b) 1 2) bound-1980
+
+pub specimen-price : tree-read problem (render 3 lone-price) ≡ Accepted 3 (Number (pos 1940)) 0 1
+unfolding tree-read read-as
+specimen-price = ap read-as lone-price-accepted
+
+pub specimen-short : tree-read problem lone-short ≡ Refused (at-line 33 3)
+specimen-short = read-refused problem lone-short 33 3 .1 (refused-is-first problem lone-short 33 3 .0 lone-short-refused)

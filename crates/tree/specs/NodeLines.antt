@@ -1,7 +1,8 @@
 -- Document 01, Numbers that come from the text: the tests of one line of a tree by what stands above it.
+use mathlib.Core.Path.{_≡_}
 use mathlib.Core.Bool.{Bool, true, false, not, cond}
 use mathlib.Core.List.{List, [], _∷_}
-use Prim.Native.Nat.{ℕ, suc, _+_, pred}
+use Prim.Native.Nat.{ℕ, _+_, pred}
 use lib.Dec.{ltb}
 use lib.ListN.{length}
 use Rattle.model.specs.Instance.{Instance, _at_}
@@ -88,6 +89,10 @@ not-stuck P A price-line l = false
 -- 12, 14, 13, and then others
 abbrev pub form-tests : Form → Line → List Test → List Test
 form-tests f l ts = 12 if malformed f l ∷ 14 if wrongCount f l ∷ 13 if outOfRange f l ∷ ts
+
+-- none of 12, 14, 13 holds
+abbrev pub Passes : Form → Line → Type 0
+Passes f l = (malformed f l ≡ false) × (wrongCount f l ≡ false) × (outOfRange f l ≡ false)
 
 -- a node line
 abbrev pub node-tests : Instance → Above → ℕ → Kind → Line → List Test

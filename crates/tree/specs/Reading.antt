@@ -1,7 +1,7 @@
 -- What the readers of a tree ensure: to read a node is to go through the lines of Due as far as its last line.
 use mathlib.Core.Path.{_≡_}
-use mathlib.Core.Bool.{Bool, true, false, cond}
-use mathlib.Core.List.{List, [], _∷_}
+use mathlib.Core.Bool.{Bool, true, false}
+use mathlib.Core.List.{List, _∷_}
 use Prim.Native.Nat.{ℕ, suc, _+_, _≤_, _<_}
 use lib.Dec.{eqb}
 use lib.ListN.{length, drop}
@@ -9,17 +9,22 @@ use Rattle.model.specs.Instance.{Instance}
 use Rattle.model.specs.Above.{Above, fix}
 use Rattle.model.specs.Tree.{Bound, never, number}
 use Rattle.text.specs.Lines.{Line, later, linesOf, lineAt, isLine, endTree}
-use Rattle.text.specs.Course.{Found, refused, good, Judged, refused-at, accepted, judged-from}
+use Rattle.text.specs.Forms.{Form, plain}
+use Rattle.text.specs.Course.{refused, good, Judged, refused-at, accepted, judged-from}
 use Rattle.refusal.specs.Refusals.{refusalOf}
 use Rattle.tree.specs.declared.figures.Tally.{Tally}
 use Rattle.tree.specs.declared.figures.Bound as code
 use Rattle.tree.specs.declared.figures.Bound.the-variants.{Never, Number}
 use Rattle.tree.specs.declared.leaf.Read.{Read}
 use Rattle.tree.specs.declared.leaf.Read.the-variants.{Refused, Tree}
+use Rattle.tree.specs.declared.naming.NamedLine.{NamedLine}
+use Rattle.tree.specs.declared.naming.NamedLine.the-variants as name
 use Rattle.tree.specs.declared.splitting.SplitLine.{SplitLine}
 use Rattle.tree.specs.declared.splitting.SplitLine.the-variants as split
 use Rattle.tree.specs.declared.TreeRead.{TreeRead}
 use Rattle.tree.specs.declared.TreeRead.the-variants as answer
+use Rattle.tree.specs.Tests.{Test, found}
+use Rattle.tree.specs.NodeLines.{named, form-tests, Passes}
 use Rattle.tree.specs.Due.{Figures, with-split, Pending, pending, Due, nodes-due, reserve-due, judge, end, judged}
 use Rattle.tree.specs.Coded.{figures}
 
@@ -93,6 +98,17 @@ pub record Moved (text : List ℕ) (at next : ℕ) : Type 0 where
   pub inside : next ≤ length text
   pub lines : linesOf (drop next text) ≡ later (linesOf (drop at text))
   pub fewer : unread text next + 1 ≡ unread text at
+
+-- ---- a line of numbers, and one that names a unit or a period
+
+-- the first of 12, 14, 13 that holds of the line is n
+abbrev pub LineRefused : Form → Line → ℕ → Type 0
+LineRefused f l n = (s : Due) (ts : List Test) → found (form-tests f l ts) s ≡ refused n
+
+abbrev pub NamedRead : List ℕ → ℕ → List ℕ → ℕ → NamedLine → Type 0
+NamedRead key most text at (name.Refused n) = LineRefused (plain key 1 1 most) (lineAt text at) n
+NamedRead key most text at (name.Names i next) =
+    Passes (plain key 1 1 most) (lineAt text at) × (i ≡ named (plain key 1 1 most) (lineAt text at) 0) × (i < most) × Moved text at next
 
 -- ---- a split line
 

@@ -1,12 +1,11 @@
 // What the splits above a node fix.
 ghost use mathlib.Core.Path.{_≡_};
-ghost use Prim.Native.Nat.{ℕ, _+_, _*_, _<_, _≤_};
-ghost use lib.ListN.{set};
+ghost use Prim.Native.Nat.{_<_};
 ghost use Rattle.least.specs.Marks.{mark-of};
 ghost use Rattle.tree.specs.NodeLines.{is-fixed};
 ghost use Rattle.tree.specs.Coded.{none-fixed, with-status};
 
-// The statuses: 1 off, 2 on, 0 free. Those of a unit begin at its number, from 0, times the periods.
+// The statuses: OFF, ON, or neither. Those of a unit begin at its number, from 0, times the periods.
 pub struct Above {
     pub fixed: [u8; 1536],
 }
@@ -15,16 +14,20 @@ pub struct Above {
 pub fn is_fixed(status: u8) -> bool
     ensures { λ r. ⌜ r ≡ is-fixed (mark-of status) ⌝ }
 {
-    if status == 1 {
+    if status == Above::OFF {
         return true;
     }
-    if status == 2 {
+    if status == Above::ON {
         return true;
     }
     false
 }
 
 impl Above {
+    pub const OFF: u8 = 1;
+
+    pub const ON: u8 = 2;
+
     // Nothing is fixed above the root.
     pub fn root() -> Above
         ensures { λ r. ⌜ r ≡ none-fixed ⌝ }

@@ -1,6 +1,6 @@
 // What the lines of a tree give: its bound and its counts.
 ghost use mathlib.Core.Path.{_≡_};
-ghost use Prim.Native.Nat.{ℕ, _+_, _<_};
+ghost use Prim.Native.Nat.{_+_, _<_};
 ghost use Rattle.model.specs.Tree.{lower};
 ghost use Rattle.tree.specs.Coded.{bound-of, none-read, one-split, LeafAdded};
 

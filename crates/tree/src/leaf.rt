@@ -1,7 +1,7 @@
 // The leaves: short, stuck, and a price leaf's two lines.
 ghost use mathlib.Core.Path.{_≡_};
-ghost use Prim.Native.Nat.{ℕ, _+_, _*_, _≤_, _<_};
-ghost use lib.ListN.{length, take};
+ghost use Prim.Native.Nat.{_+_, _*_, _≤_, _<_};
+ghost use lib.ListN.{take};
 ghost use Rattle.model.specs.Held.{view, Valid};
 ghost use Rattle.model.specs.Leaf.{unless-off, available, stuck-at};
 ghost use Rattle.least.specs.Marks.{mark-of};
@@ -13,10 +13,12 @@ ghost use Rattle.tree.specs.Reading.{LeafRead, ReserveRead, Placed, Past
 use crate::above::Above;
 use crate::figures::Bound;
 use crate::figures::Tally;
+use crate::naming::NamedLine;
+use crate::naming::read_named;
 use least::leaf::leaf_value;
 use least::unit::Least;
 use least::unit::unit_least;
-use model::problem::Problem;
+use model::arrays::Problem;
 use model::ranges::Price;
 use text::Verdict;
 
@@ -37,7 +39,7 @@ pub enum Read {
 fn unless_off(status: u8, p: u64) -> u64
     ensures { λ r. ⌜ r ≡ unless-off (mark-of status) p ⌝ }
 {
-    if status == 1 {
+    if status == Above::OFF {
         return 0;
     }
     p
@@ -117,14 +119,11 @@ pub fn read_short(
     ensures past { λ r. ⌜ Past (now (text .entry)) at r ⌝ }
 {
     let periods = problem.periods;
-    let row = text::read_row(text, at, b"short=", 1, 1, periods as u64);
-    let verdict = row.verdict;
-    match verdict {
-        Verdict::Refused { number } => Read::Refused { number, line },
-        Verdict::Good { next } => {
-            let values = row.values;
-            let period = (values[0] - 1) as usize;
-            if is_short(problem, above, period) {
+    let found = read_named(text, at, b"short=", periods);
+    match found {
+        NamedLine::Refused { number } => Read::Refused { number, line },
+        NamedLine::Names { index, next } => {
+            if is_short(problem, above, index) {
                 return Read::Tree {
                     next,
                     line: line + 1,
@@ -152,14 +151,11 @@ pub fn read_stuck(
     ensures past { λ r. ⌜ Past (now (text .entry)) at r ⌝ }
 {
     let units = problem.units;
-    let row = text::read_row(text, at, b"stuck=", 1, 1, units as u64);
-    let verdict = row.verdict;
-    match verdict {
-        Verdict::Refused { number } => Read::Refused { number, line },
-        Verdict::Good { next } => {
-            let values = row.values;
-            let unit = (values[0] - 1) as usize;
-            if is_stuck(problem, above, unit) {
+    let found = read_named(text, at, b"stuck=", units);
+    match found {
+        NamedLine::Refused { number } => Read::Refused { number, line },
+        NamedLine::Names { index, next } => {
+            if is_stuck(problem, above, index) {
                 return Read::Tree {
                     next,
                     line: line + 1,

@@ -1,6 +1,6 @@
 // A tree's text, judged line by line: its bound and its counts.
 ghost use mathlib.Core.Path.{_≡_};
-ghost use Prim.Native.Nat.{ℕ, _≤_};
+ghost use Prim.Native.Nat.{_≤_};
 ghost use lib.ListN.{length};
 ghost use Rattle.model.specs.Held.{view, Valid};
 ghost use Rattle.tree.specs.Due.{IsTree};
@@ -10,16 +10,23 @@ use crate::figures::Bound;
 use crate::figures::Tally;
 use crate::leaf::Read;
 use crate::node::read_node;
-use model::problem::Problem;
+use model::arrays::Problem;
 use model::ranges::Writer;
 use refusal::Refusal;
 use text::Verdict;
 
-pub mod above;
+mod above;
 pub mod figures;
-pub mod leaf;
-pub mod node;
-pub mod splitting;
+mod leaf;
+mod naming;
+mod node;
+mod splitting;
+
+// Where the second line starts: after kind=tree and its byte 10.
+const SECOND_LINE: usize = 10;
+
+// The length of end=tree with its byte 10.
+const END_LENGTH: usize = 9;
 
 // What a tree's text is found to be.
 pub enum TreeRead {
@@ -41,7 +48,7 @@ fn read_end(text: &[u8], writer: u64, read: Read) -> TreeRead
         Read::Refused { number, line } => TreeRead::Refused(refusal::refuse(number, line, 0, 0)),
         Read::Tree { next, line, tally } => {
             if text::is_line(text, next, b"end=tree") {
-                if next + 9 == text.len() {
+                if next + END_LENGTH == text.len() {
                     let bound = tally.bound;
                     let splits = tally.splits;
                     let leaves = tally.leaves;
@@ -66,7 +73,14 @@ pub fn read_tree(problem: Problem, text: &[u8]) -> TreeRead
     requires { ⌜ IsTree (now text) ⌝ }
     ensures { λ r. ⌜ r ≡ tree-read (view problem) (now (text .entry)) ⌝ }
 {
-    let row = text::read_row(text, 10, b"writer=", 1, Writer::LEAST, Writer::MOST);
+    let row = text::read_row(
+        text,
+        SECOND_LINE,
+        b"writer=",
+        1,
+        Writer::LEAST,
+        Writer::MOST,
+    );
     let verdict = row.verdict;
     match verdict {
         Verdict::Refused { number } => TreeRead::Refused(refusal::refuse(number, 2, 0, 0)),

@@ -1,7 +1,6 @@
 // A tree: a leaf, or a split with two trees.
 ghost use mathlib.Core.Path.{_≡_};
-ghost use Prim.Native.Nat.{ℕ, _+_, _≤_};
-ghost use lib.ListN.{length};
+ghost use Prim.Native.Nat.{_+_, _≤_};
 ghost use Rattle.model.specs.Held.{view, Valid};
 ghost use Rattle.text.specs.Lines.{lineAt};
 ghost use Rattle.tree.specs.NodeLines.{kind-of};
@@ -16,7 +15,7 @@ use crate::leaf::read_short;
 use crate::leaf::read_stuck;
 use crate::splitting::SplitLine;
 use crate::splitting::read_split_line;
-use model::problem::Problem;
+use model::arrays::Problem;
 
 // The four node lines.
 pub enum NodeKind {
@@ -69,8 +68,8 @@ pub fn read_node(
                 SplitLine::Refused { number } => Read::Refused { number, line },
                 SplitLine::On { unit, period, next } => {
                     let place = unit * problem.periods + period;
-                    let off = above.with(place, 1);
-                    let on = above.with(place, 2);
+                    let off = above.with(place, Above::OFF);
+                    let on = above.with(place, Above::ON);
                     let more = tally.with_split();
                     read_split(problem, text, next, line + 1, depth + 1, off, on, more)
                 }

@@ -1,6 +1,6 @@
 // A split line.
 ghost use mathlib.Core.Path.{_≡_};
-ghost use Prim.Native.Nat.{ℕ, _+_, _*_, _≤_, _<_};
+ghost use Prim.Native.Nat.{_+_, _*_, _≤_, _<_};
 ghost use lib.ListN.{length};
 ghost use Rattle.model.specs.Held.{view, Valid};
 ghost use Rattle.text.specs.Lines.{lineAt};
@@ -9,8 +9,11 @@ ghost use Rattle.tree.specs.Coded.{above-of, split-refusal};
 ghost use Rattle.tree.specs.Reading.{SplitRead};
 use crate::above::Above;
 use crate::above::is_fixed;
-use model::problem::Problem;
+use model::arrays::Problem;
 use text::Verdict;
+
+// The depth of the deepest split.
+const MOST_DEPTH: usize = 63;
 
 // What a split line is at its place: refused by a number, or a split on a unit and a period, from 0, with the next line's start.
 pub enum SplitLine {
@@ -34,7 +37,7 @@ fn refuse_split(above: Above, place: usize, depth: usize) -> u64
     if is_fixed(status) {
         return 31;
     }
-    if 63 < depth {
+    if MOST_DEPTH < depth {
         return 32;
     }
     0

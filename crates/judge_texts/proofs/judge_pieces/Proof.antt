@@ -11,7 +11,7 @@ use Rattle.judge_texts.proofs.judge_pieces.Reads as reads
 use Rattle.judge_texts.proofs.judge_pieces.Lts as lts
 use Rattle.judge_texts.proofs.lodge.Reads as lodge-reads
 use Rattle.judge_texts.proofs.piece_end.Reads as piece-end-reads
-use Rattle.model.proofs.problem.Problem.blank.Reads as blank-reads
+use Rattle.model.proofs.arrays.Problem.blank.Reads as blank-reads
 
 abbrev Inv-loop : tie.InvT-loop
 Inv-loop s desk₀ at₀ desk at = (at ≤ length s) × Ready desk

@@ -1,12 +1,11 @@
+-- The end line stands where the tree ends, and it is the last.
 use borrow.Author.Needs.{needs}
-use mathlib.Core.Path.{_≡_, refl, sym, _∙_}
+use mathlib.Core.Path.{refl, sym, _∙_}
 use native.Mathlib.Omega.{arith}
 use borrow.Author.Tests.{eq-eqb, ne-eqb}
 use Rattle.tree.specs.Reading.{ended-as}
 use Rattle.tree.proofs.read_end.Statement.{statement}
 use Rattle.tree.proofs.read_end.Tie as tie
-use Rattle.refusal.proofs.refuse.Reads as refuse-reads
-use Rattle.text.proofs.is_line.Reads as is-line-reads
 
 enum-known-read : tie.Need-enum-known-read
 enum-known-read c = search needs

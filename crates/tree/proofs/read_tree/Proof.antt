@@ -1,10 +1,10 @@
+-- The writer line, the tree and the end line, one law for each.
 use borrow.Author.Needs.{needs}
-use mathlib.Core.Path.{_≡_, refl, sym, ap, _∙_}
-use mathlib.Core.List.{[], _∷_}
+use mathlib.Core.Path.{sym, ap, _∙_}
+use mathlib.Core.List.{[]}
 use native.Mathlib.Omega.{arith}
 use Rattle.model.specs.Instance.{_at_}
 use Rattle.model.specs.Held.{view}
-use Rattle.text.specs.Course.{Judged}
 use Rattle.tree.specs.declared.TreeRead.the-variants.{Refused}
 use Rattle.tree.specs.Coded.{above-of}
 use Rattle.tree.specs.Reading.{read-as, tree-read, NodeRead}
@@ -12,46 +12,31 @@ use Rattle.tree.proofs.Marked.{root-is}
 use Rattle.tree.proofs.Texts.{text-read, writer-refused, writer-read, tree-placed, past-came, ended-read}
 use Rattle.tree.proofs.read_tree.Statement.{statement}
 use Rattle.tree.proofs.read_tree.Tie as tie
-use Rattle.refusal.proofs.refuse.Reads as refuse-reads
-use Rattle.text.proofs.read_row.Reads as read-row-reads
-use Rattle.tree.proofs.above.Above.root.Reads as root-reads
-use Rattle.tree.proofs.figures.Tally.none.Reads as none-reads
-use Rattle.tree.proofs.node.read_node.Reads as read-node-reads
-use Rattle.tree.proofs.read_end.Reads as read-end-reads
 
--- src/lib.rt:70:40
 slice-aggregate-read-row : tie.Need-slice-aggregate-read-row
 slice-aggregate-read-row c = search needs
 
--- src/lib.rt:70:9
 read-row-requires : tie.Need-read-row-requires
 read-row-requires c κs = search needs
 
--- src/lib.rt:73:28
 enum-known-verdict : tie.Need-enum-known-verdict
 enum-known-verdict c = search needs
 
--- src/lib.rt:73:58
 refuse-requires : tie.Need-refuse-requires
 refuse-requires c κs = search needs
 
--- src/lib.rt:74:25
 enum-known-verdict-2 : tie.Need-enum-known-verdict-2
 enum-known-verdict-2 c = search needs
 
--- src/lib.rt:76:26
 array-read-writer : tie.Need-array-read-writer
 array-read-writer c = search needs
 
--- src/lib.rt:77:61
 root-requires : tie.Need-root-requires
 root-requires c κs = search needs
 
--- src/lib.rt:77:76
 none-requires : tie.Need-none-requires
 none-requires c κs = search needs
 
--- src/lib.rt:77:17
 read-node-requires : tie.Need-read-node-requires
 read-node-requires c κs =
     let r = c .before .before .before .before .before .before in
@@ -60,11 +45,9 @@ read-node-requires c κs =
     let e = c .none .ensures in
     (s .pre .0, (rw e (tree-placed (view (s .args .problem)) (s .args .text .now) (r .read-row .result) (r .read-row .ensures) (v .0 .0) (v .1) (s .pre .1 .0)), omega arith))
 
--- src/lib.rt:78:13
 read-end-requires : tie.Need-read-end-requires
 read-end-requires c κs = past-came _ _ (c .read-node .result) (c .read-node .ensures .1)
 
--- src/lib.rt:64:1
 returns : tie.Need-returns
 unfolding tree-read read-as
 returns c =
@@ -75,7 +58,6 @@ returns c =
     let v = c .before .before .verdict .given in
     ap Refused (c .refuse .ensures) ∙ sym (ap read-as (text-read P text (s .pre .1 .1) ∙ writer-refused P text (r .read-row .result) (r .read-row .ensures) (v .0 .0) (v .1)))
 
--- src/lib.rt:64:1
 returns-2 : tie.Need-returns-2
 unfolding tree-read NodeRead
 returns-2 c =

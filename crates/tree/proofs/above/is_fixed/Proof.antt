@@ -1,3 +1,4 @@
+-- 1 and 2 are the bytes that fix a status.
 use mathlib.Core.Path.{refl}
 use borrow.Author.Tests.{eq-eqb, ne-eqb}
 use Rattle.least.specs.Marks.{mark-of}

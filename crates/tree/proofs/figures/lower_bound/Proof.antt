@@ -1,3 +1,4 @@
+-- Case by case, as the model takes the lower of two bounds.
 use borrow.Author.Needs.{needs}
 use mathlib.Core.Path.{_≡_, refl}
 use mathlib.Core.Bool.{true, false}
@@ -7,26 +8,19 @@ use mir.Val.{SFits}
 use mir.ValLaws.{toZ-ofZ}
 use Rattle.tree.proofs.figures.lower_bound.Statement.{statement}
 use Rattle.tree.proofs.figures.lower_bound.Tie as tie
-use Rattle.tree.proofs.figures.lower_bound.Reads as reads
-use Rattle.tree.proofs.figures.lower_bound.Lts as lts
 
--- src/figures.rt:25:25
 enum-told : tie.Need-enum-told
 enum-told c = search needs
 
--- src/figures.rt:26:23
 enum-known-a : tie.Need-enum-known-a
 enum-known-a c = search needs
 
--- src/figures.rt:27:29
 enum-told-2 : tie.Need-enum-told-2
 enum-told-2 c = search needs
 
--- src/figures.rt:28:27
 enum-known-b : tie.Need-enum-known-b
 enum-known-b c = search needs
 
--- src/figures.rt:30:21
 returns : tie.Need-returns
 returns c =
     let x = c .before .before .before .before .before .a .given .0 .0 in
@@ -36,15 +30,12 @@ returns c =
     let test : leZ x y ≡ true = rw (toZ-ofZ w64 y fy, toZ-ofZ w64 x fx) at (c .if1 .taken) in
     rw (c .before .before .before .before .before .a .given .1, c .before .before .b .given .1, test) refl
 
--- src/figures.rt:21:1
 returns-2 : tie.Need-returns-2
 returns-2 c = search needs
 
--- src/figures.rt:21:1
 returns-3 : tie.Need-returns-3
 returns-3 c = rw (c .before .before .before .a .given .1, c .enum-told2 .given .1) refl
 
--- src/figures.rt:21:1
 returns-4 : tie.Need-returns-4
 returns-4 c =
     let x = c .before .before .before .before .before .a .given .0 .0 in

@@ -1,6 +1,6 @@
-use borrow.Author.Needs.{needs}
+-- The sum is the model's, and so is the load of the period.
 use mathlib.Core.Path.{_≡_, sym, ap₂, _∙_}
-use Prim.Native.Nat.{ℕ, _+_, _≤_, _<_}
+use Prim.Native.Nat.{ℕ, _+_, _<_}
 use native.Mathlib.Omega.{arith}
 use lib.Dec.{ltb}
 use lib.ListN.{getD, length-map}
@@ -8,10 +8,9 @@ use lib.Seq.{getD-take}
 use Rattle.model.specs.Instance.{_at_}
 use Rattle.model.specs.Held.{view}
 use Rattle.model.proofs.LeafSizes.{all-at}
-use Rattle.tree.proofs.Problems.{Sizes, valid-sizes}
+use Rattle.tree.proofs.Problems.{valid-sizes}
 use Rattle.tree.proofs.leaf.is_short.Statement.{statement}
 use Rattle.tree.proofs.leaf.is_short.Tie as tie
-use Rattle.tree.proofs.leaf.sum_available.Reads as sum-available-reads
 
 inside : (c : tie.Start) → c .args .period < 48
 inside c =

@@ -1,6 +1,7 @@
+-- With multipliers of 0 a unit has a least value exactly where it is not stuck.
 use borrow.Author.Needs.{needs}
 use mathlib.Core.Path.{_≡_, refl, sym, ap, _∙_}
-use Prim.Native.Nat.{ℕ, zero, suc, _+_, _*_, _-_, _≤_, _<_}
+use Prim.Native.Nat.{ℕ, zero, suc, _+_, _*_, _-_, _≤_}
 use native.Mathlib.Nat.{mul-le-mul-right}
 use native.Mathlib.Omega.{arith}
 use lib.ListN.{length, getD, take, drop, replicate, length-map, length-drop}
@@ -9,14 +10,12 @@ use Rattle.model.specs.Instance.{_at_}
 use Rattle.model.specs.Ranges.{All, GoodUnit, GoodPrice}
 use Rattle.model.specs.Held.{view, blank-generator}
 use Rattle.model.specs.Leaf.{stuck-at}
-use Rattle.least.specs.Limits.{GoodPrices}
 use Rattle.tree.specs.Coded.{marks-in}
 use Rattle.tree.proofs.Problems.{Sizes, valid-sizes}
 use Rattle.tree.proofs.Short.{all-getD}
 use Rattle.tree.proofs.StuckUnits.{is-none, answer-stuck}
 use Rattle.tree.proofs.leaf.is_stuck.Statement.{statement}
 use Rattle.tree.proofs.leaf.is_stuck.Tie as tie
-use Rattle.least.proofs.unit.unit_least.Reads as unit-least-reads
 
 all-long : (c : tie.Start) → length (c .args .problem .generators) ≡ 32
 all-long c = sym (length-map (c .args .problem .generators) _) ∙ c .good .0 .1 .1 .1 .1 .1 .1 .0 .1 .0 .1

@@ -1,3 +1,4 @@
+-- The price line is read, and what follows it is the reserve line's to say.
 use borrow.Author.Needs.{needs}
 use mathlib.Core.Path.{_≡_, refl, sym, _∙_}
 use native.Mathlib.Omega.{arith}
@@ -10,13 +11,11 @@ use Rattle.tree.specs.NodeLines.{price-line, node-form}
 use Rattle.tree.specs.Coded.{above-of}
 use Rattle.tree.specs.Reading.{Moved}
 use Rattle.tree.proofs.Problems.{Sizes, valid-sizes}
-use Rattle.tree.proofs.Rows.{row-moved, taken-multipliers}
-use Rattle.tree.proofs.Steps.{node-refused, node-price, moved-placed, later-past}
+use Rattle.tree.proofs.Rows.{row-refused, row-moved, taken-multipliers}
+use Rattle.tree.proofs.Steps.{leaf-refused, node-price, moved-placed, later-past}
 use Rattle.tree.proofs.Leaves.{line-refused, price-read}
 use Rattle.tree.proofs.leaf.read_price.Statement.{statement}
 use Rattle.tree.proofs.leaf.read_price.Tie as tie
-use Rattle.text.proofs.read_row.Reads as read-row-reads
-use Rattle.tree.proofs.leaf.read_reserve.Reads as read-reserve-reads
 
 sizes : (c : tie.Start) → Sizes (c .args .problem)
 sizes c = valid-sizes (c .args .problem) (sym (length-map (c .args .problem .generators) _) ∙ c .good .0 .1 .1 .1 .1 .1 .1 .0 .1 .0 .1) (c .pre .0)
@@ -69,11 +68,11 @@ returns c =
     let s = r .before .before .before in
     let a = s .args in
     let v = c .before .verdict .given in
-    let P = view (a .problem) in (
-      (λ d. node-refused P (a .text .now) (a .at) (a .line) (a .tally) (above-of (a .problem .periods) (a .above)) d (v .0 .0)
-          (line-refused P (a .text .now) (a .at) (above-of (a .problem .periods) (a .above)) d price-line (s .pre .1 .1) (r .read-row .result) (is-row r) (v .0 .0) (v .1))),
-      tt,
-    )
+    let P = view (a .problem) in
+    let A = above-of (a .problem .periods) (a .above) in
+    leaf-refused P (a .text .now) (a .at) (a .line) (a .tally) A (v .0 .0)
+    (λ d. line-refused P (a .text .now) (a .at) A d price-line (s .pre .1 .1) (v .0 .0)
+    (row-refused (node-form P price-line) (a .text .now) (a .at) (r .read-row .result) (is-row r) (v .0 .0) (v .1)))
 
 returns-2 : tie.Need-returns-2
 unfolding view

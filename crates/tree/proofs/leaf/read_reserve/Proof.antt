@@ -1,6 +1,7 @@
+-- The reserve line is read; the leaf has a value exactly where no unit is stuck, and otherwise 35 refuses it.
 use borrow.Author.Needs.{needs}
 use mathlib.Core.Path.{_≡_, refl, sym, subst, _∙_}
-use Prim.Native.Nat.{ℕ, _*_, _≤_}
+use Prim.Native.Nat.{ℕ, _≤_}
 use native.Mathlib.Nat.{mul-le-mul-right}
 use native.Mathlib.Omega.{arith}
 use mathlib.Core.List.{List}
@@ -13,7 +14,6 @@ use Rattle.model.specs.Held.{view}
 use Rattle.model.specs.Tree.{Multipliers}
 use Rattle.text.specs.Lines.{lineAt}
 use Rattle.text.specs.Forms.{rowOf}
-use Rattle.least.specs.Limits.{GoodPrices}
 use Rattle.tree.specs.declared.figures.Bound.the-variants.{Number}
 use Rattle.tree.specs.Rendering.{reserve-key}
 use Rattle.tree.specs.NodeLines.{reserve-form}
@@ -25,9 +25,6 @@ use Rattle.tree.proofs.Steps.{reserve-refused, reserve-leaf, leaf-past}
 use Rattle.tree.proofs.Leaves.{reserve-line-refused, unit-stuck, leaf-read}
 use Rattle.tree.proofs.leaf.read_reserve.Statement.{statement}
 use Rattle.tree.proofs.leaf.read_reserve.Tie as tie
-use Rattle.text.proofs.read_row.Reads as read-row-reads
-use Rattle.least.proofs.leaf.leaf_value.Reads as leaf-value-reads
-use Rattle.tree.proofs.figures.Tally.with_leaf.Reads as with-leaf-reads
 
 sizes : (c : tie.Start) → Sizes (c .args .problem)
 sizes c = valid-sizes (c .args .problem) (sym (length-map (c .args .problem .generators) _) ∙ c .good .0 .1 .1 .1 .1 .1 .1 .0 .1 .0 .1) (c .pre .0)

@@ -1,133 +1,115 @@
+-- The line is the one that names a unit, and what the code finds of the rule decides between good and 34.
 use borrow.Author.Needs.{needs}
-use mathlib.Core.Path.{_≡_, refl, sym, ap, _∙_}
-use Prim.Native.Nat.{ℕ, _-_}
+use mathlib.Core.Path.{refl, sym, subst, _∙_}
+use Prim.Native.Nat.{ℕ}
 use native.Mathlib.Omega.{arith}
 use lib.ListN.{length, length-map}
-use Rattle.model.specs.Instance.{_at_}
 use Rattle.model.specs.Held.{view}
-use Rattle.text.specs.Lines.{lineAt}
-use Rattle.text.specs.Forms.{plain, rowOf}
 use Rattle.tree.specs.declared.figures.Bound.the-variants.{Never}
+use Rattle.tree.specs.declared.naming.NamedLine.the-variants.{Names}
 use Rattle.tree.specs.Rendering.{stuck-key}
-use Rattle.tree.specs.NodeLines.{stuck-line, node-form}
+use Rattle.tree.specs.NodeLines.{stuck-line}
 use Rattle.tree.specs.Coded.{above-of}
+use Rattle.tree.specs.Reading.{NamedRead}
 use Rattle.tree.proofs.Problems.{Sizes, valid-sizes}
-use Rattle.tree.proofs.Rows.{row-moved, OneValue, one-value}
-use Rattle.tree.proofs.Steps.{node-refused, node-leaf, leaf-past}
+use Rattle.tree.proofs.Steps.{leaf-done, leaf-refused}
 use Rattle.tree.proofs.Leaves.{line-refused, stuck-holds, stuck-fails}
 use Rattle.tree.proofs.leaf.read_stuck.Statement.{statement}
 use Rattle.tree.proofs.leaf.read_stuck.Tie as tie
-use Rattle.text.proofs.read_row.Reads as read-row-reads
-use Rattle.tree.proofs.figures.Tally.with_leaf.Reads as with-leaf-reads
-use Rattle.tree.proofs.leaf.is_stuck.Reads as is-stuck-reads
 
 sizes : (c : tie.Start) → Sizes (c .args .problem)
 sizes c = valid-sizes (c .args .problem) (sym (length-map (c .args .problem .generators) _) ∙ c .good .0 .1 .1 .1 .1 .1 .1 .0 .1 .0 .1) (c .pre .0)
 
--- the row is that of a stuck line of the problem
-is-row : (c : tie.After-read-row) →
+-- what the line is found to be, for the problem
+said : (c : tie.After-read-named) →
     let a = c .before .before .before .args in
-    c .read-row .result ≡ rowOf (node-form (view (a .problem)) stuck-line) (lineAt (a .text .now) (a .at)) (a .at)
+    NamedRead stuck-key (length (view (a .problem) .units)) (a .text .now) (a .at) (c .read-named .result)
 unfolding view
-is-row c =
+said c =
     let s = c .before .before .before in
     let a = s .args in
-    c .read-row .ensures
-    ∙ ap (λ (n : ℕ). rowOf (plain stuck-key 1 1 n) (lineAt (a .text .now) (a .at)) (a .at)) (sym (sizes s .units-long))
+    subst (λ (n : ℕ). NamedRead stuck-key n (a .text .now) (a .at) (c .read-named .result)) (sym (sizes s .units-long)) (c .read-named .ensures)
 
--- the number that it names
-value : (c : tie.After-values) →
-    let r = c .before .before .before .before in
-    let a = r .before .before .before .args in
-    OneValue stuck-key (length (view (a .problem) .units)) (a .text .now) (a .at) (r .read-row .result) (is-row r) (c .before .before .verdict2 .given .0 .0) (c .before .before .verdict2 .given .1)
-value c =
-    let r = c .before .before .before .before in
-    let a = r .before .before .before .args in
-    one-value stuck-key (length (view (a .problem) .units)) (a .text .now) (a .at) (r .read-row .result) (is-row r) (c .before .before .verdict2 .given .0 .0) (c .before .before .verdict2 .given .1)
+-- the one that it names
+names : (c : tie.After-found2) →
+    let a = c .before .before .before .before .before .args in
+    NamedRead stuck-key (length (view (a .problem) .units)) (a .text .now) (a .at) (Names (c .found2 .given .0 .0) (c .found2 .given .0 .1 .0))
+names c = rw (c .found2 .given .1) at (said (c .before .before))
 
-slice-aggregate-read-row : tie.Need-slice-aggregate-read-row
-slice-aggregate-read-row c = search needs
+slice-aggregate-read-named : tie.Need-slice-aggregate-read-named
+slice-aggregate-read-named c = search needs
 
-read-row-requires : tie.Need-read-row-requires
-read-row-requires c κs =
+read-named-requires : tie.Need-read-named-requires
+read-named-requires c κs =
     let z = sizes (c .before .before) in
-    (refl, (omega arith, omega (arith, z .most-units, z .most-periods)))
+    (refl, omega (arith, z .most-units, z .most-periods))
 
-enum-known-verdict : tie.Need-enum-known-verdict
-enum-known-verdict c = search needs
+enum-known-found : tie.Need-enum-known-found
+enum-known-found c = search needs
 
-enum-known-verdict-2 : tie.Need-enum-known-verdict-2
-enum-known-verdict-2 c = search needs
-
-array-read-unit : tie.Need-array-read-unit
-array-read-unit c = search needs
-
-sub-unit : tie.Need-sub-unit
-sub-unit c = value c .low
+enum-known-found-2 : tie.Need-enum-known-found-2
+enum-known-found-2 c = search needs
 
 is-stuck-requires : tie.Need-is-stuck-requires
 unfolding view
 is-stuck-requires c κs =
-    let s = c .before .before .before .before .before .before .before in
-    (s .pre .0, omega (arith, value c .low, value c .high, sizes s .units-long))
+    let s = c .before .before .before .before .before .before in
+    (s .pre .0, omega (arith, names (c .before) .2, sizes s .units-long))
 
-add-t24 : tie.Need-add-t24
-add-t24 c = search needs
+add-t17 : tie.Need-add-t17
+add-t17 c = search needs
 
 with-leaf-requires : tie.Need-with-leaf-requires
 with-leaf-requires c κs = search needs
 
 returns : tie.Need-returns
+unfolding view
 returns c =
-    let r = c .before .before .before .before .before .before .before in
-    let s = r .before .before .before in
+    let f = c .before .before .before .before in
+    let s = f .before .before .before .before .before in
     let a = s .args in
-    let v = c .before .before .before .before .before .verdict2 .given in
+    let g = f .found2 .given .0 in
+    let n = names f in
     let P = view (a .problem) in
-    let m = row-moved (node-form P stuck-line) (a .text .now) (a .at) (r .read-row .result) (is-row r) (v .0 .0) (v .1) in
-    let h = sym (c .before .if1 .taken) ∙ c .before .before .is-stuck .ensures in (
-      (λ d. node-leaf P (a .text .now) (a .at) (a .line) (a .tally) (above-of (a .problem .periods) (a .above)) d Never (v .0 .0) (c .with-leaf .result)
-          (stuck-holds P (a .text .now) (a .at) (above-of (a .problem .periods) (a .above)) d (s .pre .1 .1) (r .read-row .result) (is-row r) (v .0 .0) (v .1) h) m (c .with-leaf .ensures)),
-      leaf-past (a .text .now) (a .at) (a .line) (a .tally) (s .pre .1 .0) (v .0 .0) m Never (c .with-leaf .result) (c .with-leaf .ensures),
-    )
+    let A = above-of (a .problem .periods) (a .above) in
+    leaf-done P (a .text .now) (a .at) (a .line) (a .tally) A Never (g .1 .0) (c .with-leaf .result)
+    (λ d. stuck-holds P (a .text .now) (a .at) A d (s .pre .1 .1) (n .0) (g .0) (n .1) (sym (c .before .if1 .taken) ∙ c .before .before .is-stuck .ensures))
+    (n .3) (c .with-leaf .ensures) (s .pre .1 .0)
 
 returns-2 : tie.Need-returns-2
+unfolding view
 returns-2 c =
-    let r = c .before .before .before in
-    let s = r .before .before .before in
+    let f = c .before in
+    let s = f .before .before .before .before .before in
     let a = s .args in
-    let v = c .before .verdict .given in
-    let P = view (a .problem) in (
-      (λ d. node-refused P (a .text .now) (a .at) (a .line) (a .tally) (above-of (a .problem .periods) (a .above)) d (v .0 .0)
-          (line-refused P (a .text .now) (a .at) (above-of (a .problem .periods) (a .above)) d stuck-line (s .pre .1 .1) (r .read-row .result) (is-row r) (v .0 .0) (v .1))),
-      tt,
-    )
+    let n = f .found .given .0 .0 in
+    let P = view (a .problem) in
+    let A = above-of (a .problem .periods) (a .above) in
+    leaf-refused P (a .text .now) (a .at) (a .line) (a .tally) A n
+    (λ d. line-refused P (a .text .now) (a .at) A d stuck-line (s .pre .1 .1) n (rw (f .found .given .1) at (said (f .before .before))))
 
 returns-3 : tie.Need-returns-3
+unfolding view
 returns-3 c =
-    let r = c .before .before .before .before .before .before in
-    let s = r .before .before .before in
+    let f = c .before .before .before in
+    let s = f .before .before .before .before .before in
     let a = s .args in
-    let v = c .before .before .before .before .verdict2 .given in
+    let n = names f in
     let P = view (a .problem) in
-    let h = sym (c .if1 .left) ∙ c .before .is-stuck .ensures in (
-      (λ d. node-refused P (a .text .now) (a .at) (a .line) (a .tally) (above-of (a .problem .periods) (a .above)) d 34
-          (stuck-fails P (a .text .now) (a .at) (above-of (a .problem .periods) (a .above)) d (s .pre .1 .1) (r .read-row .result) (is-row r) (v .0 .0) (v .1) h)),
-      tt,
-    )
+    let A = above-of (a .problem .periods) (a .above) in
+    leaf-refused P (a .text .now) (a .at) (a .line) (a .tally) A 34
+    (λ d. stuck-fails P (a .text .now) (a .at) A d (s .pre .1 .1) (n .0) (f .found2 .given .0 .0) (n .1) (sym (c .if1 .left) ∙ c .before .is-stuck .ensures))
 
 pub read-stuck-spec : {M : Type 1} → statement M
 read-stuck-spec =
     tie.close
     (tie.spec
-    slice-aggregate-read-row
-    read-row-requires
-    enum-known-verdict
-    enum-known-verdict-2
-    array-read-unit
-    sub-unit
+    slice-aggregate-read-named
+    read-named-requires
+    enum-known-found
+    enum-known-found-2
     is-stuck-requires
-    add-t24
+    add-t17
     with-leaf-requires
     returns
     returns-2

@@ -1,6 +1,7 @@
+-- Invariant: the sum so far and that of the units not yet passed are the sum of all, and the place is the next unit's.
 use borrow.Author.Needs.{needs}
-use mathlib.Core.Path.{_≡_, refl, sym, ap, _∙_}
-use Prim.Native.Nat.{ℕ, suc, _+_, _*_, _-_, _≤_, _<_}
+use mathlib.Core.Path.{_≡_, sym, ap, _∙_}
+use Prim.Native.Nat.{ℕ, _+_, _*_, _-_, _≤_, _<_}
 use native.Mathlib.Numerals.{add-one}
 use native.Mathlib.Omega.{arith}
 use lib.ListN.{length, getD, take, drop, length-map}
@@ -14,7 +15,6 @@ use Rattle.tree.proofs.SplitLines.{place-inside}
 use Rattle.tree.proofs.Short.{available-from, from-first, from-next, from-last, most-output, counts-most}
 use Rattle.tree.proofs.leaf.sum_available.Statement.{statement}
 use Rattle.tree.proofs.leaf.sum_available.Tie as tie
-use Rattle.tree.proofs.leaf.unless_off.Reads as unless-off-reads
 
 abbrev Inv-loop : tie.InvT-loop
 Inv-loop period units periods generators fixed sum₀ place₀ u₀ sum place u =

@@ -1,3 +1,4 @@
+-- 1 is the one byte that fixes off.
 use Rattle.tree.proofs.Short.{off-counts, other-counts}
 use Rattle.tree.proofs.leaf.unless_off.Statement.{statement}
 use Rattle.tree.proofs.leaf.unless_off.Tie as tie

@@ -1,3 +1,5 @@
+-- A node calls the split reader with one line less unread, the split reader calls the node reader on its own lines: the measures are
+-- twice the unread lines, and one more for the split.
 use borrow.Author.Needs.{needs}
 use mathlib.Core.Path.{_≡_, refl, sym, ap, _∙_}
 use mathlib.Core.Bool.{true, false}
@@ -112,92 +114,73 @@ place-long : (t : ℕ) (c : read-node-lts.After-found2 (read-node-calls t) (read
     g .0 * a .problem .periods + g .1 .0 < length (a .above .fixed)
 place-long t c = omega (arith, place-in t c, fixed-long t (c .before .before .before .before .before .before .before))
 
--- src/node.rt:53:9
 read-node-find-kind-requires : (t : ℕ) → read-node-lts.Need-find-kind-requires (read-node-calls t) (read-node-at t) read-node.Post
 read-node-find-kind-requires t c κs = search needs
 
--- src/node.rt:55:28
 read-node-enum-told : (t : ℕ) → read-node-lts.Need-enum-told (read-node-calls t) (read-node-at t) read-node.Post
 read-node-enum-told t c = search needs
 
--- src/node.rt:55:28
 read-node-read-short-requires : (t : ℕ) → read-node-lts.Need-read-short-requires (read-node-calls t) (read-node-at t) read-node.Post
 read-node-read-short-requires t c κs =
     let s = c .before .before .before .before in
     (s .pre .1 .0, (s .pre .1 .1 .0, sym (c .before .before .find-kind .ensures) ∙ ap node-kind (c .enum-told .given .1)))
 
--- src/node.rt:56:28
 read-node-enum-told-2 : (t : ℕ) → read-node-lts.Need-enum-told-2 (read-node-calls t) (read-node-at t) read-node.Post
 read-node-enum-told-2 t c = search needs
 
--- src/node.rt:56:28
 read-node-read-stuck-requires : (t : ℕ) → read-node-lts.Need-read-stuck-requires (read-node-calls t) (read-node-at t) read-node.Post
 read-node-read-stuck-requires t c κs =
     let s = c .before .before .before .before in
     (s .pre .1 .0, (s .pre .1 .1 .0, sym (c .before .before .find-kind .ensures) ∙ ap node-kind (c .enum-told2 .given .1)))
 
--- src/node.rt:57:28
 read-node-enum-told-3 : (t : ℕ) → read-node-lts.Need-enum-told-3 (read-node-calls t) (read-node-at t) read-node.Post
 read-node-enum-told-3 t c = search needs
 
--- src/node.rt:57:28
 read-node-read-price-requires : (t : ℕ) → read-node-lts.Need-read-price-requires (read-node-calls t) (read-node-at t) read-node.Post
 read-node-read-price-requires t c κs =
     let s = c .before .before .before .before in
     (s .pre .1 .0, (s .pre .1 .1 .0, sym (c .before .before .find-kind .ensures) ∙ ap node-kind (c .enum-told3 .given .1)))
 
--- src/node.rt:59:17
 read-node-enum-told-4 : (t : ℕ) → read-node-lts.Need-enum-told-4 (read-node-calls t) (read-node-at t) read-node.Post
 read-node-enum-told-4 t c = search needs
 
--- src/node.rt:59:17
 read-node-read-split-line-requires : (t : ℕ) → read-node-lts.Need-read-split-line-requires (read-node-calls t) (read-node-at t) read-node.Post
 read-node-read-split-line-requires t c κs =
     let s = c .before .before .before .before in
     (s .pre .1 .0, (s .pre .1 .1 .0 .short, sym (c .before .before .find-kind .ensures) ∙ ap node-kind (c .enum-told4 .given .1)))
 
--- src/node.rt:61:38
 read-node-enum-known-found : (t : ℕ) → read-node-lts.Need-enum-known-found (read-node-calls t) (read-node-at t) read-node.Post
 read-node-enum-known-found t c = search needs
 
--- src/node.rt:62:33
 read-node-enum-known-found-2 : (t : ℕ) → read-node-lts.Need-enum-known-found-2 (read-node-calls t) (read-node-at t) read-node.Post
 read-node-enum-known-found-2 t c = search needs
 
--- src/node.rt:63:33
 read-node-mul-place : (t : ℕ) → read-node-lts.Need-mul-place (read-node-calls t) (read-node-at t) read-node.Post
 read-node-mul-place t c = omega (arith, place-in t (c .before .before))
 
--- src/node.rt:63:33
 read-node-add-place : (t : ℕ) → read-node-lts.Need-add-place (read-node-calls t) (read-node-at t) read-node.Post
 read-node-add-place t c = omega (arith, place-in t (c .before .before))
 
--- src/node.rt:64:25
 read-node-with-requires : (t : ℕ) → read-node-lts.Need-with-requires (read-node-calls t) (read-node-at t) read-node.Post
 read-node-with-requires t c κs = place-in t (c .before .before)
 
--- src/node.rt:65:25
 read-node-with-requires-2 : (t : ℕ) → read-node-lts.Need-with-requires-2 (read-node-calls t) (read-node-at t) read-node.Post
 read-node-with-requires-2 t c κs = place-in t (c .before .before .before)
 
--- src/node.rt:66:25
 read-node-with-split-requires : (t : ℕ) → read-node-lts.Need-with-split-requires (read-node-calls t) (read-node-at t) read-node.Post
 read-node-with-split-requires t c κs =
     let p = c .before .before .before .before .before .before .before .before .before .before .before .pre .1 .1 .0 in
     omega (arith, p .short, p .inside, p .numbered, p .counted)
 
--- src/node.rt:67:53
 read-node-add-read-split : (t : ℕ) → read-node-lts.Need-add-read-split (read-node-calls t) (read-node-at t) read-node.Post
 read-node-add-read-split t c =
     let p = c .before .before .before .before .before .before .before .before .before .before .before .before .pre .1 .1 .0 in
     omega (arith, p .short, p .inside, p .numbered)
 
--- src/node.rt:67:63
 read-node-add-read-split-2 : (t : ℕ) → read-node-lts.Need-add-read-split-2 (read-node-calls t) (read-node-at t) read-node.Post
 read-node-add-read-split-2 t c =
     omega (arith, c .before .before .before .before .before .before .before .before .before .before .before .before .pre .1 .1 .1)
 
--- src/node.rt:67:21
 read-node-read-split-requires : (t : ℕ) → read-node-lts.Need-read-split-requires (read-node-calls t) (read-node-at t) read-node.Post
 read-node-read-split-requires t c κs =
     let f = c .before .before .before .before .before in
@@ -216,22 +199,18 @@ read-node-read-split-requires t c κs =
       ),
     )
 
--- src/node.rt:46:1
 read-node-returns : (t : ℕ) → read-node-lts.Need-returns (read-node-calls t) (read-node-at t) read-node.Post
 read-node-returns t c =
     (c .read-short .ensures .0 (c .before .before .before .before .before .args .depth), c .read-short .ensures .1)
 
--- src/node.rt:46:1
 read-node-returns-2 : (t : ℕ) → read-node-lts.Need-returns-2 (read-node-calls t) (read-node-at t) read-node.Post
 read-node-returns-2 t c =
     (c .read-stuck .ensures .0 (c .before .before .before .before .before .args .depth), c .read-stuck .ensures .1)
 
--- src/node.rt:46:1
 read-node-returns-3 : (t : ℕ) → read-node-lts.Need-returns-3 (read-node-calls t) (read-node-at t) read-node.Post
 read-node-returns-3 t c =
     (c .read-price .ensures .0 (c .before .before .before .before .before .args .depth), c .read-price .ensures .1)
 
--- src/node.rt:46:1
 read-node-returns-4 : (t : ℕ) → read-node-lts.Need-returns-4 (read-node-calls t) (read-node-at t) read-node.Post
 read-node-returns-4 t c =
     let a = c .before .before .before .before .before .before .before .before .args in (
@@ -240,7 +219,6 @@ read-node-returns-4 t c =
       tt,
     )
 
--- src/node.rt:46:1
 read-node-returns-5 : (t : ℕ) → read-node-lts.Need-returns-5 (read-node-calls t) (read-node-at t) read-node.Post
 unfolding view mark-of
 read-node-returns-5 t c =
@@ -259,26 +237,21 @@ read-node-returns-5 t c =
       later-past (a .text .now) (a .at) (a .line) (a .tally) (s .pre .1 .1 .0) (g .1 .1 .0) (k .4) (c .read-split .result) (c .read-split .ensures .1),
     )
 
--- src/node.rt:82:9
 read-split-read-node-requires : (t : ℕ) → read-split-lts.Need-read-node-requires (read-split-calls t) (read-split-at t) read-split.Post
 read-split-read-node-requires t c κs = (omega (arith, c .before .pre .0), c .before .pre .1)
 
--- src/node.rt:84:25
 read-split-enum-known-one : (t : ℕ) → read-split-lts.Need-enum-known-one (read-split-calls t) (read-split-at t) read-split.Post
 read-split-enum-known-one t c = search needs
 
--- src/node.rt:85:22
 read-split-enum-known-one-2 : (t : ℕ) → read-split-lts.Need-enum-known-one-2 (read-split-calls t) (read-split-at t) read-split.Post
 read-split-enum-known-one-2 t c = search needs
 
--- src/node.rt:85:45
 read-split-read-node-requires-2 : (t : ℕ) → read-split-lts.Need-read-node-requires-2 (read-split-calls t) (read-split-at t) read-split.Post
 read-split-read-node-requires-2 t c κs =
     let s = c .before .before .before .before .before in
     let p = rw (c .before .one2 .given .1) at (c .before .before .before .read-node .ensures .1) in
     (omega (arith, s .pre .0, p .1), (s .pre .1 .0, (p .0, s .pre .1 .1 .1)))
 
--- src/node.rt:75:1
 read-split-returns :
     (t : ℕ) →
     read-split-lts.Need-returns
@@ -294,7 +267,6 @@ read-split-returns t c =
       tt,
     )
 
--- src/node.rt:75:1
 read-split-returns-2 :
     (t : ℕ) →
     read-split-lts.Need-returns-2

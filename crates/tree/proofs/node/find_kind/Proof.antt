@@ -1,9 +1,9 @@
+-- The keys are tried in the order of the definition.
 use borrow.Author.Needs.{needs}
-use mathlib.Core.Path.{_≡_, sym, _∙_}
+use mathlib.Core.Path.{sym, _∙_}
 use Rattle.tree.proofs.Keys.{split-there, short-there, stuck-there, price-there}
 use Rattle.tree.proofs.node.find_kind.Statement.{statement}
 use Rattle.tree.proofs.node.find_kind.Tie as tie
-use Rattle.text.proofs.starts.Reads as starts-reads
 
 slice-aggregate-starts : tie.Need-slice-aggregate-starts
 slice-aggregate-starts c = search needs

@@ -1,30 +1,27 @@
+-- The line's two numbers less 1 are the unit and the period, whose status has a place among the bytes.
 use borrow.Author.Needs.{needs}
 use mathlib.Core.Path.{_≡_, refl, sym, ap, _∙_}
-use mathlib.Core.Bool.{Bool, true, cond}
+use mathlib.Core.Bool.{cond}
 use mathlib.Core.List.{[], _∷_}
 use Prim.Native.Nat.{ℕ, _+_, _*_, _-_, _<_}
 use native.Mathlib.Omega.{arith}
 use lib.Dec.{ltb}
-use lib.ListN.{length, length-map}
+use lib.ListN.{length-map}
 use borrow.Author.Tests.{lt-ltb, ltb-false}
 use Rattle.model.specs.Instance.{_at_}
 use Rattle.model.specs.Held.{view}
 use Rattle.text.specs.Lines.{lineAt}
 use Rattle.text.specs.Forms.{form, rowOf}
-use Rattle.text.specs.declared.Verdict.the-variants.{Refused, Good}
-use Rattle.least.specs.Marks.{mark-of}
 use Rattle.tree.specs.Rendering.{split-key}
 use Rattle.tree.specs.NodeLines.{split-line, node-form, is-fixed}
 use Rattle.tree.specs.Coded.{marks-in, above-of, split-refusal}
 use Rattle.tree.proofs.Problems.{Sizes, valid-sizes}
 use Rattle.tree.proofs.Marked.{mark-there}
-use Rattle.tree.proofs.Rows.{row-moved}
+use Rattle.tree.proofs.Rows.{row-refused, row-moved}
 use Rattle.tree.proofs.Leaves.{line-refused}
 use Rattle.tree.proofs.SplitLines.{place-inside, none-refused, TwoValues, two-values, split-fails, split-read}
 use Rattle.tree.proofs.splitting.read_split_line.Statement.{statement}
 use Rattle.tree.proofs.splitting.read_split_line.Tie as tie
-use Rattle.text.proofs.read_line.Reads as read-line-reads
-use Rattle.tree.proofs.splitting.refuse_split.Reads as refuse-split-reads
 
 sizes : (c : tie.Start) → Sizes (c .args .problem)
 sizes c = valid-sizes (c .args .problem) (sym (length-map (c .args .problem .generators) _) ∙ c .good .0 .1 .1 .1 .1 .1 .1 .0 .1 .0 .1) (c .pre .0)
@@ -133,7 +130,8 @@ returns-2 c =
     let s = r .before .before .before .before .before in
     let a = s .args in
     let v = c .before .verdict .given in
-    line-refused (view (a .problem)) (a .text .now) (a .at) (above-of (a .problem .periods) (a .above)) (a .depth) split-line (s .pre .1 .1) (r .read-line .result) (is-row r) (v .0 .0) (v .1)
+    line-refused (view (a .problem)) (a .text .now) (a .at) (above-of (a .problem .periods) (a .above)) (a .depth) split-line (s .pre .1 .1) (v .0 .0)
+    (row-refused (node-form (view (a .problem)) split-line) (a .text .now) (a .at) (r .read-line .result) (is-row r) (v .0 .0) (v .1))
 
 returns-3 : tie.Need-returns-3
 unfolding view

@@ -1,11 +1,10 @@
+-- 31 first, then 32.
 use borrow.Author.Needs.{needs}
-use mathlib.Core.Path.{_≡_, refl, sym, _∙_}
-use mathlib.Core.Bool.{true, false}
+use mathlib.Core.Path.{refl, sym, _∙_}
 use borrow.Author.Tests.{lt-ltb, le-ltb}
 use Rattle.tree.specs.Coded.{split-refusal}
 use Rattle.tree.proofs.splitting.refuse_split.Statement.{statement}
 use Rattle.tree.proofs.splitting.refuse_split.Tie as tie
-use Rattle.tree.proofs.above.is_fixed.Reads as is-fixed-reads
 
 array-read-status : tie.Need-array-read-status
 array-read-status c = search needs

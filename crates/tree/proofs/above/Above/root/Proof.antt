@@ -1,3 +1,4 @@
+-- An array of zeros fixes nothing.
 use mathlib.Core.Path.{refl}
 use Rattle.tree.specs.Coded.{none-fixed}
 use Rattle.tree.proofs.above.Above.root.Statement.{statement}

@@ -1,7 +1,7 @@
 -- `blank` meets its contract: its generators are the blank one.
 use borrow.Author.Needs.{needs}
-use Rattle.model.proofs.problem.Problem.blank.Statement.{statement}
-use Rattle.model.proofs.problem.Problem.blank.Tie as tie
+use Rattle.model.proofs.arrays.Problem.blank.Statement.{statement}
+use Rattle.model.proofs.arrays.Problem.blank.Tie as tie
 
 blank-requires : tie.Need-blank-requires
 blank-requires c κs = search needs
