@@ -1,5 +1,5 @@
--- What a leaf answers: that a unit is stuck, or a least value (document 01, Rules for a leaf: a least cost is taken only when no
--- unit is stuck).
+-- What a leaf answers: that a unit is stuck, or a least value, which only a leaf without a stuck unit has (document 01, Rules for
+-- a leaf).
 use mathlib.Core.Bool.{Bool, cond}
 use mathlib.Core.List.{List}
 use Prim.Native.Nat.{ℕ, _+_}
@@ -23,6 +23,6 @@ leasts-of n q s gs m = cond (any-stuck n gs m) Stuck (Value (units-least n q s g
 abbrev pub leaf-of : Instance → Marks → (ℕ → ℕ) → (ℕ → ℕ) → Least
 leaf-of P m q s = cond (any-stuck (P .periods) (P .units) m) Stuck (Value (leaf-value P m q s))
 
--- whether `short` holds: the pU of the units not fixed off in period t sum to less than D + R
+-- whether `short` holds: what is available in period t is below D + R
 abbrev pub short-at : Instance → Marks → ℕ → Bool
 short-at P m t = ltb (available (P .units) m t) (P .demand at t + P .spare at t)

@@ -67,8 +67,7 @@ pub fn sum_offset(g: Generator, q: &[u64], s: &[u64]) -> u64
     sum
 }
 
-// The least value of the unit's cost less, for each period on, q·p + s·pU, over all runs that obey (5) to (10) and agree with the
-// fixed statuses (1 off, 2 on) and all outputs from pL to pU; or that it is stuck.
+// The unit's least value at the prices under the fixed statuses (1 off, 2 on), over all its runs and outputs; or that it is stuck.
 pub fn unit_least(g: Generator, q: &[u64], s: &[u64], fixed: &[u8]) -> Least
     requires { ⌜ GoodUnit g ⌝ }
     requires { ⌜ GoodPrices (length (now q)) (now q) (now s) × (length (now fixed) ≡ length (now q)) ⌝ }

@@ -1,4 +1,5 @@
--- When a number refuses a problem's text at a line, in the words of document 01's order, with no judging in them.
+-- When a number refuses a problem's text, whose first line is kind=problem, at a line: the lines before it are good at their
+-- places, and the number is the first whose test holds of it.
 use Prim.Native.Nat.{ℕ, _+_}
 use mathlib.Core.Path.{_≡_}
 use mathlib.Core.Bool.{true, false}

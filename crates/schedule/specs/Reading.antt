@@ -27,7 +27,7 @@ pub data Outcome : Type 0 where
   refused-by : Refusal → Outcome
   accepted-as : (writer cost : ℕ) → (rows : Schedule) → Outcome
 
--- ---- document 01, Order: a schedule's rules come after all its lines
+-- ---- document 01, Numbers that come from the docket: when all lines are good, the rules are judged
 
 abbrev pub by-rules : Instance → Written → Option Breach → Outcome
 by-rules P v (some b) = refused-by (refusalOf (b .number) 0 (b .unit) (b .period))

@@ -10,7 +10,7 @@ use Rattle.text.specs.Lines.{Line, missing, unended, ended, bytesOf, beg
 use Rattle.text.specs.declared.Verdict.the-variants.{Refused, Good}
 use Rattle.text.specs.declared.Row.{Row}
 
--- ---- document 01, Texts: values are decimal numbers joined by commas
+-- ---- document 01, Texts: the values of a line, between commas
 
 abbrev pub byComma : Bool → ℕ → List (List ℕ) → List (List ℕ)
 byComma true b fs = [] ∷ fs

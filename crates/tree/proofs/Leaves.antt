@@ -2,8 +2,9 @@
 use mathlib.Core.Path.{_≡_, refl, sym, ap, _∙_}
 use mathlib.Core.Bool.{Bool, true, false, not, cond}
 use mathlib.Core.List.{List, [], _∷_}
-use Prim.Native.Nat.{ℕ}
+use Prim.Native.Nat.{ℕ, _+_, _<_}
 use native.Mathlib.Omega.{arith}
+use lib.Dec.{ltb}
 use lib.IntN.{ℤ}
 use lib.ListN.{length, take}
 use Rattle.model.specs.Instance.{Instance, _at_}
@@ -11,7 +12,7 @@ use Rattle.model.specs.Ranges.{WellFormed}
 use Rattle.model.specs.Above.{Above}
 use Rattle.model.specs.Leaf.{stuck-at, any-stuck, leaf-value}
 use Rattle.model.specs.Tree.{never, number}
-use Rattle.model.proofs.Extents.{SameMarks, any-stuck-ext, leaf-value-ext}
+use Rattle.model.proofs.Extents.{SameMarks, available-ext, stuck-at-ext, any-stuck-ext, leaf-value-ext}
 use Rattle.text.specs.Lines.{Line, lineAt}
 use Rattle.text.specs.Forms.{rowOf}
 use Rattle.text.specs.Course.{refused, good}
@@ -19,12 +20,12 @@ use Rattle.text.specs.declared.Row.{Row}
 use Rattle.text.specs.declared.Verdict.the-variants.{Refused, Good}
 use Rattle.least.specs.declared.unit.Least.the-variants.{Stuck, Value}
 use Rattle.least.specs.Marks.{all-marks}
-use Rattle.least.specs.Answers.{leaf-of}
+use Rattle.least.specs.Answers.{short-at, leaf-of}
 use Rattle.tree.specs.Rendering.{price-key, reserve-key}
 use Rattle.tree.specs.Tests.{Test, _if_, found}
 use Rattle.tree.specs.NodeLines.{Kind, short-line, stuck-line, price-line, kind-of, node-form, reserve-form, numbers-of, named, Passes, split-again, too-deep, not-short, not-stuck, node-tests}
 use Rattle.tree.specs.Due.{Figures, with-leaf, Pending, pending, nodes-due, reserve-due, tests, next, after-node, judge}
-use Rattle.tree.specs.Coded.{marks-in, short-there}
+use Rattle.tree.specs.Coded.{marks-in}
 use Rattle.tree.specs.Reading.{LineRefused}
 use Rattle.tree.proofs.Rows.{passes-found, row-refused, row-passes, values-taken}
 use Rattle.tree.proofs.Marked.{marks-same}
@@ -60,15 +61,15 @@ module _ (P : Instance) (text : List ℕ) (here : ℕ) (A : Above) (d : ℕ) whe
   -- a leaf that names the period t
   module _ (e : kind-of (lineAt text here) ≡ short-line) (p : Passes (node-form P short-line) (lineAt text here)) (t : ℕ)
       (is : t ≡ named (node-form P short-line) (lineAt text here) 0) where
-    short-by : (b : Bool) → b ≡ short-there P (A .marks) t → not-short P A short-line (lineAt text here) ≡ not b
+    short-by : (b : Bool) → b ≡ short-at P (A .marks) t → not-short P A short-line (lineAt text here) ≡ not b
     unfolding not-short
-    short-by b s = ap not (sym (s ∙ ap (λ (x : ℕ). short-there P (A .marks) x) is))
+    short-by b s = ap not (sym (s ∙ ap (λ (x : ℕ). short-at P (A .marks) x) is))
 
-    pub short-holds : true ≡ short-there P (A .marks) t → AtNode P text here A d (λ F rest. good (nodes-due (with-leaf F never) rest))
+    pub short-holds : true ≡ short-at P (A .marks) t → AtNode P text here A d (λ F rest. good (nodes-due (with-leaf F never) rest))
     unfolding split-again too-deep not-stuck after-node
     short-holds s F rest = line-passed short-line e p F rest ∙ rw (short-by true s) refl
 
-    pub short-fails : false ≡ short-there P (A .marks) t → AtNode P text here A d (λ F rest. refused 33)
+    pub short-fails : false ≡ short-at P (A .marks) t → AtNode P text here A d (λ F rest. refused 33)
     unfolding split-again too-deep not-stuck after-node
     short-fails s F rest = line-passed short-line e p F rest ∙ rw (short-by false s) refl
 
@@ -94,6 +95,18 @@ module _ (P : Instance) (text : List ℕ) (here : ℕ) (A : Above) (d : ℕ) whe
   price-read e row is n v F rest =
       line-passed price-line e (row-passes (node-form P price-line) text here row is n v) F rest
       ∙ ap (λ (q : List ℕ). good (reserve-due F A q rest)) (sym (values-taken P price-key text here row is n v))
+
+-- ---- what the bytes say of short and stuck is what the marks say
+
+pub short-same : (P : Instance) (bytes : List ℕ) (t : ℕ) → t < P .periods → short-at P (all-marks (P .periods) bytes) t ≡ short-at P (marks-in (P .periods) bytes) t
+short-same P bytes t h =
+    ap (λ (x : ℕ). ltb x (P .demand at t + P .spare at t))
+    (available-ext (P .periods) (P .units) (all-marks (P .periods) bytes) (marks-in (P .periods) bytes) (marks-same (length (P .units)) (P .periods) bytes) t h)
+
+pub stuck-same : (P : Instance) (bytes : List ℕ) (U : ℕ)
+    → stuck-at (P .periods) (P .units) (all-marks (P .periods) bytes) U ≡ stuck-at (P .periods) (P .units) (marks-in (P .periods) bytes) U
+stuck-same P bytes U =
+    stuck-at-ext (P .periods) (P .units) (all-marks (P .periods) bytes) (marks-in (P .periods) bytes) (marks-same (length (P .units)) (P .periods) bytes) U
 
 -- ---- the reserve line of a price leaf
 

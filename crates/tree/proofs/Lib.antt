@@ -15,9 +15,7 @@ pub mod Marked
 pub mod Keys
 pub mod Leaves
 pub mod SplitLines
-pub mod Short
 pub mod Problems
-pub mod StuckUnits
 pub mod Texts
 pub mod ReadAnswers
 pub mod WellFormedTrees

@@ -1,13 +1,12 @@
 -- How the code holds what stands above a node and what was read so far, and what these mean.
 use mathlib.Core.Path.{_≡_}
-use mathlib.Core.Bool.{Bool, cond}
+use mathlib.Core.Bool.{cond}
 use mathlib.Core.List.{List}
 use Prim.Native.Nat.{ℕ, _+_}
 use lib.Dec.{ltb}
 use lib.ListN.{set, replicate}
-use Rattle.model.specs.Instance.{Instance, _at_}
+use Rattle.model.specs.Instance.{_at_}
 use Rattle.model.specs.Above.{free, Marks}
-use Rattle.model.specs.Leaf.{available}
 use Rattle.model.specs.Above as model
 use Rattle.model.specs.Tree.{never, number, lower}
 use Rattle.model.specs.Tree as model-tree
@@ -60,8 +59,3 @@ pub record LeafAdded (S : Tally) (b : Bound) (S′ : Tally) : Type 0 where
 -- the number that refuses a split on the status at a place, at depth d; or 0
 unfoldable pub split-refusal : Above → ℕ → ℕ → ℕ
 split-refusal a place d = cond (is-fixed (mark-of (a .fixed at place))) 31 (cond (ltb 63 d) 32 0)
-
--- ---- 33
-
-abbrev pub short-there : Instance → Marks → ℕ → Bool
-short-there P m t = ltb (available (P .units) m t) (P .demand at t + P .spare at t)

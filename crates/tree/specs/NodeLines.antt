@@ -27,7 +27,7 @@ kind-of l =
     (cond (begins stuck-key (bytesOf l)) stuck-line
     price-line))
 
--- U is 1 to I, P is 1 to T; T multipliers
+-- a unit and a period, each from 1 on; or a multiplier for each period
 abbrev pub node-form : Instance → Kind → Form
 node-form P split-line = form split-key 0 (1 ∷ 1 ∷ []) (length (P .units) ∷ P .periods ∷ [])
 node-form P short-line = plain short-key 1 1 (P .periods)
@@ -68,7 +68,7 @@ too-deep d short-line = false
 too-deep d stuck-line = false
 too-deep d price-line = false
 
--- 33: the pU of the units not fixed off reach D + R
+-- 33: what is available reaches D + R
 unfoldable pub not-short : Instance → Above → Kind → Line → Bool
 not-short P A split-line l = false
 not-short P A short-line l =

@@ -34,7 +34,7 @@ reserve-key = 114 ∷ 101 ∷ 115 ∷ 101 ∷ 114 ∷ 118 ∷ 101 ∷ 61 ∷ []
 abbrev pub numbers : List ℕ → List ℕ → List ℕ
 numbers key vs = rendered key 0 false vs
 
--- the lines of a tree: a split is its line and two trees, a price leaf is two lines. U and P count from 1 in texts
+-- the lines of a tree, a split's own before those of its trees; in texts units and periods count from 1
 unfoldable pub node-lines : Tree → List (List ℕ)
 node-lines (split U t x y) = numbers split-key (suc U ∷ suc t ∷ []) ∷ (node-lines x ++ node-lines y)
 node-lines (short t) = numbers short-key (suc t ∷ []) ∷ []

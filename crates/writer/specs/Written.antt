@@ -13,8 +13,7 @@ use Rattle.writer.specs.declared.Figure.the-variants.{Missing, Never, Nu
 abbrev pub over : List ℕ → List ℕ → List ℕ
 over l b = l ++ drop (length l) b
 
--- ---- document 01, The listing program: missing values print `none`, a bound of never prints `never`, and a negative
--- ---- number has a minus
+-- ---- document 01, The listing program: how a figure is shown, also one that is not there or not a number
 
 -- none
 abbrev pub none : List ℕ

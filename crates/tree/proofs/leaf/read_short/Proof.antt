@@ -1,8 +1,9 @@
 -- The line is the one that names a period, and what the code finds of the rule decides between good and 33.
 use borrow.Author.Needs.{needs}
-use mathlib.Core.Path.{refl, sym, _∙_}
+use mathlib.Core.Path.{_≡_, refl, sym, subst, _∙_}
+use native.Mathlib.Nat.{mul-le-mul-right}
 use native.Mathlib.Omega.{arith}
-use lib.ListN.{length-map}
+use lib.ListN.{length, length-map}
 use Rattle.model.specs.Held.{view}
 use Rattle.tree.specs.declared.figures.Bound.the-variants.{Never}
 use Rattle.tree.specs.declared.naming.NamedLine.the-variants.{Names}
@@ -12,12 +13,15 @@ use Rattle.tree.specs.Coded.{above-of}
 use Rattle.tree.specs.Reading.{NamedRead}
 use Rattle.tree.proofs.Problems.{Sizes, valid-sizes}
 use Rattle.tree.proofs.Steps.{leaf-done, leaf-refused}
-use Rattle.tree.proofs.Leaves.{line-refused, short-holds, short-fails}
+use Rattle.tree.proofs.Leaves.{line-refused, short-same, short-holds, short-fails}
 use Rattle.tree.proofs.leaf.read_short.Statement.{statement}
 use Rattle.tree.proofs.leaf.read_short.Tie as tie
 
 sizes : (c : tie.Start) → Sizes (c .args .problem)
 sizes c = valid-sizes (c .args .problem) (sym (length-map (c .args .problem .generators) _) ∙ c .good .0 .1 .1 .1 .1 .1 .1 .0 .1 .0 .1) (c .pre .0)
+
+fixed-long : (c : tie.Start) → length (c .args .above .fixed) ≡ 1536
+fixed-long c = search needs
 
 -- what the line is found to be, for the problem
 said : (c : tie.After-read-named) →
@@ -46,14 +50,23 @@ enum-known-found c = search needs
 enum-known-found-2 : tie.Need-enum-known-found-2
 enum-known-found-2 c = search needs
 
+slice-aggregate-is-short : tie.Need-slice-aggregate-is-short
+slice-aggregate-is-short c = search needs
+
 is-short-requires : tie.Need-is-short-requires
 unfolding view
 is-short-requires c κs =
-    let s = c .before .before .before .before .before .before in
-    (s .pre .0, omega (arith, names (c .before) .2, sizes s .units-long))
+    let s = c .before .before .before .before .before .before .before .before in
+    let z = sizes s in (
+      s .pre .0,
+      (
+        omega (arith, names (c .before .before .before) .2, z .units-long),
+        omega (arith, mul-le-mul-right (s .args .problem .periods) (z .most-units), z .most-periods, fixed-long s),
+      ),
+    )
 
-add-t17 : tie.Need-add-t17
-add-t17 c = search needs
+add-t20 : tie.Need-add-t20
+add-t20 c = search needs
 
 with-leaf-requires : tie.Need-with-leaf-requires
 with-leaf-requires c κs = search needs
@@ -61,7 +74,7 @@ with-leaf-requires c κs = search needs
 returns : tie.Need-returns
 unfolding view
 returns c =
-    let f = c .before .before .before .before in
+    let f = c .before .before .before .before .before .before in
     let s = f .before .before .before .before .before in
     let a = s .args in
     let g = f .found2 .given .0 in
@@ -69,7 +82,7 @@ returns c =
     let P = view (a .problem) in
     let A = above-of (a .problem .periods) (a .above) in
     leaf-done P (a .text .now) (a .at) (a .line) (a .tally) A Never (g .1 .0) (c .with-leaf .result)
-    (λ d. short-holds P (a .text .now) (a .at) A d (s .pre .1 .1) (n .0) (g .0) (n .1) (sym (c .before .if1 .taken) ∙ c .before .before .is-short .ensures))
+    (λ d. short-holds P (a .text .now) (a .at) A d (s .pre .1 .1) (n .0) (g .0) (n .1) (sym (c .before .if1 .taken) ∙ c .before .before .is-short .ensures ∙ short-same P (a .above .fixed) (g .0) (n .2)))
     (n .3) (c .with-leaf .ensures) (s .pre .1 .0)
 
 returns-2 : tie.Need-returns-2
@@ -87,14 +100,14 @@ returns-2 c =
 returns-3 : tie.Need-returns-3
 unfolding view
 returns-3 c =
-    let f = c .before .before .before in
+    let f = c .before .before .before .before .before in
     let s = f .before .before .before .before .before in
     let a = s .args in
     let n = names f in
     let P = view (a .problem) in
     let A = above-of (a .problem .periods) (a .above) in
     leaf-refused P (a .text .now) (a .at) (a .line) (a .tally) A 33
-    (λ d. short-fails P (a .text .now) (a .at) A d (s .pre .1 .1) (n .0) (f .found2 .given .0 .0) (n .1) (sym (c .if1 .left) ∙ c .before .is-short .ensures))
+    (λ d. short-fails P (a .text .now) (a .at) A d (s .pre .1 .1) (n .0) (f .found2 .given .0 .0) (n .1) (sym (c .if1 .left) ∙ c .before .is-short .ensures ∙ short-same P (a .above .fixed) (f .found2 .given .0 .0) (n .2)))
 
 pub read-short-spec : {M : Type 1} → statement M
 read-short-spec =
@@ -104,8 +117,9 @@ read-short-spec =
     read-named-requires
     enum-known-found
     enum-known-found-2
+    slice-aggregate-is-short
     is-short-requires
-    add-t17
+    add-t20
     with-leaf-requires
     returns
     returns-2

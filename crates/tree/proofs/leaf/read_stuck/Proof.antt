@@ -1,7 +1,8 @@
 -- The line is the one that names a unit, and what the code finds of the rule decides between good and 34.
 use borrow.Author.Needs.{needs}
-use mathlib.Core.Path.{refl, sym, subst, _∙_}
+use mathlib.Core.Path.{_≡_, refl, sym, subst, _∙_}
 use Prim.Native.Nat.{ℕ}
+use native.Mathlib.Nat.{mul-le-mul-right}
 use native.Mathlib.Omega.{arith}
 use lib.ListN.{length, length-map}
 use Rattle.model.specs.Held.{view}
@@ -13,12 +14,15 @@ use Rattle.tree.specs.Coded.{above-of}
 use Rattle.tree.specs.Reading.{NamedRead}
 use Rattle.tree.proofs.Problems.{Sizes, valid-sizes}
 use Rattle.tree.proofs.Steps.{leaf-done, leaf-refused}
-use Rattle.tree.proofs.Leaves.{line-refused, stuck-holds, stuck-fails}
+use Rattle.tree.proofs.Leaves.{line-refused, stuck-same, stuck-holds, stuck-fails}
 use Rattle.tree.proofs.leaf.read_stuck.Statement.{statement}
 use Rattle.tree.proofs.leaf.read_stuck.Tie as tie
 
 sizes : (c : tie.Start) → Sizes (c .args .problem)
 sizes c = valid-sizes (c .args .problem) (sym (length-map (c .args .problem .generators) _) ∙ c .good .0 .1 .1 .1 .1 .1 .1 .0 .1 .0 .1) (c .pre .0)
+
+fixed-long : (c : tie.Start) → length (c .args .above .fixed) ≡ 1536
+fixed-long c = search needs
 
 -- what the line is found to be, for the problem
 said : (c : tie.After-read-named) →
@@ -50,14 +54,23 @@ enum-known-found c = search needs
 enum-known-found-2 : tie.Need-enum-known-found-2
 enum-known-found-2 c = search needs
 
-is-stuck-requires : tie.Need-is-stuck-requires
-unfolding view
-is-stuck-requires c κs =
-    let s = c .before .before .before .before .before .before in
-    (s .pre .0, omega (arith, names (c .before) .2, sizes s .units-long))
+slice-aggregate-is-unit-stuck : tie.Need-slice-aggregate-is-unit-stuck
+slice-aggregate-is-unit-stuck c = search needs
 
-add-t17 : tie.Need-add-t17
-add-t17 c = search needs
+is-unit-stuck-requires : tie.Need-is-unit-stuck-requires
+unfolding view
+is-unit-stuck-requires c κs =
+    let s = c .before .before .before .before .before .before .before .before in
+    let z = sizes s in (
+      s .pre .0,
+      (
+        omega (arith, names (c .before .before .before) .2, z .units-long),
+        omega (arith, mul-le-mul-right (s .args .problem .periods) (z .most-units), z .most-periods, fixed-long s),
+      ),
+    )
+
+add-t20 : tie.Need-add-t20
+add-t20 c = search needs
 
 with-leaf-requires : tie.Need-with-leaf-requires
 with-leaf-requires c κs = search needs
@@ -65,7 +78,7 @@ with-leaf-requires c κs = search needs
 returns : tie.Need-returns
 unfolding view
 returns c =
-    let f = c .before .before .before .before in
+    let f = c .before .before .before .before .before .before in
     let s = f .before .before .before .before .before in
     let a = s .args in
     let g = f .found2 .given .0 in
@@ -73,7 +86,7 @@ returns c =
     let P = view (a .problem) in
     let A = above-of (a .problem .periods) (a .above) in
     leaf-done P (a .text .now) (a .at) (a .line) (a .tally) A Never (g .1 .0) (c .with-leaf .result)
-    (λ d. stuck-holds P (a .text .now) (a .at) A d (s .pre .1 .1) (n .0) (g .0) (n .1) (sym (c .before .if1 .taken) ∙ c .before .before .is-stuck .ensures))
+    (λ d. stuck-holds P (a .text .now) (a .at) A d (s .pre .1 .1) (n .0) (g .0) (n .1) (sym (c .before .if1 .taken) ∙ c .before .before .is-unit-stuck .ensures ∙ stuck-same P (a .above .fixed) (g .0)))
     (n .3) (c .with-leaf .ensures) (s .pre .1 .0)
 
 returns-2 : tie.Need-returns-2
@@ -91,14 +104,14 @@ returns-2 c =
 returns-3 : tie.Need-returns-3
 unfolding view
 returns-3 c =
-    let f = c .before .before .before in
+    let f = c .before .before .before .before .before in
     let s = f .before .before .before .before .before in
     let a = s .args in
     let n = names f in
     let P = view (a .problem) in
     let A = above-of (a .problem .periods) (a .above) in
     leaf-refused P (a .text .now) (a .at) (a .line) (a .tally) A 34
-    (λ d. stuck-fails P (a .text .now) (a .at) A d (s .pre .1 .1) (n .0) (f .found2 .given .0 .0) (n .1) (sym (c .if1 .left) ∙ c .before .is-stuck .ensures))
+    (λ d. stuck-fails P (a .text .now) (a .at) A d (s .pre .1 .1) (n .0) (f .found2 .given .0 .0) (n .1) (sym (c .if1 .left) ∙ c .before .is-unit-stuck .ensures ∙ stuck-same P (a .above .fixed) (f .found2 .given .0 .0)))
 
 pub read-stuck-spec : {M : Type 1} → statement M
 read-stuck-spec =
@@ -108,8 +121,9 @@ read-stuck-spec =
     read-named-requires
     enum-known-found
     enum-known-found-2
-    is-stuck-requires
-    add-t17
+    slice-aggregate-is-unit-stuck
+    is-unit-stuck-requires
+    add-t20
     with-leaf-requires
     returns
     returns-2
