@@ -1,0 +1,21 @@
+-- What the definitions imply.
+pub mod Carried
+pub mod OneVerdict
+pub mod ListVerdicts
+pub mod BestSoFar
+pub mod GoodVerdicts
+pub mod Soundness
+pub mod Reached
+pub mod Steps
+pub mod Lists
+pub mod Demand3
+pub mod Determined
+pub mod Consequences
+pub mod NextText
+pub mod Specimens
+pub mod WrongDockets
+pub mod WrongLodging
+pub mod SpecimenList
+pub mod Unsound
+pub mod Following
+pub mod Every

@@ -1,0 +1,102 @@
+-- The docket that the verdicts of a list determine, and that it is sound: what it holds is a member of the list, and members are small.
+use mathlib.Core.Path.{_≡_, refl, sym, subst}
+use mathlib.Core.Bool.{Bool, true, _&&_}
+use mathlib.Core.List.{List}
+use mathlib.Core.Option.{Option, none, some}
+use Prim.Native.Nat.{ℕ}
+use native.Mathlib.Omega.{arith}
+use lib.Dec.{T, ltb}
+use lib.IntN.{ℤ, pos, negsuc}
+use lib.ListN.{replicate}
+use Rattle.model.specs.Instance.{Instance}
+use Rattle.model.specs.Ranges.{WellFormed, All}
+use Rattle.model.specs.Held as arrays
+use Rattle.model.specs.Held.{pad}
+use Rattle.model.specs.Above.{root}
+use Rattle.model.specs.Tree.{Bound, never, number}
+use Rattle.model.proofs.Tests.{T-and}
+use Rattle.model.proofs.Lists.{held-after, IsFirst, cheaper, raises, held-least, held-highest}
+use Rattle.model.proofs.CostSizes.{meets-small, cost-fits}
+use Rattle.model.proofs.LeafSizes.{Fits, bound-fits}
+use Rattle.judge.specs.Rows.{joined}
+use Rattle.tree.specs.Due.{Figures}
+use Rattle.docket.specs.declared.Docket.{Docket}
+use Rattle.docket.specs.declared.held.HeldCost.{HeldCost}
+use Rattle.docket.specs.declared.held.HeldCost.the-variants as cost
+use Rattle.docket.specs.declared.held.HeldBound.{HeldBound}
+use Rattle.docket.specs.declared.held.HeldBound.the-variants as bound
+use Rattle.docket.specs.Docket.{fresh-docket, valid-problem, size-limit, small-cost, small-bound, small-number, sound}
+use Rattle.docket.specs.Verdicts.{Costed, Verdict, schedules, trees}
+use Rattle.docket.specs.Lodging.{bound-by}
+use Rattle.docket.proofs.BestSoFar.{first-mem}
+use Rattle.docket.proofs.GoodVerdicts.{GoodSchedule, GoodTree, all-mem, Proper}
+use Rattle.docket.proofs.Soundness.{T-true, held-passes, small-natural}
+
+-- ---- the docket that the verdicts so far determine
+
+abbrev pub by-cost : Costed → Costed → Bool
+by-cost = cheaper (λ (s : Costed). s .cost)
+
+abbrev pub by-bound : Figures → Figures → Bool
+by-bound = raises (λ (F : Figures). F .bound)
+
+-- what is held of the accepted schedules and of the accepted trees
+abbrev pub least : List Verdict → Option Costed
+least past = held-after by-cost none (schedules past)
+
+abbrev pub highest : List Verdict → Option Figures
+highest past = held-after by-bound none (trees past)
+
+abbrev pub cost-kept : Option Costed → HeldCost
+cost-kept none = cost.Nothing
+cost-kept (some s) = cost.Number (record { cost = s .cost; writer = s .writer })
+
+abbrev pub rows-kept : Option Costed → List ℕ
+rows-kept none = replicate 1536 0
+rows-kept (some s) = pad 0 1536 (joined (s .rows))
+
+abbrev pub bound-kept : Option Figures → HeldBound
+bound-kept none = bound.Nothing
+bound-kept (some F) = bound-by (F .bound) (F .writer)
+
+abbrev pub docket-under : Instance → Option Costed → Option Figures → Docket
+docket-under P c b = record { known = true; problem = arrays.held P; held = record { cost = cost-kept c; bound = bound-kept b }; rows = rows-kept c }
+
+abbrev pub docket-of : Option Instance → List Verdict → Docket
+docket-of none past = fresh-docket
+docket-of (some P) past = docket-under P (least past) (highest past)
+
+-- ---- it is sound
+
+module _ (P : Instance) (W : WellFormed P) where
+  cost-small : (c : Option Costed) (l : List Costed) → IsFirst by-cost c l → All (GoodSchedule P) l → small-cost (cost-kept c) ≡ true
+  cost-small none l f g = refl
+  cost-small (some h) l f g =
+      let s = all-mem (GoodSchedule P) l g h (first-mem by-cost h l f) in
+      let e = s .cost-is in
+      T-true _ (small-natural (h .cost) (omega (arith, cost-fits P W (h .rows) (meets-small P W (h .rows) (s .meets)))))
+
+  number-small : (z : ℤ) → Fits (number z) → T (small-number z)
+  number-small (pos n) f = small-natural n (omega arith)
+  number-small (negsuc n) f = T-and (ltb n size-limit) true (small-natural n (omega arith)) tt
+
+  fits-small : (b : Bound) (w : ℕ) → Fits b → small-bound (bound-by b w) ≡ true
+  fits-small never w f = refl
+  fits-small (number z) w f = T-true (small-number z) (number-small z f)
+
+  bound-small : (b : Option Figures) (l : List Figures) → IsFirst by-bound b l → All (GoodTree P) l → small-bound (bound-kept b) ≡ true
+  bound-small none l f g = refl
+  bound-small (some h) l f g =
+      let t = all-mem (GoodTree P) l g h (first-mem by-bound h l f) in
+      fits-small (h .bound) (h .writer) (subst Fits (sym (t .bound-is)) (bound-fits P W root 0 (t .its) (t .within)))
+
+both-true : (a b c : Bool) → a ≡ true → b ≡ true → c ≡ true → (a && (b && c)) ≡ true
+both-true a b c p q r = simp (p, q, r)
+
+pub docket-sound : (o : Option Instance) (past : List Verdict) → Proper o past → sound (docket-of o past) ≡ true
+unfolding sound
+docket-sound none past p = refl
+docket-sound (some P) past p =
+    both-true (valid-problem (arrays.held P)) (small-cost (cost-kept (least past))) (small-bound (bound-kept (highest past)))
+    (held-passes P (p .0)) (cost-small P (p .0) (least past) (schedules past) (held-least (λ (s : Costed). s .cost) (schedules past)) (p .1 .0))
+    (bound-small P (p .0) (highest past) (trees past) (held-highest (λ (F : Figures). F .bound) (trees past)) (p .1 .1))

@@ -1,0 +1,126 @@
+-- Demand 3: what holds after every list of texts that is lodged from a fresh docket.
+use mathlib.Core.Path.{_≡_}
+use mathlib.Core.Bool.{Bool, true, false}
+use mathlib.Core.List.{List, [], _∷_, _++_, map}
+use mathlib.Core.Option.{Option, none, some}
+use Prim.Native.Nat.{ℕ}
+use lib.Dec.{ltb}
+use lib.IntN.{pos}
+use lib.Signed.{_≤ℤ_}
+use lib.ListN.{replicate}
+use Rattle.model.specs.Instance.{Instance, Schedule}
+use Rattle.model.specs.Rules.{Meets}
+use Rattle.model.specs.Cost as model
+use Rattle.model.specs.Held as arrays
+use Rattle.model.specs.Held.{pad}
+use Rattle.model.specs.Tree.{Bound, never, number}
+use Rattle.model.specs.Best.{higher, FirstLeast, FirstHighest}
+use Rattle.judge.specs.Rows.{joined}
+use Rattle.tree.specs.Due.{Figures}
+use Rattle.docket.specs.declared.Docket.{Docket}
+use Rattle.docket.specs.declared.Lodged.{Lodged}
+use Rattle.docket.specs.declared.held.CostBy.{CostBy}
+use Rattle.docket.specs.declared.held.HeldCost.{HeldCost}
+use Rattle.docket.specs.declared.held.HeldCost.the-variants as cost
+use Rattle.docket.specs.declared.held.HeldBound.{HeldBound}
+use Rattle.docket.specs.declared.held.HeldBound.the-variants as bound
+use Rattle.docket.specs.declared.answer.Answer.{Answer}
+use Rattle.docket.specs.Docket.{fresh-docket, every}
+use Rattle.docket.specs.Answers as answers
+use Rattle.docket.specs.Answers.{Values, no-values, its-cost, its-bound, Stated, stated}
+use Rattle.docket.specs.Verdicts.{Costed, Verdict, refused, problem, schedule, tree, schedules, trees, known-at-end}
+use Rattle.docket.specs.Texts.{Are}
+
+-- ---- a list of texts, lodged one after the other
+
+module _ (lodge : Docket → List ℕ → Lodged) where
+  abbrev pub docket-after : Docket → List (List ℕ) → Docket
+  docket-after d [] = d
+  docket-after d (text ∷ texts) = docket-after (lodge d text .docket) texts
+
+  abbrev pub answers-to : Docket → List (List ℕ) → List Answer
+  answers-to d [] = []
+  answers-to d (text ∷ texts) = lodge d text .answer ∷ answers-to (lodge d text .docket) texts
+
+-- ---- the answers that are due
+
+abbrev pub held-if : Bool → Values → Stated
+held-if true v = answers.held v
+held-if false v = answers.passed v
+
+-- a schedule is held if it costs less than every one accepted before it, a tree if its bound is higher than every one's
+abbrev pub answer-due : List Verdict → Verdict → Stated
+answer-due past (refused r) = answers.refused (r .number) (r .line) (r .unit) (r .period)
+answer-due past (problem P) = answers.held no-values
+answer-due past (schedule s) = held-if (every (λ x. ltb (s .cost) (x .cost)) (schedules past)) (its-cost (s .cost))
+answer-due past (tree F) = held-if (every (λ G. higher (F .bound) (G .bound)) (trees past)) (its-bound (F .bound) (F .splits) (F .leaves))
+
+abbrev pub answers-due : List Verdict → List Verdict → List Stated
+answers-due past [] = []
+answers-due past (v ∷ vs) = answer-due past v ∷ answers-due (past ++ (v ∷ [])) vs
+
+-- ---- what is held, under the problem P
+
+-- a schedule is held with this cost, writer and rows: of the accepted ones the first with the least cost. It meets the rules, and the
+-- cost is that of (1)
+pub record HoldsSchedule (P : Instance) (accepted : List Costed) (by : CostBy) (rows : List ℕ) : Type 0 where
+  pub best : Costed
+  pub first : FirstLeast (λ x. x .cost) best accepted
+  pub held-cost : by .cost ≡ best .cost
+  pub held-writer : by .writer ≡ best .writer
+  pub held-rows : rows ≡ pad 0 1536 (joined (best .rows))
+  pub meets : Meets P (best .rows)
+  pub cost-is : best .cost ≡ model.cost P (best .rows)
+
+-- a schedule is held exactly when one was accepted
+abbrev pub CostHeld : Instance → List Costed → HeldCost → List ℕ → Type 0
+CostHeld P accepted cost.Nothing rows = (accepted ≡ []) × (rows ≡ replicate 1536 0)
+CostHeld P accepted (cost.Number by) rows = HoldsSchedule P accepted by rows
+
+-- the bound b of the writer w is held: of the accepted trees the first with the highest bound gave it
+pub record HoldsBound (accepted : List Figures) (b : Bound) (w : ℕ) : Type 0 where
+  pub best : Figures
+  pub first : FirstHighest (λ F. F .bound) best accepted
+  pub held-bound : b ≡ best .bound
+  pub held-writer : w ≡ best .writer
+
+-- a bound is held exactly when a tree was accepted. Every schedule of whole outputs that meets the rules, lodged or not, costs at
+-- least a held number, and none meets them where never is held
+abbrev pub BoundHeld : Instance → List Figures → HeldBound → Type 0
+BoundHeld P accepted bound.Nothing = accepted ≡ []
+BoundHeld P accepted (bound.Number by) =
+    HoldsBound accepted (number (by .value)) (by .writer) × ((s : Schedule) → Meets P s → by .value ≤ℤ pos (model.cost P s))
+BoundHeld P accepted (bound.Never by) = HoldsBound accepted never (by .writer) × ((s : Schedule) → Meets P s → ⊥)
+
+pub record HoldsUnder (P : Instance) (vs : List Verdict) (d : Docket) : Type 0 where
+  pub known : d .known ≡ true
+  pub problem-is : d .problem ≡ arrays.held P
+  pub cost-held : CostHeld P (schedules vs) (d .held .cost) (d .rows)
+  pub bound-held : BoundHeld P (trees vs) (d .held .bound)
+
+-- the problem held is the first accepted one; where there is none nothing is held
+abbrev pub Holding : Option Instance → List Verdict → Docket → Type 0
+Holding none vs d = d ≡ fresh-docket
+Holding (some P) vs d = HoldsUnder P vs d
+
+-- ---- the whole
+
+-- an answer after which nothing may have changed
+abbrev pub Unheld : Stated → Type 0
+Unheld (answers.refused n l u t) = Unit {0}
+Unheld (answers.held v) = ⊥
+Unheld (answers.passed v) = Unit {0}
+
+module _ (lodge : Docket → List ℕ → Lodged) where
+  -- after one list
+  pub record After (texts : List (List ℕ)) : Type 0 where
+    pub verdicts : List Verdict
+    pub texts-are : Are none texts verdicts
+    pub answers-are : map stated (answers-to lodge fresh-docket texts) ≡ answers-due [] verdicts
+    pub holds : Holding (known-at-end none verdicts) verdicts (docket-after lodge fresh-docket texts)
+    pub unchanged : (text : List ℕ) → Unheld (stated (lodge (docket-after lodge fresh-docket texts) text .answer))
+        → lodge (docket-after lodge fresh-docket texts) text .docket ≡ docket-after lodge fresh-docket texts
+
+  -- after every list
+  abbrev pub Demand3 : Type 0
+  Demand3 = (texts : List (List ℕ)) → After texts

@@ -1,0 +1,77 @@
+-- Document 01, The docket and its report: what a docket holds.
+use mathlib.Core.Bool.{Bool, true, false, _&&_}
+use mathlib.Core.List.{List, [], _∷_}
+use Prim.Native.Nat.{ℕ}
+use lib.Dec.{ltb}
+use lib.IntN.{ℤ, pos, negsuc}
+use lib.Signed.{ltZ}
+use lib.ListN.{take, replicate}
+use Rattle.model.specs.declared.generator.Generator.{Generator}
+use Rattle.model.specs.declared.arrays.Problem.{Problem}
+use Rattle.model.specs.Ranges.{between, in-range, ordered}
+use Rattle.model.specs.Held.{blank-problem}
+use Rattle.docket.specs.declared.Docket.{Docket}
+use Rattle.docket.specs.declared.held.Held.{Held}
+use Rattle.docket.specs.declared.held.HeldCost.{HeldCost}
+use Rattle.docket.specs.declared.held.HeldCost.the-variants as cost
+use Rattle.docket.specs.declared.held.HeldBound.{HeldBound}
+use Rattle.docket.specs.declared.held.HeldBound.the-variants as bound
+
+abbrev pub nothing-held : Held
+nothing-held = record { cost = cost.Nothing; bound = bound.Nothing }
+
+-- a fresh docket holds nothing
+abbrev pub fresh-docket : Docket
+fresh-docket = record { known = false; problem = blank-problem; held = nothing-held; rows = replicate 1536 0 }
+
+-- ---- whether a value of the struct can be a docket that lodging made. A struct carries no such promise of its own
+
+abbrev pub every : {A : Type 0} → (A → Bool) → List A → Bool
+every test [] = true
+every test (x ∷ l) = test x && every test l
+
+abbrev pub load-in-range : ℕ → Bool
+load-in-range v = between 0 v 320000
+
+abbrev pub good-generator : Generator → Bool
+good-generator g = in-range g && ordered g
+
+-- the arrays hold a well-formed problem
+unfoldable pub valid-problem : Problem → Bool
+valid-problem p =
+    between 1 (p .periods) 48 && (between 1 (p .units) 32 && (every load-in-range (take (p .periods) (p .demand))
+    && (every load-in-range (take (p .periods) (p .spare)) && every good-generator (take (p .units) (p .generators)))))
+
+-- 2^61: a sum or difference of two such figures fits an i64
+abbrev pub size-limit : ℕ
+size-limit = 2305843009213693952
+
+-- above -2^61 - 1 and below 2^61
+abbrev pub small-number : ℤ → Bool
+small-number z = ltZ (negsuc size-limit) z && ltZ z (pos size-limit)
+
+abbrev pub small-cost : HeldCost → Bool
+small-cost cost.Nothing = true
+small-cost (cost.Number n) = ltb (n .cost) size-limit
+
+abbrev pub small-bound : HeldBound → Bool
+small-bound bound.Nothing = true
+small-bound (bound.Number n) = small-number (n .value)
+small-bound (bound.Never n) = true
+
+abbrev pub no-cost : HeldCost → Bool
+no-cost cost.Nothing = true
+no-cost (cost.Number n) = false
+
+abbrev pub no-bound : HeldBound → Bool
+no-bound bound.Nothing = true
+no-bound (bound.Number n) = false
+no-bound (bound.Never n) = false
+
+-- under a known problem, which is valid, the figures are small; where none is known nothing is held
+abbrev pub sound-by : Bool → Problem → Held → Bool
+sound-by true p h = valid-problem p && (small-cost (h .cost) && small-bound (h .bound))
+sound-by false p h = no-cost (h .cost) && no-bound (h .bound)
+
+unfoldable pub sound : Docket → Bool
+sound d = sound-by (d .known) (d .problem) (d .held)

@@ -1,0 +1,45 @@
+-- What the code of lodging follows: what is done with the answers of the readers of problems, schedules and trees.
+use mathlib.Core.List.{List}
+use Prim.Native.Nat.{ℕ}
+use Rattle.problem.specs.declared.ProblemAnswer.{ProblemAnswer}
+use Rattle.problem.specs.declared.ProblemAnswer.the-variants as problem-answer
+use Rattle.model.specs.declared.arrays.Problem.{Problem}
+use Rattle.schedule.specs.declared.ScheduleAnswer.{ScheduleAnswer}
+use Rattle.schedule.specs.declared.ScheduleAnswer.the-variants as schedule-answer
+use Rattle.schedule.specs.declared.Priced.{Priced}
+use Rattle.tree.specs.declared.TreeRead.{TreeRead}
+use Rattle.tree.specs.declared.TreeRead.the-variants as tree-answer
+use Rattle.tree.specs.Coded.{bound-of}
+use Rattle.docket.specs.declared.Docket.{Docket}
+use Rattle.docket.specs.declared.Lodged.{Lodged}
+use Rattle.docket.specs.declared.held.HeldCost.the-variants as cost
+use Rattle.docket.specs.declared.answer.Answer.the-variants.{Refused, ProblemHeld, ScheduleHeld, SchedulePassed, TreeHeld, TreePassed}
+use Rattle.docket.specs.declared.answer.TreeFigures.{TreeFigures}
+use Rattle.docket.specs.Lodging.{pick, lodged, with-held, with-problem, is-less, is-higher, bound-by}
+
+-- a problem's text, read
+abbrev pub hold-problem : Docket → ProblemAnswer → Problem → Lodged
+hold-problem was (problem-answer.Refused r) p = lodged was (Refused r)
+hold-problem was problem-answer.Accepted p = lodged (with-problem p) ProblemHeld
+
+-- a schedule's, with its rows in an array
+abbrev pub hold-rows : Docket → Docket → Priced → List ℕ → Lodged
+hold-rows was d s rows =
+    pick (is-less (s .cost) (d .held .cost))
+    (lodged (with-held d (record { cost = cost.Number (record { cost = s .cost; writer = s .writer }); bound = d .held .bound }) rows) (ScheduleHeld (s .cost)))
+    (lodged was (SchedulePassed (s .cost)))
+
+abbrev pub hold-schedule : Docket → Docket → ScheduleAnswer → List ℕ → Lodged
+hold-schedule was d (schedule-answer.Refused r) rows = lodged was (Refused r)
+hold-schedule was d (schedule-answer.Accepted s) rows = hold-rows was d s rows
+
+-- a tree's, with its figures
+abbrev pub hold-figures : Docket → Docket → ℕ → TreeFigures → Lodged
+hold-figures was d w f =
+    pick (is-higher (bound-of (f .bound)) (d .held .bound))
+    (lodged (with-held d (record { cost = d .held .cost; bound = bound-by (bound-of (f .bound)) w }) (d .rows)) (TreeHeld f))
+    (lodged was (TreePassed f))
+
+abbrev pub hold-tree : Docket → Docket → TreeRead → Lodged
+hold-tree was d (tree-answer.Refused r) = lodged was (Refused r)
+hold-tree was d (tree-answer.Accepted w b m n) = hold-figures was d w (record { bound = b; splits = m; leaves = n })

@@ -1,0 +1,47 @@
+// The docket: what it holds, and what lodging a text answers.
+ghost use mathlib.Core.Path.{_≡_};
+ghost use Rattle.docket.specs.Docket.{fresh-docket};
+use crate::answer::Answer;
+use crate::held::Held;
+use crate::held::HeldBound;
+use crate::held::HeldCost;
+use model::arrays::Problem;
+
+pub mod admission;
+pub mod answer;
+pub mod held;
+pub mod holding;
+mod sound;
+
+// A problem if one is known, what is held under it, and the held schedule's rows: row u from u times T on, zeros after the last.
+pub struct Docket {
+    pub known: bool,
+    pub problem: Problem,
+    pub held: Held,
+    pub rows: [u16; 1536],
+}
+
+// The docket after a text was lodged in it, and the answer to the text.
+pub struct Lodged {
+    pub docket: Docket,
+    pub answer: Answer,
+}
+
+impl Docket {
+    // A docket that holds nothing.
+    pub fn fresh() -> Docket
+        ensures { λ r. ⌜ r ≡ fresh-docket ⌝ }
+    {
+        let problem = Problem::blank();
+        let held = Held {
+            cost: HeldCost::Nothing,
+            bound: HeldBound::Nothing,
+        };
+        Docket {
+            known: false,
+            problem,
+            held,
+            rows: [0; 1536],
+        }
+    }
+}
