@@ -25,7 +25,7 @@ use Rattle.docket.proofs.Demand3.{demand3}
 use Rattle.docket.proofs.Determined.{answers-are-due}
 use Rattle.docket.proofs.Specimens.{problem-text, rows, one-split, lone-price, figures, is-empty, is-early, is-problem, is-second, is-cheap, is-cheap-too, is-dear, is-steep, is-under, is-low, is-tree, is-lone-price, is-not-short}
 
--- the empty text; the tree too early; the problem, twice; six schedules; two trees; short=2 and stuck=1
+-- the empty text; the tree too early; the problem, twice; six schedules; two trees; short=2
 pub texts : List (List ℕ)
 texts =
     [] ∷ trees.render 3 one-split ∷ problem-text ∷ problem-text ∷ schedules.render 7 (rows 50 80 10 20) ∷ schedules.render 7 (rows 60 80 0 20)
