@@ -1,6 +1,7 @@
--- Lodging, by what the readers give: an admitted text is of its kind, and what lodging does with its verdict is what is done with its reader's answer.
-use mathlib.Core.Path.{_≡_, refl}
-use mathlib.Core.Bool.{Bool, true, false}
+-- Lodging, by what the readers give: an admitted text is of its kind, what lodging does with its verdict is what is done with its reader's answer, and
+-- it is done over the docket where that is sound and else over a fresh one.
+use mathlib.Core.Path.{_≡_, refl, _∙_}
+use mathlib.Core.Bool.{Bool, true, false, _&&_}
 use mathlib.Core.List.{List}
 use Prim.Native.Nat.{ℕ, _≤_, _<_}
 use native.Mathlib.Omega.{arith}
@@ -8,7 +9,9 @@ use lib.Dec.{ltb}
 use lib.ListN.{length}
 use borrow.Author.Tests.{ltb-false, lt-ltb, le-ltb}
 use Rattle.model.specs.Instance.{Instance}
+use Rattle.model.specs.Held.{view}
 use Rattle.model.specs.Tree.{Bound, never, number}
+use Rattle.refusal.specs.declared.Refusal.{Refusal}
 use Rattle.text.specs.Lines.{lineAt, kindOf}
 use Rattle.text.specs.Course.{Judged, refused-at, accepted}
 use Rattle.text.specs.declared.Kind.{Kind}
@@ -25,8 +28,10 @@ use Rattle.tree.specs.Reading.{coded, tree-read}
 use Rattle.docket.specs.declared.Docket.{Docket}
 use Rattle.docket.specs.declared.admission.Admission.{Admission}
 use Rattle.docket.specs.declared.admission.Admission.the-variants as admission
+use Rattle.docket.specs.declared.answer.Answer.the-variants.{Refused}
+use Rattle.docket.specs.Docket.{fresh-docket, valid-problem, sound}
 use Rattle.docket.specs.Texts.{Short}
-use Rattle.docket.specs.Lodging.{pick, refuse-whole, admit-kind, admit, by-problem, by-schedule, by-tree, hold}
+use Rattle.docket.specs.Lodging.{pick, refuse-whole, admit-kind, admit, by-problem, by-schedule, by-tree, by-lines, judged, lodged, hold, lodge-of}
 use Rattle.docket.specs.Following.{hold-problem, hold-schedule, hold-tree}
 
 -- ---- admitted
@@ -128,3 +133,49 @@ module _ (was d : Docket) (text : List ℕ) where
       go : (j : Judged Figures) → hold was d (by-tree j) ≡ hold-tree was d (tree-reading.read-as j)
       go (refused-at n l) = refl
       go (accepted F) = rw (coded-back (F .bound)) refl
+
+-- ---- by the admission
+
+module _ (was d : Docket) (known : Bool) (P : Instance) (text : List ℕ) where
+  by-admission : (a : Admission) → admit known text ≡ a → hold was d (judged known P text) ≡ hold was d (by-lines a P text)
+  unfolding judged
+  by-admission a e = rw e refl
+
+  pub refused-lodged : (r : Refusal) → admit known text ≡ admission.Refused r → hold was d (judged known P text) ≡ lodged was (Refused r)
+  refused-lodged r e = by-admission (admission.Refused r) e
+
+  pub problem-lodged : admit known text ≡ admission.Problem
+      → hold was d (judged known P text) ≡ hold-problem was (problem-read text .answer) (problem-read text .problem)
+  problem-lodged e = by-admission admission.Problem e ∙ problem-held was d text
+
+  pub schedule-lodged : admit known text ≡ admission.Schedule
+      → hold was d (judged known P text) ≡ hold-schedule was d (schedule-read P text .answer) (schedule-read P text .rows)
+  schedule-lodged e = by-admission admission.Schedule e ∙ schedule-held was d text P
+
+  pub tree-lodged : admit known text ≡ admission.Tree → hold was d (judged known P text) ≡ hold-tree was d (tree-read P text)
+  tree-lodged e = by-admission admission.Tree e ∙ tree-held was d text P
+
+-- ---- sound or not
+
+-- a sound docket's known problem passes
+pub sound-valid : (d : Docket) → sound d ≡ true → d .known ≡ true → valid-problem (d .problem) ≡ true
+unfolding sound
+sound-valid d e k = first (valid-problem (d .problem)) _ (rw k at e)
+  where
+    first : (a b : Bool) → a && b ≡ true → a ≡ true
+    first true b e = refl
+    first false b e = e
+
+pub fresh-sound : sound fresh-docket ≡ true
+unfolding sound
+fresh-sound = refl
+
+-- lodging over the docket itself, or over a fresh one
+pub lodge-sound : (d : Docket) (text : List ℕ) → sound d ≡ true → lodge-of d text ≡ hold d d (judged (d .known) (view (d .problem)) text)
+unfolding lodge-of
+lodge-sound d text e = rw e refl
+
+pub lodge-unsound : (d : Docket) (text : List ℕ) → sound d ≡ false
+    → lodge-of d text ≡ hold d fresh-docket (judged false (view (fresh-docket .problem)) text)
+unfolding lodge-of
+lodge-unsound d text e = rw e refl

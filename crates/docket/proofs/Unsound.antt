@@ -12,11 +12,7 @@ use Rattle.docket.specs.Answers.{stated}
 use Rattle.docket.specs.Verdicts.{Verdict, refused, problem, schedule, tree}
 use Rattle.docket.specs.Lodging.{judged, hold, lodge-of}
 use Rattle.docket.specs.Demand3.{Unheld}
-
-lodge-unsound : (d : Docket) → sound d ≡ false → (text : List ℕ)
-    → lodge-of d text ≡ hold d fresh-docket (judged false (view (fresh-docket .problem)) text)
-unfolding lodge-of
-lodge-unsound d e text = rw e refl
+use Rattle.docket.proofs.Following.{lodge-unsound}
 
 lodge-fresh : (text : List ℕ) → lodge-of fresh-docket text ≡ hold fresh-docket fresh-docket (judged false (view (fresh-docket .problem)) text)
 unfolding lodge-of sound
@@ -31,7 +27,7 @@ same-answer d e (tree F) = refl
 
 pub unsound-answer : (d : Docket) (text : List ℕ) → sound d ≡ false → lodge-of d text .answer ≡ lodge-of fresh-docket text .answer
 unsound-answer d text e =
-    ap (λ (l : Lodged). l .answer) (lodge-unsound d e text)
+    ap (λ (l : Lodged). l .answer) (lodge-unsound d text e)
     ∙ same-answer d fresh-docket (judged false (view (fresh-docket .problem)) text)
     ∙ ap (λ (l : Lodged). l .answer) (sym (lodge-fresh text))
 
@@ -44,6 +40,6 @@ held-docket d (tree F) n = refl
 pub unsound-held : (d : Docket) (text : List ℕ) → sound d ≡ false → (Unheld (stated (lodge-of d text .answer)) → ⊥)
     → lodge-of d text .docket ≡ lodge-of fresh-docket text .docket
 unsound-held d text e n =
-    ap (λ (l : Lodged). l .docket) (lodge-unsound d e text)
-    ∙ held-docket d (judged false (view (fresh-docket .problem)) text) (λ u. n (subst (λ (l : Lodged). Unheld (stated (l .answer))) (sym (lodge-unsound d e text)) u))
+    ap (λ (l : Lodged). l .docket) (lodge-unsound d text e)
+    ∙ held-docket d (judged false (view (fresh-docket .problem)) text) (λ u. n (subst (λ (l : Lodged). Unheld (stated (l .answer))) (sym (lodge-unsound d text e)) u))
     ∙ ap (λ (l : Lodged). l .docket) (sym (lodge-fresh text))

@@ -3,14 +3,20 @@ ghost use mathlib.Core.Path.{_≡_};
 ghost use Prim.Native.Nat.{ℕ, _≤_};
 ghost use lib.ListN.{take};
 ghost use Rattle.model.specs.Ranges.{between};
-ghost use Rattle.docket.specs.Docket.{every, load-in-range, good-generator, valid-problem, small-cost, no-cost, no-bound};
+ghost use Rattle.docket.specs.Docket.{every, load-in-range, good-generator, valid-problem, small-number, small-cost, small-bound, no-cost, no-bound, sound};
+use crate::Docket;
 use crate::held::HeldBound;
 use crate::held::HeldCost;
-use model::generator::Generator;
 use model::arrays::Problem;
+use model::generator::Generator;
 
 // The figures of a docket are below this, 2^61.
 const SIZE_LIMIT: u64 = 2_305_843_009_213_693_952;
+
+// A held bound is below this, 2^61, and above the next, -2^61 - 1.
+const BOUND_LIMIT: i64 = 2_305_843_009_213_693_952;
+
+const BOUND_FLOOR: i64 = -2_305_843_009_213_693_953;
 
 // Whether v lies from least to most, both allowed.
 fn is_between(least: u64, v: u64, most: u64) -> bool
@@ -76,6 +82,27 @@ fn is_small_cost(held: HeldCost) -> bool
     }
 }
 
+// Whether z lies between the limits of a held bound.
+fn is_small_number(z: i64) -> bool
+    ensures { λ r. ⌜ r ≡ small-number z ⌝ }
+{
+    if BOUND_FLOOR < z {
+        return z < BOUND_LIMIT;
+    }
+    false
+}
+
+// Whether no bound, never, or a number between the limits is held.
+fn is_small_bound(held: HeldBound) -> bool
+    ensures { λ r. ⌜ r ≡ small-bound held ⌝ }
+{
+    match held {
+        HeldBound::Nothing => true,
+        HeldBound::Number(n) => is_small_number(n.value),
+        HeldBound::Never(_) => true,
+    }
+}
+
 // Whether no cost is held.
 fn is_no_cost(held: HeldCost) -> bool
     ensures { λ r. ⌜ r ≡ no-cost held ⌝ }
@@ -114,6 +141,28 @@ fn is_valid(problem: Problem) -> bool
                 }
             }
         }
+    }
+    false
+}
+
+// Whether the docket is sound: under a known problem, which is valid, small figures, and under none nothing.
+pub fn is_sound(docket: Docket) -> bool
+    ensures { λ r. ⌜ r ≡ sound docket ⌝ }
+{
+    let held = docket.held;
+    let cost = held.cost;
+    let bound = held.bound;
+    if docket.known {
+        let problem = docket.problem;
+        if is_valid(problem) {
+            if is_small_cost(cost) {
+                return is_small_bound(bound);
+            }
+        }
+        return false;
+    }
+    if is_no_cost(cost) {
+        return is_no_bound(bound);
     }
     false
 }
