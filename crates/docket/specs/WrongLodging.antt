@@ -1,4 +1,4 @@
--- Wrong ways of lodging, written out: each differs from lodging in the one thing that document 01's conditions of acceptance name.
+-- Wrong ways of lodging, written out: each has a fault that document 01, Conditions of acceptance, names.
 use mathlib.Core.Bool.{Bool, true}
 use mathlib.Core.List.{List}
 use Prim.Native.Nat.{ℕ, suc}
