@@ -28,7 +28,7 @@ use Rattle.docket.specs.Docket.{fresh-docket}
 use Rattle.docket.specs.Answers as answers
 use Rattle.docket.specs.Answers.{Values, no-values, its-cost, its-bound, Stated, stated, tree-values}
 use Rattle.docket.specs.Verdicts.{Costed, Verdict, refused, problem, schedule, tree}
-use Rattle.docket.specs.Texts.{no-more, then}
+use Rattle.docket.specs.Texts.{no-more, then, a-problem}
 use Rattle.docket.specs.Lodging.{pick, judged, lodged, with-schedule, is-higher, with-bound, given-figures, lodge-of}
 use Rattle.docket.specs.Demand3.{Demand3}
 use Rattle.docket.specs.WrongDockets.{IsRefused, IsHeld, IsPassed, Carries, answer}
@@ -130,7 +130,8 @@ never-unexamined-fails D = refuted.never-unexamined wrong.unexamined D (λ d w t
 
 pub second-problem-fails : Demand3 wrong.second-problem → ⊥
 second-problem-fails D = refuted.second-problem wrong.second-problem D (λ d P W h.
-    subst (λ (x : Kind). IsHeld (stated (wrong.any-problem x d (problems.render P) .answer))) (sym (render-accepted P W .0)) tt)
+    subst (λ (x : Kind). IsHeld (stated (wrong.any-problem x d (problems.render P) .answer))) (sym (render-accepted P W .0))
+    (subst IsHeld (sym (answered lodge-of demand3 [] [] no-more (problems.render P) (problem P) (a-problem P h refl W))) tt))
 
 -- ---- the last of the least
 

@@ -15,6 +15,7 @@ use Rattle.docket.specs.declared.held.HeldCost.the-variants as cost
 use Rattle.docket.specs.declared.answer.Answer.{Answer}
 use Rattle.docket.specs.declared.answer.Answer.the-variants.{Refused, ProblemHeld, ScheduleHeld, SchedulePassed, TreeHeld, TreePassed}
 use Rattle.docket.specs.declared.answer.TreeFigures.{TreeFigures}
+use Rattle.docket.specs.Docket.{fresh-docket}
 use Rattle.docket.specs.Verdicts.{Verdict, refused, problem, schedule, tree}
 use Rattle.docket.specs.Lodging.{pick, judged, lodged, with-schedule, hold, lodge-of}
 
@@ -53,7 +54,7 @@ passing-rest d text = pick (d .known) (lodged d (SchedulePassed 0)) (lodge-of d 
 abbrev pub never-figures : TreeFigures
 never-figures = record { bound = given.Never; splits = 0; leaves = 1 }
 
--- every tree is held as never once a problem is known
+-- every tree is answered as never once a problem is known
 abbrev pub examine-no-tree : Kind → Docket → List ℕ → Lodged
 examine-no-tree kind.Unknown d text = lodge-of d text
 examine-no-tree kind.Problem d text = lodge-of d text
@@ -63,10 +64,10 @@ examine-no-tree kind.Tree d text = pick (d .known) (lodged d (TreeHeld never-fig
 abbrev pub unexamined : Docket → List ℕ → Lodged
 unexamined d text = examine-no-tree (kindOf (lineAt text 0)) d text
 
--- a problem is held whether one is known or not
+-- a problem is taken up as by a fresh docket, whether one is known or not
 abbrev pub any-problem : Kind → Docket → List ℕ → Lodged
 any-problem kind.Unknown d text = lodge-of d text
-any-problem kind.Problem d text = lodged d ProblemHeld
+any-problem kind.Problem d text = lodge-of fresh-docket text
 any-problem kind.Schedule d text = lodge-of d text
 any-problem kind.Tree d text = lodge-of d text
 
