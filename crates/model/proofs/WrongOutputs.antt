@@ -80,6 +80,11 @@ curved-dear : least-at curved 1000 ≡ negsuc 44949
 unfolding price-walk offset walk back plus lesser on-value best-at
 curved-dear = unit-least-is 1 (λ t. 1000) (λ t. 0) curved curved-good (λ t. free) 5050 refl
 
+-- brought back to pU
+pub best-dear : best-output curved 1000 ≡ 50
+unfolding best-at
+best-dear = refl
+
 pub above-pU : T (ltZ (at-output curved 1000 (vertex curved 1000)) (least-at curved 1000)) × (Within curved (vertex curved 1000) → ⊥)
 unfolding value row-cost revenue
 above-pU = (rw curved-dear tt, λ w. omega (arith, w tt))
