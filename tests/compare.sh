@@ -1,25 +1,24 @@
 #!/usr/bin/env bash
-# compare.sh PROGRAM DIR..: runs PROGRAM on every DIR/NAME.txt and compares the answer lines that it prints with those of
-# DIR/NAME.out, held and passed taken as one word. The last line is 'N passed, M failed'.
+# compare.sh PROGRAM SECOND DIR..: runs PROGRAM and SECOND, two listing programs, on every DIR/NAME.txt. What PROGRAM prints must be what SECOND
+# prints and what DIR/NAME.out holds, byte for byte. The last line is 'N passed, M failed'.
 set -u
 program=$1
-shift
+second=$2
+shift 2
 got=$(mktemp)
 want=$(mktemp)
 trap 'rm -f "$got" "$want"' EXIT
 passed=0
 failed=0
-answers() { sed -n 's/^answer=passed/answer=held/; /^answer=/p' "$1"; }
 for dir in "$@"; do
   for input in "$dir"/*.txt; do
-    "$program" <"$input" >"$got"
-    answers "${input%.txt}.out" >"$want"
-    if cmp -s "$got" "$want"; then
+    if "$program" <"$input" >"$got" && "$second" <"$input" >"$want" && cmp -s "$got" "$want" && cmp -s "$got" "${input%.txt}.out"; then
       passed=$((passed + 1))
     else
       failed=$((failed + 1))
       echo "differs: $input"
       diff "$want" "$got" | head -n 4
+      diff "${input%.txt}.out" "$got" | head -n 4
     fi
   done
 done

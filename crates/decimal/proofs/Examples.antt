@@ -2,7 +2,8 @@
 use mathlib.Core.Path.{_≡_, refl}
 use mathlib.Core.Bool.{false}
 use mathlib.Core.List.{[], _∷_}
-use Rattle.decimal.specs.Decimal.{numeral, digits, digitsBy}
+use lib.IntN.{negsuc}
+use Rattle.decimal.specs.Decimal.{numeral, digits, digitsBy, shown-whole}
 use Rattle.decimal.specs.Reading.{numberAt, numberOf}
 use Rattle.decimal.specs.declared.Number.the-variants.{Value}
 
@@ -14,6 +15,11 @@ cost = refl
 nothing : digits 0 ≡ 48 ∷ []
 unfolding digits digitsBy
 nothing = refl
+
+-- -30
+negative : shown-whole (negsuc 29) ≡ 45 ∷ 51 ∷ 48 ∷ []
+unfolding digits digitsBy
+negative = refl
 
 -- 05 has a leading zero
 leading-zero : numeral (48 ∷ 53 ∷ []) ≡ false

@@ -3,6 +3,7 @@ use Prim.Native.Nat.{ℕ, zero, suc, _+_, _-_, _*_, _/_, _%_}
 use mathlib.Core.Bool.{Bool, true, false, not, _&&_}
 use mathlib.Core.List.{List, [], _∷_, _++_}
 use lib.Dec.{leb, ltb, eqb}
+use lib.IntN.{ℤ, pos, negsuc}
 
 -- ---- document 01, Texts: values are decimal numbers without leading zeros, of any length
 
@@ -44,3 +45,8 @@ digitsBy (suc k) n =
 -- the digits of n, of which there are at most n + 1
 unfoldable pub digits : ℕ → List ℕ
 digits n = digitsBy (suc n) n
+
+-- a whole number as it is shown: its digits, after a minus, byte 45, where it is below 0; negsuc n is -(n + 1)
+abbrev pub shown-whole : ℤ → List ℕ
+shown-whole (pos n) = digits n
+shown-whole (negsuc n) = 45 ∷ digits (suc n)

@@ -1,5 +1,5 @@
 -- Demand 3 of lodging: the docket after a list is the one that its verdicts determine, so what it holds is the first of the best accepted; an accepted
--- schedule meets the rules, and an accepted tree's bound is sound.
+-- schedule meets the rules, and an accepted tree's bound is sound. What it shows is what those make due.
 use mathlib.Core.Path.{_≡_, refl, sym, subst, _∙_}
 use mathlib.Core.Bool.{Bool, true, false}
 use mathlib.Core.List.{List, []}
@@ -13,17 +13,19 @@ use Rattle.model.proofs.Lists.{IsFirst, held-least, held-highest}
 use Rattle.model.proofs.Soundness.{number-sound, never-sound}
 use Rattle.tree.specs.Due.{Figures}
 use Rattle.docket.specs.declared.Docket.{Docket}
-use Rattle.docket.specs.declared.answer.Answer.the-variants.{ScheduleHeld, SchedulePassed, TreeHeld, TreePassed}
-use Rattle.docket.specs.Docket.{fresh-docket}
-use Rattle.docket.specs.Answers.{stated}
+use Rattle.answer.specs.declared.Answer.the-variants.{ScheduleHeld, SchedulePassed, TreeHeld, TreePassed}
+use Rattle.answer.specs.Answers.{stated}
 use Rattle.docket.specs.Verdicts.{Costed, Verdict, refused, problem, schedule, tree, schedules, trees, known-at-end}
 use Rattle.docket.specs.Lodging.{pick, judged, lodged, with-schedule, with-bound, is-less, is-higher, given-figures, bound-by, hold, trusted, lodge-of}
-use Rattle.docket.specs.Demand3.{docket-after, CostHeld, BoundHeld, Holding, Unheld, Demand3}
+use Rattle.docket.specs.Report.{text-shown, report-of, buffer-of}
+use Rattle.docket.specs.ReportDue.{ReportDue}
+use Rattle.docket.specs.Demand3.{reached, CostHeld, BoundHeld, Holding, Unheld, Demand3}
 use Rattle.docket.proofs.ListVerdicts.{verdicts-of, verdicts-are}
 use Rattle.docket.proofs.BestSoFar.{first-mem}
 use Rattle.docket.proofs.GoodVerdicts.{GoodSchedule, GoodTree, all-mem, Proper}
 use Rattle.docket.proofs.Reached.{by-cost, by-bound, least, highest, cost-kept, rows-kept, bound-kept, docket-of}
 use Rattle.docket.proofs.Lists.{lodges}
+use Rattle.docket.proofs.ReportDue.{lines-due, reports-of}
 
 -- ---- what the verdicts determine is what demand 3 asks for
 
@@ -51,7 +53,7 @@ module _ (P : Instance) where
         number-sound P (t .its) (t .holds) z (sym (t .bound-is) ∙ e),
       )
 
-holding : (o : Option Instance) (vs : List Verdict) → Proper o vs → Holding o vs (docket-of o vs)
+pub holding : (o : Option Instance) (vs : List Verdict) → Proper o vs → Holding o vs (docket-of o vs)
 holding none vs p = refl
 holding (some P) vs p = record {
   known = refl;
@@ -84,15 +86,16 @@ unheld-unchanged d text u = hold-unheld d (trusted d) (judged (trusted d .known)
 
 -- ---- the whole
 
-pub demand3 : Demand3 lodge-of
+pub demand3 : Demand3 lodge-of report-of buffer-of
 demand3 texts =
     let r = lodges none [] (refl, refl) texts in
+    let o = known-at-end none (verdicts-of none texts) in
     record {
       verdicts = verdicts-of none texts;
       texts-are = verdicts-are none tt texts;
       answers-are = r .answers-are;
-      holds =
-          subst (Holding (known-at-end none (verdicts-of none texts)) (verdicts-of none texts)) (sym (r .docket-is))
-          (holding (known-at-end none (verdicts-of none texts)) (verdicts-of none texts) (r .proper));
-      unchanged = λ text u. unheld-unchanged (docket-after lodge-of fresh-docket texts) text u;
+      holds = subst (Holding o (verdicts-of none texts)) (sym (r .docket-is)) (holding o (verdicts-of none texts) (r .proper));
+      unchanged = λ text u. unheld-unchanged (reached lodge-of texts) text u;
+      reports = λ b k. reports-of (verdicts-of none texts) (reached lodge-of texts) b k
+          (subst (λ (d : Docket). ReportDue (verdicts-of none texts) (text-shown d)) (sym (r .docket-is)) (lines-due o (verdicts-of none texts) (r .proper)));
     }

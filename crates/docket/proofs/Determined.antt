@@ -18,20 +18,19 @@ use Rattle.tree.specs.Due.{Figures}
 use Rattle.tree.specs.Coded.{bound-of}
 use Rattle.tree.specs.Reading.{coded}
 use Rattle.docket.specs.declared.Docket.{Docket}
-use Rattle.docket.specs.declared.Lodged.{Lodged}
 use Rattle.docket.specs.declared.held.HeldCost.{HeldCost}
 use Rattle.docket.specs.declared.held.HeldCost.the-variants as cost
 use Rattle.docket.specs.declared.held.HeldBound.{HeldBound}
 use Rattle.docket.specs.declared.held.HeldBound.the-variants as bound
-use Rattle.docket.specs.declared.answer.Answer.{Answer}
-use Rattle.docket.specs.declared.answer.Answer.the-variants.{Refused, ProblemHeld, ScheduleHeld, SchedulePassed, TreeHeld, TreePassed}
+use Rattle.answer.specs.declared.Answer.{Answer}
+use Rattle.answer.specs.declared.Answer.the-variants.{Refused, ProblemHeld, ScheduleHeld, SchedulePassed, TreeHeld, TreePassed}
 use Rattle.docket.specs.Docket.{fresh-docket}
-use Rattle.docket.specs.Answers as answers
-use Rattle.docket.specs.Answers.{no-values, its-cost, its-bound, Stated, stated}
+use Rattle.answer.specs.Answers as answers
+use Rattle.answer.specs.Answers.{no-values, its-cost, its-bound, Stated, stated}
 use Rattle.docket.specs.Verdicts.{Costed, Verdict, schedules, trees, known-at-end}
 use Rattle.docket.specs.Texts.{Are}
 use Rattle.docket.specs.Lodging.{lodge-of}
-use Rattle.docket.specs.Demand3.{docket-after, answers-to, answers-due, CostHeld, HoldsBound, BoundHeld, Holding, Demand3}
+use Rattle.docket.specs.Demand3.{reached, answers-to, answers-due, CostHeld, HoldsBound, BoundHeld, Holding, Lodging, Reporting, Writing, Demand3}
 use Rattle.docket.proofs.ListVerdicts.{one-list}
 use Rattle.docket.proofs.BestSoFar.{first-mem, one-first, cheaper-trans, cheaper-weak, raises-trans, raises-weak}
 use Rattle.docket.proofs.Reached.{by-cost, by-bound}
@@ -69,7 +68,7 @@ answers-back (a ∷ l) =
 
 -- ---- what is held is one thing
 
-no-first : {A : Type 0} (better : A → A → Bool) (h : A) (l : List A) → First better h l → l ≡ [] → ⊥
+pub no-first : {A : Type 0} (better : A → A → Bool) (h : A) (l : List A) → First better h l → l ≡ [] → ⊥
 no-first better h l f e = List·Memᴰ·not-nil (subst (λ (k : List _). List·Memᴰ h k) e (first-mem better h l f))
 
 module _ (P : Instance) where
@@ -113,7 +112,7 @@ module _ (P : Instance) where
       let e = same-bound l never never (n .writer) (n′ .writer) (p .0) (q .0) in
       λ i. bound.Never (record { writer = e .1 i })
 
-holding-one : (o : Option Instance) (vs : List Verdict) (d d′ : Docket) → Holding o vs d → Holding o vs d′ → d ≡ d′
+pub holding-one : (o : Option Instance) (vs : List Verdict) (d d′ : Docket) → Holding o vs d → Holding o vs d′ → d ≡ d′
 holding-one none vs d d′ p q = p ∙ sym q
 holding-one (some P) vs d d′ p q =
     let k = p .known ∙ sym (q .known) in
@@ -124,31 +123,31 @@ holding-one (some P) vs d d′ p q =
 
 -- ---- what holds after a list, by what its texts are
 
-module _ (lodge : Docket → List ℕ → Lodged) (D : Demand3 lodge) (texts : List (List ℕ)) (vs : List Verdict) (are : Are none texts vs) where
-  same-verdicts : D texts .verdicts ≡ vs
+module _ (lodge : Lodging) {report : Reporting} {buffer : Writing} (D : Demand3 lodge report buffer) (texts : List (List ℕ)) (vs : List Verdict) (are : Are none texts vs) where
+  pub same-verdicts : D texts .verdicts ≡ vs
   same-verdicts = one-list none texts (D texts .verdicts) vs tt (D texts .texts-are) are
 
   pub answers-are-due : map stated (answers-to lodge fresh-docket texts) ≡ answers-due [] vs
   answers-are-due = subst (λ (us : List Verdict). map stated (answers-to lodge fresh-docket texts) ≡ answers-due [] us) same-verdicts (D texts .answers-are)
 
-  pub holds-then : Holding (known-at-end none vs) vs (docket-after lodge fresh-docket texts)
-  holds-then = subst (λ (us : List Verdict). Holding (known-at-end none us) us (docket-after lodge fresh-docket texts)) same-verdicts (D texts .holds)
+  pub holds-then : Holding (known-at-end none vs) vs (reached lodge texts)
+  holds-then = subst (λ (us : List Verdict). Holding (known-at-end none us) us (reached lodge texts)) same-verdicts (D texts .holds)
 
 -- any two that meet demand 3 answer and hold the same after every list
-module _ (lodge lodge′ : Docket → List ℕ → Lodged) (D : Demand3 lodge) (D′ : Demand3 lodge′) (texts : List (List ℕ)) where
+module _ (lodge lodge′ : Lodging) {report report′ : Reporting} {buffer buffer′ : Writing} (D : Demand3 lodge report buffer) (D′ : Demand3 lodge′ report′ buffer′)
+    (texts : List (List ℕ)) where
   pub same-answers : answers-to lodge fresh-docket texts ≡ answers-to lodge′ fresh-docket texts
   same-answers =
       sym (answers-back (answers-to lodge fresh-docket texts))
       ∙ ap (map answer-of) (answers-are-due lodge D texts (D′ texts .verdicts) (D′ texts .texts-are) ∙ sym (D′ texts .answers-are))
       ∙ answers-back (answers-to lodge′ fresh-docket texts)
 
-  pub same-docket : docket-after lodge fresh-docket texts ≡ docket-after lodge′ fresh-docket texts
+  pub same-docket : reached lodge texts ≡ reached lodge′ texts
   same-docket =
-      holding-one (known-at-end none (D′ texts .verdicts)) (D′ texts .verdicts) (docket-after lodge fresh-docket texts) (docket-after lodge′ fresh-docket texts)
+      holding-one (known-at-end none (D′ texts .verdicts)) (D′ texts .verdicts) (reached lodge texts) (reached lodge′ texts)
       (holds-then lodge D texts (D′ texts .verdicts) (D′ texts .texts-are)) (D′ texts .holds)
 
 -- so what meets it lodges as lodge-of does, from a fresh docket on
-pub only-lodging : (lodge : Docket → List ℕ → Lodged) → Demand3 lodge → (texts : List (List ℕ))
-    → (answers-to lodge fresh-docket texts ≡ answers-to lodge-of fresh-docket texts)
-    × (docket-after lodge fresh-docket texts ≡ docket-after lodge-of fresh-docket texts)
+pub only-lodging : (lodge : Lodging) {report : Reporting} {buffer : Writing} → Demand3 lodge report buffer → (texts : List (List ℕ))
+    → (answers-to lodge fresh-docket texts ≡ answers-to lodge-of fresh-docket texts) × (reached lodge texts ≡ reached lodge-of texts)
 only-lodging lodge D texts = (same-answers lodge lodge-of D demand3 texts, same-docket lodge lodge-of D demand3 texts)

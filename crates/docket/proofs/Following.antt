@@ -28,7 +28,7 @@ use Rattle.tree.specs.Reading.{coded, tree-read}
 use Rattle.docket.specs.declared.Docket.{Docket}
 use Rattle.docket.specs.declared.admission.Admission.{Admission}
 use Rattle.docket.specs.declared.admission.Admission.the-variants as admission
-use Rattle.docket.specs.declared.answer.Answer.the-variants.{Refused}
+use Rattle.answer.specs.declared.Answer.the-variants.{Refused}
 use Rattle.docket.specs.Docket.{fresh-docket, valid-problem, sound}
 use Rattle.docket.specs.Texts.{Short}
 use Rattle.docket.specs.Lodging.{pick, refuse-whole, admit-kind, admit, by-problem, by-schedule, by-tree, by-lines, judged, lodged, hold, lodge-of}

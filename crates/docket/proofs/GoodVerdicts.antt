@@ -6,7 +6,7 @@ use mathlib.Core.Option.{Option, none, some}
 use mathlib.Core.Logic.{_⊎_, inl, inr}
 use Prim.Native.Nat.{ℕ}
 use Rattle.model.specs.Instance.{Instance}
-use Rattle.model.specs.Ranges.{WellFormed, All}
+use Rattle.model.specs.Ranges.{WellFormed, GoodWriter, All}
 use Rattle.model.specs.Rules.{Meets}
 use Rattle.model.specs.Cost as model
 use Rattle.model.specs.Above.{root}
@@ -20,12 +20,14 @@ use Rattle.docket.specs.Texts.{Is, too-long, no-kind, second-problem, sc
 pub record GoodSchedule (P : Instance) (s : Costed) : Type 0 where
   pub meets : Meets P (s .rows)
   pub cost-is : s .cost ≡ model.cost P (s .rows)
+  pub writer-in : GoodWriter (s .writer)
 
 pub record GoodTree (P : Instance) (F : Figures) : Type 0 where
   pub its : Tree
   pub within : Limits P root 0 its
   pub holds : Holds P root its
   pub bound-is : F .bound ≡ model-tree.bound P root its
+  pub writer-in : GoodWriter (F .writer)
 
 -- what a verdict can be, under the problem that the texts before gave
 pub data Possible : Option Instance → Verdict → Type 0 where
@@ -43,9 +45,9 @@ possible o text v (tree-early h b) = any-refused
 possible o text v (problem-refused n l h b r) = any-refused
 possible o text v (a-problem P h e W) = first-problem W
 possible o text v (schedule-refused r h b s) = any-refused
-possible o text v (a-schedule w s h e ok rows meets) = good-schedule (record { meets = meets; cost-is = refl })
+possible o text v (a-schedule w s h e ok rows meets) = good-schedule (record { meets = meets; cost-is = refl; writer-in = ok })
 possible o text v (tree-refused n l h b r) = any-refused
-possible o text v (a-tree w t h e ok within holds) = good-tree (record { its = t; within = within; holds = holds; bound-is = refl })
+possible o text v (a-tree w t h e ok within holds) = good-tree (record { its = t; within = within; holds = holds; bound-is = refl; writer-in = ok })
 
 -- ---- lists of verdicts
 

@@ -8,7 +8,7 @@ use Rattle.model.specs.Instance.{Instance}
 use Rattle.docket.specs.declared.Docket.{Docket}
 use Rattle.docket.specs.declared.Lodged.{Lodged}
 use Rattle.docket.specs.Docket.{fresh-docket, sound}
-use Rattle.docket.specs.Answers.{Stated, stated}
+use Rattle.answer.specs.Answers.{Stated, stated}
 use Rattle.docket.specs.Verdicts.{Verdict, known-after, known-at-end}
 use Rattle.docket.specs.Lodging.{lodge-of}
 use Rattle.docket.specs.Demand3.{docket-after, answers-to, answer-due, answers-due}
@@ -24,7 +24,7 @@ pub record Lodges (o : Option Instance) (past : List Verdict) (texts : List (Lis
   pub answers-are : map stated (answers-to lodge-of (docket-of o past) texts) ≡ answers-due past (verdicts-of o texts)
   pub proper : Proper (known-at-end o (verdicts-of o texts)) (past ++ verdicts-of o texts)
 
-proper-fine : (o : Option Instance) (past : List Verdict) → Proper o past → Fine o
+pub proper-fine : (o : Option Instance) (past : List Verdict) → Proper o past → Fine o
 proper-fine none past p = tt
 proper-fine (some P) past p = p .0
 

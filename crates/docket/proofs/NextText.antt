@@ -7,10 +7,10 @@ use Rattle.model.specs.Instance.{Instance}
 use Rattle.docket.specs.declared.Docket.{Docket}
 use Rattle.docket.specs.declared.Lodged.{Lodged}
 use Rattle.docket.specs.Docket.{fresh-docket}
-use Rattle.docket.specs.Answers.{Stated, stated}
+use Rattle.answer.specs.Answers.{Stated, stated}
 use Rattle.docket.specs.Verdicts.{Verdict, known-after, known-at-end}
 use Rattle.docket.specs.Texts.{Is, Are, no-more, then}
-use Rattle.docket.specs.Demand3.{docket-after, answers-to, answer-due, answers-due, Holding, Demand3}
+use Rattle.docket.specs.Demand3.{docket-after, answers-to, answer-due, answers-due, Holding, Lodging, Reporting, Writing, Demand3}
 use Rattle.docket.proofs.Determined.{answers-are-due, holds-then}
 
 -- ---- a list and one more
@@ -22,7 +22,7 @@ are-more o texts vs text v no-more i = then i no-more
 are-more o texts vs text v (then {texts = ts} {v = u} {vs = us} j a) i = then j (are-more (known-after o u) ts us text v a i)
 
 module _ (lodge : Docket → List ℕ → Lodged) where
-  docket-more : (d : Docket) (texts : List (List ℕ)) (text : List ℕ)
+  pub docket-more : (d : Docket) (texts : List (List ℕ)) (text : List ℕ)
       → docket-after lodge d (texts ++ (text ∷ [])) ≡ lodge (docket-after lodge d texts) text .docket
   docket-more d [] text = refl
   docket-more d (t ∷ ts) text = docket-more (lodge d t .docket) ts text
@@ -52,7 +52,7 @@ last-more [] x = refl
 last-more (a ∷ []) x = refl
 last-more (a ∷ b ∷ l) x = last-more (b ∷ l) x
 
-module _ (lodge : Docket → List ℕ → Lodged) (D : Demand3 lodge) (texts : List (List ℕ)) (vs : List Verdict) (are : Are none texts vs) (text : List ℕ)
+module _ (lodge : Lodging) {report : Reporting} {buffer : Writing} (D : Demand3 lodge report buffer) (texts : List (List ℕ)) (vs : List Verdict) (are : Are none texts vs) (text : List ℕ)
     (v : Verdict) (is : Is (known-at-end none vs) text v) where
   -- the answer to a text after a list
   pub answered : stated (lodge (docket-after lodge fresh-docket texts) text .answer) ≡ answer-due vs v

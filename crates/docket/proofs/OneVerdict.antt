@@ -33,10 +33,10 @@ use Rattle.tree.specs.Answers.{figures-of}
 use Rattle.tree.specs.Rendering as trees-rendered
 use Rattle.tree.proofs.Written.{render-cut}
 use Rattle.tree.proofs.Answers as trees-answered
+use Rattle.tree.proofs.ReadAnswers as trees-read
 use Rattle.docket.specs.Verdicts.{Verdict, refused, schedule, tree}
 use Rattle.docket.specs.Texts.{Short, Begins, at-line, Is, Accepted, too-long, no-kind, second-problem, schedule-early, tree-early, problem-refused, a-problem, schedule-refused, a-schedule, tree-refused, a-tree}
 use Rattle.docket.specs.Lodging.{admit-kind, admit, by-problem, by-schedule, by-tree, by-lines, judged}
-use Rattle.docket.proofs.Carried.{problem-carries, tree-carries}
 
 -- a problem that an accepted text gave is well-formed
 abbrev pub Fine : Option Instance → Type 0
@@ -103,7 +103,7 @@ is-verdict none text v W (tree-early h b) = tree-42 (view blank-problem) text h 
 is-verdict none text v W (problem-refused n l h b r) =
     judged-kind false (view blank-problem) text kind.Problem h (first-line.problem-is (lineAt text 0) .1 b)
     ∙ ap by-problem (problems.problem-refused n l text .1 r)
-    ∙ ap refused (problem-carries n l text r)
+    ∙ ap refused (problems.refused-carries n l text r)
 is-verdict none text v W (a-problem P h e G) =
     let p = problem-accepted P text .1 (e, G) in
     judged-kind false (view blank-problem) text kind.Problem h (p .0) ∙ ap by-problem (p .1)
@@ -117,7 +117,7 @@ is-verdict (some P) text v W (a-schedule w s h e ok rows meets) =
 is-verdict (some P) text v W (tree-refused n l h b r) =
     judged-kind true P text kind.Tree h (first-line.tree-is (lineAt text 0) .1 b)
     ∙ ap by-tree (trees-answered.refused-is-first P text n l .1 r)
-    ∙ ap refused (tree-carries P text n l r)
+    ∙ ap refused (trees-read.refused-carries P text n l r)
 is-verdict (some P) text v W (a-tree w t h e ok within holds) =
     let b : Begins text kindTree = rw e (tree-begins w t) in
     let k = first-line.tree-is (lineAt text 0) .1 b in
@@ -152,7 +152,7 @@ module _ (text : List ℕ) (h : Short text) where
   of-problem : (j : Judged Instance) → kindOf (lineAt text 0) ≡ kind.Problem → problem-judged text ≡ j → Is none text (by-problem j)
   of-problem (refused-at n l) k e =
       let r = problems.problem-refused n l text .0 e in
-      subst (Is none text) (ap refused (sym (problem-carries n l text r))) (problem-refused n l h (first-line.problem-is (lineAt text 0) .0 k) r)
+      subst (Is none text) (ap refused (sym (problems.refused-carries n l text r))) (problem-refused n l h (first-line.problem-is (lineAt text 0) .0 k) r)
   of-problem (accepted P) k e = let a = problem-accepted P text .0 (k, e) in a-problem P h (a .0) (a .1)
 
   module _ (P : Instance) (W : WellFormed P) where
@@ -166,7 +166,7 @@ module _ (text : List ℕ) (h : Short text) where
     of-tree : (j : Judged Figures) → kindOf (lineAt text 0) ≡ kind.Tree → trees.judged P text ≡ j → Is (some P) text (by-tree j)
     of-tree (refused-at n l) k e =
         let r = trees-answered.refused-is-first P text n l .0 e in
-        subst (Is (some P) text) (ap refused (sym (tree-carries P text n l r))) (tree-refused n l h (first-line.tree-is (lineAt text 0) .0 k) r)
+        subst (Is (some P) text) (ap refused (sym (trees-read.refused-carries P text n l r))) (tree-refused n l h (first-line.tree-is (lineAt text 0) .0 k) r)
     of-tree (accepted F) k e =
         let a = trees-answered.accepted-is P text k F W .0 e in
         subst (λ (G : Figures). Is (some P) text (tree G)) (sym (a .figures))
@@ -197,7 +197,7 @@ verdict-is o W text = go (ltb 1048576 (length text)) refl
     go true e = long-is o text (ltb-true 1048576 (length text) e)
     go false e = short-is text (ltb-false 1048576 (length text) e) o W (kindOf (lineAt text 0)) refl
 
--- document 01, The list of demand 3: a text is accepted exactly when no refusal number meets it at its place
+-- document 01, The list of demand 3: to be accepted is to be met by no refusal number, under the problem that the texts before gave
 pub accepted-is : (o : Option Instance) → Fine o → (text : List ℕ) → Accepted o text ↔ ((r : Refusal) → Is o text (refused r) → ⊥)
 accepted-is o W text = (
   λ a r i. a .unrefused r (one-verdict o text (a .as-what) (refused r) W (a .is) i),

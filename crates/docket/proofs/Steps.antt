@@ -16,9 +16,9 @@ use Rattle.tree.specs.Due.{Figures}
 use Rattle.tree.specs.Coded.{bound-of}
 use Rattle.tree.specs.Reading.{coded}
 use Rattle.docket.specs.declared.Docket.{Docket}
-use Rattle.docket.specs.declared.answer.Answer.the-variants.{ScheduleHeld, SchedulePassed, TreeHeld, TreePassed}
+use Rattle.answer.specs.declared.Answer.the-variants.{ScheduleHeld, SchedulePassed, TreeHeld, TreePassed}
 use Rattle.docket.specs.Docket.{fresh-docket, every, sound}
-use Rattle.docket.specs.Answers.{its-cost, its-bound, stated}
+use Rattle.answer.specs.Answers.{its-cost, its-bound, stated}
 use Rattle.docket.specs.Verdicts.{Costed, Verdict, refused, problem, schedule, tree, schedules, trees, known-after}
 use Rattle.docket.specs.Lodging.{pick, judged, lodged, with-schedule, with-bound, is-less, is-higher, bound-by, given-figures, hold, lodge-of}
 use Rattle.docket.specs.Demand3.{held-if, answer-due}
@@ -96,14 +96,14 @@ docket-next (some P) past v p (good-tree {F = F} g) = keeps-bound P (least past)
 
 -- ---- the answer
 
+pub given-is : (b : Bound) → bound-of (coded b) ≡ b
+given-is never = refl
+given-is (number z) = refl
+
 module _ (d e : Docket) where
   schedule-stated : (t : Bool) (c : ℕ) → stated (pick t (lodged d (ScheduleHeld c)) (lodged e (SchedulePassed c)) .answer) ≡ held-if t (its-cost c)
   schedule-stated true c = refl
   schedule-stated false c = refl
-
-  given-is : (b : Bound) → bound-of (coded b) ≡ b
-  given-is never = refl
-  given-is (number z) = refl
 
   tree-stated : (t : Bool) (F : Figures)
       → stated (pick t (lodged d (TreeHeld (given-figures F))) (lodged e (TreePassed (given-figures F))) .answer)

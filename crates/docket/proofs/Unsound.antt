@@ -8,7 +8,7 @@ use Rattle.model.specs.Held.{view}
 use Rattle.docket.specs.declared.Docket.{Docket}
 use Rattle.docket.specs.declared.Lodged.{Lodged}
 use Rattle.docket.specs.Docket.{fresh-docket, sound}
-use Rattle.docket.specs.Answers.{stated}
+use Rattle.answer.specs.Answers.{stated}
 use Rattle.docket.specs.Verdicts.{Verdict, refused, problem, schedule, tree}
 use Rattle.docket.specs.Lodging.{judged, hold, lodge-of}
 use Rattle.docket.specs.Demand3.{Unheld}

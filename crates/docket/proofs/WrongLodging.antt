@@ -1,13 +1,10 @@
--- Each wrong way of lodging that is written out does what document 01 forbids, so demand 3 does not hold of it.
+-- Each wrong way of lodging that is written out does what document 01 forbids, so demand 3 does not hold of it, however it reports.
 use mathlib.Core.Path.{_≡_, refl, sym, subst, _∙_}
-use mathlib.Core.Bool.{Bool, true, false}
+use mathlib.Core.Bool.{Bool, true}
 use mathlib.Core.List.{[], _∷_}
 use Prim.Native.Nat.{ℕ}
 use native.Mathlib.Omega.{arith}
-use lib.Dec.{leb}
 use lib.IntN.{pos}
-use borrow.Author.Tests.{le-leb}
-use Rattle.model.specs.Held.{view}
 use Rattle.model.specs.Tree.{Tree, stuck, short, Bound, never, number, splits, leaves}
 use Rattle.text.specs.Lines.{lineAt}
 use Rattle.text.specs.declared.Kind.{Kind}
@@ -18,35 +15,40 @@ use Rattle.problem.proofs.Examples.{example}
 use Rattle.tree.specs.Rendering as trees
 use Rattle.tree.specs.Coded.{bound-of}
 use Rattle.docket.specs.declared.Docket.{Docket}
-use Rattle.docket.specs.declared.held.CostBy.{CostBy}
-use Rattle.docket.specs.declared.held.HeldCost.{HeldCost}
-use Rattle.docket.specs.declared.held.HeldCost.the-variants as cost
-use Rattle.docket.specs.declared.answer.Answer.{Answer}
-use Rattle.docket.specs.declared.answer.Answer.the-variants.{Refused, ProblemHeld, ScheduleHeld, SchedulePassed, TreeHeld, TreePassed}
-use Rattle.docket.specs.declared.answer.TreeFigures.{TreeFigures}
+use Rattle.answer.specs.declared.Answer.{Answer}
+use Rattle.answer.specs.declared.Answer.the-variants.{Refused, ProblemHeld, ScheduleHeld, SchedulePassed, TreeHeld, TreePassed}
+use Rattle.answer.specs.declared.TreeFigures.{TreeFigures}
 use Rattle.docket.specs.Docket.{fresh-docket}
-use Rattle.docket.specs.Answers as answers
-use Rattle.docket.specs.Answers.{Values, no-values, its-cost, its-bound, Stated, stated, tree-values}
-use Rattle.docket.specs.Verdicts.{Costed, Verdict, refused, problem, schedule, tree}
+use Rattle.answer.specs.Answers as answers
+use Rattle.answer.specs.Answers.{Values, no-values, its-cost, its-bound, stated, tree-values, Carries}
+use Rattle.docket.specs.Verdicts.{problem}
 use Rattle.docket.specs.Texts.{no-more, then, a-problem}
-use Rattle.docket.specs.Lodging.{pick, judged, lodged, with-schedule, is-higher, with-bound, given-figures, lodge-of}
-use Rattle.docket.specs.Demand3.{Demand3}
-use Rattle.docket.specs.WrongDockets.{IsRefused, IsHeld, IsPassed, Carries, answer}
+use Rattle.docket.specs.Lodging.{pick, lodged, lodge-of}
+use Rattle.docket.specs.Demand3.{reached, Reporting, Writing, Demand3}
+use Rattle.docket.specs.WrongDockets.{IsRefused, IsHeld, IsPassed}
 use Rattle.docket.specs.WrongLodging as wrong
 use Rattle.docket.proofs.OneVerdict.{tree-begins}
 use Rattle.docket.proofs.NextText.{answered}
 use Rattle.docket.proofs.Demand3.{demand3}
 use Rattle.docket.proofs.Specimens.{problem-text, one-split, is-problem, is-one-split, is-tree}
 use Rattle.docket.proofs.WrongDockets as refuted
+use Rattle.docket.proofs.WrongStates as states
 
-pub refuse-all-fails : Demand3 wrong.refuse-all → ⊥
-refuse-all-fails D = refuted.refuses-all wrong.refuse-all D (λ d text. tt)
+pub refuse-all-fails : {report : Reporting} {buffer : Writing} → Demand3 wrong.refuse-all report buffer → ⊥
+refuse-all-fails D = refuted.refuses-all wrong.refuse-all D (λ texts text. tt)
 
-pub never-changing-fails : Demand3 wrong.never-changing → ⊥
-never-changing-fails D = refuted.never-changes wrong.never-changing D (λ d text. refl)
+pub never-changing-fails : {report : Reporting} {buffer : Writing} → Demand3 wrong.never-changing report buffer → ⊥
+never-changing-fails D = states.never-changes wrong.never-changing D (λ texts text k. refl)
 
-pub passing-rest-fails : Demand3 wrong.passing-rest → ⊥
-passing-rest-fails D = refuted.passes-rest wrong.passing-rest D (λ d text k. subst (λ (t : Bool). IsPassed (stated (pick t (lodged d (SchedulePassed 0)) (lodge-of d text) .answer))) (sym k) tt)
+pub passing-rest-fails : {report : Reporting} {buffer : Writing} → Demand3 wrong.passing-rest report buffer → ⊥
+passing-rest-fails D = refuted.passes-rest wrong.passing-rest D (λ texts vs text are a k.
+    let d = reached wrong.passing-rest texts in
+    subst (λ (t : Bool). IsPassed (stated (pick t (lodged d (SchedulePassed 0)) (lodge-of d text) .answer))) (sym k) tt)
+
+pub refuse-rest-fails : {report : Reporting} {buffer : Writing} → Demand3 wrong.refuse-rest report buffer → ⊥
+refuse-rest-fails D = refuted.refuses-rest wrong.refuse-rest D (λ texts vs text are a k.
+    let d = reached wrong.refuse-rest texts in
+    subst (λ (t : Bool). IsRefused (stated (pick t (wrong.refuse-all d text) (lodge-of d text) .answer))) (sym k) tt)
 
 -- ---- another answer for a tree
 
@@ -67,9 +69,9 @@ retold-carries f (SchedulePassed x) w e A k n c = c x e
 retold-carries f (TreeHeld x) w e A k n c = k x e
 retold-carries f (TreePassed x) w e A k n c = k x e
 
-pub one-bound-fails : Demand3 wrong.one-bound → ⊥
-one-bound-fails D = refuted.one-bound wrong.one-bound D never (λ d text c m n e.
-    retold-carries _ (lodge-of d text .answer) (its-bound c m n) e (c ≡ never) (λ x p. cc) (λ p. clash p refl) (λ x p. clash-cost p))
+pub one-bound-fails : {report : Reporting} {buffer : Writing} → Demand3 wrong.one-bound report buffer → ⊥
+one-bound-fails D = refuted.one-bound wrong.one-bound D never (λ texts text c m n e.
+    retold-carries _ (lodge-of (reached wrong.one-bound texts) text .answer) (its-bound c m n) e (c ≡ never) (λ x p. cc) (λ p. clash p refl) (λ x p. clash-cost p))
 
 -- more than was found
 carries-more : (f : TreeFigures → TreeFigures) (a : Answer) (b : Bound) (m n : ℕ) → stated a ≡ answers.held (its-bound b m n)
@@ -83,7 +85,7 @@ carries-more f (TreeHeld x) b m n e A k = k x (let p : tree-values x ≡ its-bou
 carries-more f (TreePassed x) b m n e A k = absurd (let z : _≡_ {A = ℕ} 0 1 = cc in omega arith)
 
 -- a docket after the problem that is told anew is the docket that lodging leaves
-module _ (f : TreeFigures → TreeFigures) (D : Demand3 (wrong.retelling f))
+module _ (f : TreeFigures → TreeFigures) {report : Reporting} {buffer : Writing} (D : Demand3 (wrong.retelling f) report buffer)
     (more : (x : TreeFigures) → (f x .splits ≡ x .splits) × (f x .leaves ≡ x .leaves) → ⊥) where
   retelling-fails : ⊥
   unfolding splits leaves
@@ -108,64 +110,27 @@ module _ (f : TreeFigures → TreeFigures) (D : Demand3 (wrong.retelling f))
             more x (p .0 ∙ sym s, p .1 ∙ sym l);
       }))
 
-pub more-splits-fails : Demand3 wrong.more-splits → ⊥
+pub more-splits-fails : {report : Reporting} {buffer : Writing} → Demand3 wrong.more-splits report buffer → ⊥
 more-splits-fails D = retelling-fails _ D (λ x p. let e = p .0 in omega arith)
 
-pub more-leaves-fails : Demand3 wrong.more-leaves → ⊥
+pub more-leaves-fails : {report : Reporting} {buffer : Writing} → Demand3 wrong.more-leaves report buffer → ⊥
 more-leaves-fails D = retelling-fails _ D (λ x p. let e = p .1 in omega arith)
 
 -- ---- trees unexamined, any problem
 
-unexamined-accepts : (d : Docket) (w : ℕ) (t : Tree) → d .known ≡ true → IsRefused (answer wrong.unexamined d (trees.render w t)) → ⊥
+unexamined-accepts : (d : Docket) (w : ℕ) (t : Tree) → d .known ≡ true → IsRefused (stated (wrong.unexamined d (trees.render w t) .answer)) → ⊥
 unexamined-accepts d w t k r =
     let e = first-line.tree-is (lineAt (trees.render w t) 0) .1 (tree-begins w t) in
     let s = subst (λ (x : Kind). IsRefused (stated (wrong.examine-no-tree x d (trees.render w t) .answer))) e r in
     subst (λ (b : Bool). IsRefused (stated (pick b (lodged d (TreeHeld wrong.never-figures)) (lodge-of d (trees.render w t)) .answer))) k s
 
-pub stuck-unexamined-fails : Demand3 wrong.unexamined → ⊥
-stuck-unexamined-fails D = refuted.stuck-unexamined wrong.unexamined D (λ d w U. unexamined-accepts d w (stuck U))
+pub stuck-unexamined-fails : {report : Reporting} {buffer : Writing} → Demand3 wrong.unexamined report buffer → ⊥
+stuck-unexamined-fails D = refuted.stuck-unexamined wrong.unexamined D (λ texts w U k ok u. unexamined-accepts (reached wrong.unexamined texts) w (stuck U) k)
 
-pub never-unexamined-fails : Demand3 wrong.unexamined → ⊥
-never-unexamined-fails D = refuted.never-unexamined wrong.unexamined D (λ d w t. unexamined-accepts d w (short t))
+pub never-unexamined-fails : {report : Reporting} {buffer : Writing} → Demand3 wrong.unexamined report buffer → ⊥
+never-unexamined-fails D = refuted.never-unexamined wrong.unexamined D (λ texts w t k ok u. unexamined-accepts (reached wrong.unexamined texts) w (short t) k)
 
-pub second-problem-fails : Demand3 wrong.second-problem → ⊥
-second-problem-fails D = refuted.second-problem wrong.second-problem D (λ d P W h.
-    subst (λ (x : Kind). IsHeld (stated (wrong.any-problem x d (problems.render P) .answer))) (sym (render-accepted P W .0))
+pub second-problem-fails : {report : Reporting} {buffer : Writing} → Demand3 wrong.second-problem report buffer → ⊥
+second-problem-fails D = refuted.second-problem wrong.second-problem D (λ texts P k W h.
+    subst (λ (x : Kind). IsHeld (stated (wrong.any-problem x (reached wrong.second-problem texts) (problems.render P) .answer))) (sym (render-accepted P W .0))
     (subst IsHeld (sym (answered lodge-of demand3 [] [] no-more (problems.render P) (problem P) (a-problem P h refl W))) tt))
-
--- ---- the last of the least
-
--- what is told of a schedule, held or passed
-abbrev told : Docket → Costed → Bool → Stated
-told d s t = stated (pick t (lodged (with-schedule d s) (ScheduleHeld (s .cost))) (lodged d (SchedulePassed (s .cost))) .answer)
-
-module _ (d : Docket) (s : Costed) where
-  told-number : (n : ℕ) (t : Bool) → leb (s .cost) n ≡ t → Carries (told d s t) (its-cost n) → IsHeld (told d s t)
-  told-number n true p c = tt
-  told-number n false p c =
-      let q : s .cost ≡ n = cc in
-      let l : leb (s .cost) n ≡ true = le-leb (s .cost) n (omega arith) in
-      let z : _≡_ {A = ℕ} 0 1 = cc in
-      omega arith
-
-  told-held : (by : CostBy) (h : HeldCost) → h ≡ cost.Number by → Carries (told d s (wrong.not-more (s .cost) h)) (its-cost (by .cost))
-      → IsHeld (told d s (wrong.not-more (s .cost) h))
-  told-held by cost.Nothing e c = tt
-  told-held by (cost.Number n) e c =
-      let q : by .cost ≡ n .cost = cc in
-      told-number (n .cost) (leb (s .cost) (n .cost)) refl (subst (λ (x : ℕ). Carries (told d s (leb (s .cost) (n .cost))) (its-cost x)) q c)
-
-last-held : (d : Docket) (by : CostBy) (v : Verdict) → d .held .cost ≡ cost.Number by → Carries (stated (wrong.hold-last d v .answer)) (its-cost (by .cost))
-    → IsHeld (stated (wrong.hold-last d v .answer))
-last-held d by (refused r) e c = absurd c
-last-held d by (problem P) e c = tt
-last-held d by (schedule s) e c = told-held d s by (d .held .cost) e c
-last-held d by (tree F) e c = go (is-higher (F .bound) (d .held .bound)) c
-  where
-    go : (t : Bool) → Carries (stated (pick t (lodged (with-bound d F) (TreeHeld (given-figures F))) (lodged d (TreePassed (given-figures F))) .answer)) (its-cost (by .cost))
-        → IsHeld (stated (pick t (lodged (with-bound d F) (TreeHeld (given-figures F))) (lodged d (TreePassed (given-figures F))) .answer))
-    go true c = tt
-    go false c = clash-cost (sym c)
-
-pub keeping-last-fails : Demand3 wrong.keeping-last → ⊥
-keeping-last-fails D = refuted.keeps-last wrong.keeping-last D (λ d text by e c. last-held d by (judged (d .known) (view (d .problem)) text) e c)

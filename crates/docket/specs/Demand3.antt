@@ -1,4 +1,4 @@
--- Demand 3: what holds after every list of texts that is lodged from a fresh docket.
+-- Demand 3: what holds after every list of texts that is lodged from a fresh docket, and what every report then shows.
 use mathlib.Core.Path.{_≡_}
 use mathlib.Core.Bool.{Bool, true, false}
 use mathlib.Core.List.{List, [], _∷_, _++_, map}
@@ -19,21 +19,37 @@ use Rattle.judge.specs.Rows.{joined}
 use Rattle.tree.specs.Due.{Figures}
 use Rattle.docket.specs.declared.Docket.{Docket}
 use Rattle.docket.specs.declared.Lodged.{Lodged}
+use Rattle.docket.specs.declared.Reported.{Reported}
 use Rattle.docket.specs.declared.held.CostBy.{CostBy}
 use Rattle.docket.specs.declared.held.HeldCost.{HeldCost}
 use Rattle.docket.specs.declared.held.HeldCost.the-variants as cost
 use Rattle.docket.specs.declared.held.HeldBound.{HeldBound}
 use Rattle.docket.specs.declared.held.HeldBound.the-variants as bound
-use Rattle.docket.specs.declared.answer.Answer.{Answer}
+use Rattle.answer.specs.declared.Answer.{Answer}
 use Rattle.docket.specs.Docket.{fresh-docket, every}
-use Rattle.docket.specs.Answers as answers
-use Rattle.docket.specs.Answers.{Values, no-values, its-cost, its-bound, Stated, stated}
+use Rattle.answer.specs.Answers as answers
+use Rattle.answer.specs.Answers.{Values, no-values, its-cost, its-bound, Stated, stated}
 use Rattle.docket.specs.Verdicts.{Costed, Verdict, refused, problem, schedule, tree, schedules, trees, known-at-end}
 use Rattle.docket.specs.Texts.{Are}
+use Rattle.docket.specs.ReportDue.{Reports}
+
+-- ---- a way of lodging texts and of asking for a report
+
+-- the answer to a text, with the docket after it
+abbrev pub Lodging : Type 0
+Lodging = Docket → List ℕ → Lodged
+
+-- the answer to a report asked for with a buffer lent and a place in it, with the docket after it
+abbrev pub Reporting : Type 0
+Reporting = Docket → List ℕ → ℕ → Reported
+
+-- what the lent buffer then holds
+abbrev pub Writing : Type 0
+Writing = Docket → List ℕ → ℕ → List ℕ
 
 -- ---- a list of texts, lodged one after the other
 
-module _ (lodge : Docket → List ℕ → Lodged) where
+module _ (lodge : Lodging) where
   abbrev pub docket-after : Docket → List (List ℕ) → Docket
   docket-after d [] = d
   docket-after d (text ∷ texts) = docket-after (lodge d text .docket) texts
@@ -41,6 +57,10 @@ module _ (lodge : Docket → List ℕ → Lodged) where
   abbrev pub answers-to : Docket → List (List ℕ) → List Answer
   answers-to d [] = []
   answers-to d (text ∷ texts) = lodge d text .answer ∷ answers-to (lodge d text .docket) texts
+
+  -- the docket that a list leaves
+  abbrev pub reached : List (List ℕ) → Docket
+  reached texts = docket-after fresh-docket texts
 
 -- ---- the answers that are due
 
@@ -62,7 +82,7 @@ answers-due past (v ∷ vs) = answer-due past v ∷ answers-due (past ++ (v ∷ 
 -- ---- what is held, under the problem P
 
 -- a schedule is held with this cost, writer and rows: of the accepted ones the first with the least cost. It meets the rules, and the
--- cost is that of (1)
+-- cost is that of (1). Its rows stand one after the other, row u from u times T on, and zeros after the last
 pub record HoldsSchedule (P : Instance) (accepted : List Costed) (by : CostBy) (rows : List ℕ) : Type 0 where
   pub best : Costed
   pub first : FirstLeast (λ x. x .cost) best accepted
@@ -111,16 +131,25 @@ Unheld (answers.refused n l u t) = Unit {0}
 Unheld (answers.held v) = ⊥
 Unheld (answers.passed v) = Unit {0}
 
-module _ (lodge : Docket → List ℕ → Lodged) where
+module _ (lodge : Lodging) (report : Reporting) (buffer : Writing) where
   -- after one list
   pub record After (texts : List (List ℕ)) : Type 0 where
     pub verdicts : List Verdict
     pub texts-are : Are none texts verdicts
     pub answers-are : map stated (answers-to lodge fresh-docket texts) ≡ answers-due [] verdicts
-    pub holds : Holding (known-at-end none verdicts) verdicts (docket-after lodge fresh-docket texts)
-    pub unchanged : (text : List ℕ) → Unheld (stated (lodge (docket-after lodge fresh-docket texts) text .answer))
-        → lodge (docket-after lodge fresh-docket texts) text .docket ≡ docket-after lodge fresh-docket texts
+    pub holds : Holding (known-at-end none verdicts) verdicts (reached lodge texts)
+    pub unchanged : (text : List ℕ) → Unheld (stated (lodge (reached lodge texts) text .answer))
+        → lodge (reached lodge texts) text .docket ≡ reached lodge texts
+    pub reports : (b : List ℕ) (k : ℕ)
+        → Reports verdicts (reached lodge texts) b k (report (reached lodge texts) b k) (buffer (reached lodge texts) b k)
 
   -- after every list
   abbrev pub Demand3 : Type 0
   Demand3 = (texts : List (List ℕ)) → After texts
+
+-- two ways that cannot be told apart after a list
+pub record Same (lodge lodge′ : Lodging) (report report′ : Reporting) (buffer buffer′ : Writing) (texts : List (List ℕ)) : Type 0 where
+  pub same-answers : answers-to lodge fresh-docket texts ≡ answers-to lodge′ fresh-docket texts
+  pub same-docket : reached lodge texts ≡ reached lodge′ texts
+  pub same-reports : (b : List ℕ) (k : ℕ) → report (reached lodge texts) b k ≡ report′ (reached lodge′ texts) b k
+  pub same-buffers : (b : List ℕ) (k : ℕ) → buffer (reached lodge texts) b k ≡ buffer′ (reached lodge′ texts) b k

@@ -24,7 +24,7 @@ nothing-held = record { cost = cost.Nothing; bound = bound.Nothing }
 abbrev pub fresh-docket : Docket
 fresh-docket = record { known = false; problem = blank-problem; held = nothing-held; rows = replicate 1536 0 }
 
--- ---- whether a value of the struct can be a docket that lodging made. A struct carries no such promise of its own
+-- ---- a test of a value of the struct, which carries no promise of its own: every docket that lodging makes passes
 
 abbrev pub every : {A : Type 0} → (A → Bool) → List A → Bool
 every test [] = true

@@ -1,10 +1,20 @@
 -- What document 01 says of the docket.
 pub mod Docket
-pub mod Answers
 pub mod Verdicts
 pub mod Lodging
+pub mod Report
 pub mod Texts
+pub mod ReportDue
 pub mod Demand3
+pub mod Interleaved
+pub mod Listing
+pub mod Promised
 pub mod WrongDockets
+pub mod WrongStates
 pub mod WrongLodging
+pub mod WrongHolding
+pub mod Shown
+pub mod WrongReports
+pub mod WrongReporting
 pub mod Following
+pub mod Specimens

@@ -30,9 +30,9 @@ use Rattle.docket.specs.declared.held.HeldBound.{HeldBound}
 use Rattle.docket.specs.declared.held.HeldBound.the-variants as bound
 use Rattle.docket.specs.declared.admission.Admission.{Admission}
 use Rattle.docket.specs.declared.admission.Admission.the-variants as admission
-use Rattle.docket.specs.declared.answer.Answer.{Answer}
-use Rattle.docket.specs.declared.answer.Answer.the-variants.{Refused, ProblemHeld, ScheduleHeld, SchedulePassed, TreeHeld, TreePassed}
-use Rattle.docket.specs.declared.answer.TreeFigures.{TreeFigures}
+use Rattle.answer.specs.declared.Answer.{Answer}
+use Rattle.answer.specs.declared.Answer.the-variants.{Refused, ProblemHeld, ScheduleHeld, SchedulePassed, TreeHeld, TreePassed}
+use Rattle.answer.specs.declared.TreeFigures.{TreeFigures}
 use Rattle.docket.specs.Docket.{nothing-held, fresh-docket, sound}
 use Rattle.docket.specs.Verdicts.{Costed, Verdict, refused, problem, schedule, tree}
 
@@ -40,7 +40,7 @@ abbrev pub pick : {A : Type 0} → Bool → A → A → A
 pick true a b = a
 pick false a b = b
 
--- ---- before the lines: 11; then 12 for the first line; then 41, 42
+-- ---- what is asked before any line but the first: 11, the kind (12), 41 and 42, in that order
 
 abbrev pub refuse-whole : ℕ → ℕ → Admission
 refuse-whole n line = admission.Refused (refusalOf n line 0 0)
@@ -94,7 +94,7 @@ with-held d h rows = record { known = d .known; problem = d .problem; held = h; 
 abbrev pub with-problem : Problem → Docket
 with-problem p = record { known = true; problem = p; held = nothing-held; rows = replicate 1536 0 }
 
--- a schedule is held if none is held or it costs less
+-- whether a schedule of cost c takes the held one's place, or the empty one
 abbrev pub is-less : ℕ → HeldCost → Bool
 is-less c cost.Nothing = true
 is-less c (cost.Number n) = ltb c (n .cost)
@@ -104,7 +104,7 @@ with-schedule d s =
     with-held d (record { cost = cost.Number (record { cost = s .cost; writer = s .writer }); bound = d .held .bound })
     (pad 0 1536 (joined (s .rows)))
 
--- a bound is held if none is held or it is higher, never being above every number
+-- whether the bound b takes the held one's place, or the empty one; no number is above never
 abbrev pub is-higher : Bound → HeldBound → Bool
 is-higher b bound.Nothing = true
 is-higher b (bound.Never n) = false

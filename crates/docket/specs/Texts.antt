@@ -11,6 +11,7 @@ use Rattle.model.specs.Cost.{cost}
 use Rattle.model.specs.Above.{root}
 use Rattle.model.specs.Tree.{Tree, Limits, Holds}
 use Rattle.refusal.specs.declared.Refusal.{Refusal}
+use Rattle.refusal.specs.Refusals.{line-refusal}
 use Rattle.text.specs.Lines.{ended, lineAt, kindProblem, kindSchedule, kindTree}
 use Rattle.problem.specs.Rendering as problems
 use Rattle.problem.specs.Refusals.{RefusedAt}
@@ -30,7 +31,7 @@ Begins text word = lineAt text 0 ≡ ended word
 
 -- a refusal with its line, no unit and no period
 abbrev pub at-line : ℕ → ℕ → Verdict
-at-line n l = refused (record { number = n; line = l; unit = 0; period = 0 })
+at-line n l = refused (line-refusal n l)
 
 -- what a text is, where an earlier text gave the problem, or none did
 pub data Is : Option Instance → List ℕ → Verdict → Type 0 where

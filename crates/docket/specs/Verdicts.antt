@@ -34,7 +34,7 @@ trees (problem P ∷ vs) = trees vs
 trees (schedule s ∷ vs) = trees vs
 trees (tree F ∷ vs) = F ∷ trees vs
 
--- document 01, The list of demand 3: a problem is held once an earlier text is an accepted problem, and it is that one
+-- document 01, The list of demand 3: for 41 and 42 only the first accepted problem counts, from the next text on
 abbrev pub known-after : Option Instance → Verdict → Option Instance
 known-after (some P) v = some P
 known-after none (refused r) = none

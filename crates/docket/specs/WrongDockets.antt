@@ -1,27 +1,24 @@
--- Document 01, Conditions of acceptance: what wrong dockets do. Each is said of any way of lodging; demand 3 refutes it.
+-- Document 01, Conditions of acceptance: how wrong dockets answer, each said of any way of lodging and of the dockets that it reaches from a fresh one.
+-- Demand 3 refutes each.
 use mathlib.Core.Path.{_≡_}
 use mathlib.Core.Bool.{true}
 use mathlib.Core.List.{List}
-use mathlib.Core.Option.{none, some}
-use Prim.Native.Nat.{ℕ}
-use Rattle.model.specs.Instance.{Instance, Schedule}
-use Rattle.model.specs.Ranges.{WellFormed}
-use Rattle.model.specs.Rules.{Meets}
-use Rattle.model.specs.Tree.{Tree, short, stuck, Bound, splits, leaves}
+use mathlib.Core.Option.{none}
+use Prim.Native.Nat.{ℕ, _<_}
+use Rattle.model.specs.Instance.{Instance}
+use Rattle.model.specs.Ranges.{WellFormed, GoodWriter}
+use Rattle.model.specs.Tree.{Tree, short, stuck, Bound, never, number, splits, leaves}
 use Rattle.problem.specs.Rendering as problems
-use Rattle.tree.specs.Rendering as trees
+use Rattle.tree.specs.Rendering as rendered
 use Rattle.tree.specs.Answers.{figures-of}
-use Rattle.docket.specs.declared.Docket.{Docket}
-use Rattle.docket.specs.declared.Lodged.{Lodged}
 use Rattle.docket.specs.declared.held.CostBy.{CostBy}
 use Rattle.docket.specs.declared.held.HeldCost.the-variants as cost
-use Rattle.docket.specs.declared.held.NeverBy.{NeverBy}
+use Rattle.docket.specs.declared.held.HeldBound.{HeldBound}
 use Rattle.docket.specs.declared.held.HeldBound.the-variants as bound
-use Rattle.docket.specs.Docket.{fresh-docket}
-use Rattle.docket.specs.Answers.{Values, its-cost, its-bound, Stated, refused, held, passed, stated}
+use Rattle.answer.specs.Answers.{Values, its-cost, its-bound, Stated, refused, held, passed, stated, Carries}
 use Rattle.docket.specs.Verdicts.{Verdict, tree, known-at-end}
-use Rattle.docket.specs.Texts.{Short, Is, Are}
-use Rattle.docket.specs.Demand3.{docket-after}
+use Rattle.docket.specs.Texts.{Short, Is, Accepted, Are}
+use Rattle.docket.specs.Demand3.{Lodging, reached}
 
 -- ---- kinds of answers
 
@@ -40,31 +37,36 @@ IsPassed (refused n l u t) = ⊥
 IsPassed (held v) = ⊥
 IsPassed (passed v) = Unit {0}
 
--- held or passed with these values
-abbrev pub Carries : Stated → Values → Type 0
-Carries (refused n l u t) w = ⊥
-Carries (held v) w = v ≡ w
-Carries (passed v) w = v ≡ w
+-- the bound b is held
+abbrev pub IsBound : HeldBound → Bound → Type 0
+IsBound bound.Nothing b = ⊥
+IsBound (bound.Number by) b = number (by .value) ≡ b
+IsBound (bound.Never by) b = never ≡ b
 
-module _ (lodge : Docket → List ℕ → Lodged) where
-  abbrev pub answer : Docket → List ℕ → Stated
-  answer d text = stated (lodge d text .answer)
+module _ (lodge : Lodging) where
+  -- the answer to a text after a list
+  abbrev pub answer : List (List ℕ) → List ℕ → Stated
+  answer texts text = stated (lodge (reached lodge texts) text .answer)
 
   -- refusing every text
   abbrev pub RefusesAll : Type 0
-  RefusesAll = (d : Docket) (text : List ℕ) → IsRefused (answer d text)
+  RefusesAll = (texts : List (List ℕ)) (text : List ℕ) → IsRefused (answer texts text)
+
+  -- or every text once a problem is known, of those that should be accepted
+  abbrev pub RefusesRest : Type 0
+  RefusesRest = (texts : List (List ℕ)) (verdicts : List Verdict) (text : List ℕ) → Are none texts verdicts → Accepted (known-at-end none verdicts) text
+      → reached lodge texts .known ≡ true
+      → IsRefused (answer texts text)
 
   -- giving every tree the bound b
   abbrev pub OneBound : Bound → Type 0
-  OneBound b = (d : Docket) (text : List ℕ) (c : Bound) (m n : ℕ) → Carries (answer d text) (its-bound c m n) → c ≡ b
+  OneBound b = (texts : List (List ℕ)) (text : List ℕ) (c : Bound) (m n : ℕ) → Carries (answer texts text) (its-bound c m n) → c ≡ b
 
-  -- never changing what it holds
-  abbrev pub NeverChanges : Type 0
-  NeverChanges = (d : Docket) (text : List ℕ) → lodge d text .docket .held ≡ d .held
-
-  -- judging the first text and passing the rest
+  -- judging the first text, a problem, and passing the rest, of those that should be accepted
   abbrev pub PassesRest : Type 0
-  PassesRest = (d : Docket) (text : List ℕ) → d .known ≡ true → IsPassed (answer d text)
+  PassesRest = (texts : List (List ℕ)) (verdicts : List Verdict) (text : List ℕ) → Are none texts verdicts → Accepted (known-at-end none verdicts) text
+      → reached lodge texts .known ≡ true
+      → IsPassed (answer texts text)
 
   -- inventing splits or leaves: of some tree that is accepted after some list, not its counts of lines
   pub record Invents : Type 0 where
@@ -74,38 +76,38 @@ module _ (lodge : Docket → List ℕ → Lodged) where
     pub P : Instance
     pub writer : ℕ
     pub its : Tree
-    pub accepted : Is (known-at-end none verdicts) (trees.render writer its) (tree (figures-of P writer its))
+    pub accepted : Is (known-at-end none verdicts) (rendered.render writer its) (tree (figures-of P writer its))
     pub given : Bound
     pub some-splits : ℕ
     pub some-leaves : ℕ
-    pub carries : Carries (answer (docket-after lodge fresh-docket texts) (trees.render writer its)) (its-bound given some-splits some-leaves)
+    pub carries : Carries (answer texts (rendered.render writer its)) (its-bound given some-splits some-leaves)
     pub invented : (some-splits ≡ splits its) × (some-leaves ≡ leaves its) → ⊥
 
-  -- calling a unit stuck unexamined: accepting a lone leaf stuck=U under any problem
+  -- calling a unit stuck unexamined: accepting a lone leaf stuck=U of every writer, of every unit of the problem
   abbrev pub StuckUnexamined : Type 0
-  StuckUnexamined = (d : Docket) (w U : ℕ) → d .known ≡ true → IsRefused (answer d (trees.render w (stuck U))) → ⊥
+  StuckUnexamined = (texts : List (List ℕ)) (w U : ℕ) → reached lodge texts .known ≡ true → GoodWriter w → U < reached lodge texts .problem .units
+      → IsRefused (answer texts (rendered.render w (stuck U)))
+      → ⊥
 
-  -- calling a problem never unexamined: accepting a lone leaf short=P under any problem
+  -- calling a problem never unexamined: accepting a lone leaf short=P of every writer, of every period of the problem
   abbrev pub NeverUnexamined : Type 0
-  NeverUnexamined = (d : Docket) (w t : ℕ) → d .known ≡ true → IsRefused (answer d (trees.render w (short t))) → ⊥
-
-  -- or holding never after some list, though a schedule meets the rules of its problem
-  pub record NeverUntrue : Type 0 where
-    pub texts : List (List ℕ)
-    pub verdicts : List Verdict
-    pub texts-are : Are none texts verdicts
-    pub P : Instance
-    pub known : known-at-end none verdicts ≡ some P
-    pub by : NeverBy
-    pub never-held : docket-after lodge fresh-docket texts .held .bound ≡ bound.Never by
-    pub rows : Schedule
-    pub meets : Meets P rows
+  NeverUnexamined = (texts : List (List ℕ)) (w t : ℕ) → reached lodge texts .known ≡ true → GoodWriter w → t < reached lodge texts .problem .periods
+      → IsRefused (answer texts (rendered.render w (short t)))
+      → ⊥
 
   -- letting a second problem in
   abbrev pub SecondProblem : Type 0
-  SecondProblem = (d : Docket) (P : Instance) → WellFormed P → Short (problems.render P) → IsHeld (answer d (problems.render P))
+  SecondProblem = (texts : List (List ℕ)) (P : Instance) → reached lodge texts .known ≡ true → WellFormed P → Short (problems.render P)
+      → IsHeld (answer texts (problems.render P))
 
   -- keeping the last of the schedules with the least cost: one that costs what the held one costs is held
   abbrev pub KeepsLast : Type 0
-  KeepsLast = (d : Docket) (text : List ℕ) (by : CostBy) → d .held .cost ≡ cost.Number by → Carries (answer d text) (its-cost (by .cost))
-      → IsHeld (answer d text)
+  KeepsLast = (texts : List (List ℕ)) (text : List ℕ) (by : CostBy) → reached lodge texts .held .cost ≡ cost.Number by
+      → Carries (answer texts text) (its-cost (by .cost))
+      → IsHeld (answer texts text)
+
+  -- keeping the last of the trees with the highest bound: one whose bound is the held one is held
+  abbrev pub KeepsLastTree : Type 0
+  KeepsLastTree = (texts : List (List ℕ)) (text : List ℕ) (b : Bound) (m n : ℕ) → IsBound (reached lodge texts .held .bound) b
+      → Carries (answer texts text) (its-bound b m n)
+      → IsHeld (answer texts text)

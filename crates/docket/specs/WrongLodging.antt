@@ -1,25 +1,20 @@
--- Wrong ways of lodging, written out: each has a fault that document 01, Conditions of acceptance, names.
-use mathlib.Core.Bool.{Bool, true}
+-- Wrong ways of lodging, written out: each answers with a fault that document 01, Conditions of acceptance, names.
 use mathlib.Core.List.{List}
 use Prim.Native.Nat.{ℕ, suc}
-use lib.Dec.{leb}
-use Rattle.model.specs.Held.{view}
 use Rattle.text.specs.Lines.{lineAt, kindOf}
 use Rattle.text.specs.declared.Kind.{Kind}
 use Rattle.text.specs.declared.Kind.the-variants as kind
 use Rattle.tree.specs.declared.figures.Bound.the-variants as given
 use Rattle.docket.specs.declared.Docket.{Docket}
 use Rattle.docket.specs.declared.Lodged.{Lodged}
-use Rattle.docket.specs.declared.held.HeldCost.{HeldCost}
-use Rattle.docket.specs.declared.held.HeldCost.the-variants as cost
-use Rattle.docket.specs.declared.answer.Answer.{Answer}
-use Rattle.docket.specs.declared.answer.Answer.the-variants.{Refused, ProblemHeld, ScheduleHeld, SchedulePassed, TreeHeld, TreePassed}
-use Rattle.docket.specs.declared.answer.TreeFigures.{TreeFigures}
+use Rattle.answer.specs.declared.Answer.{Answer}
+use Rattle.answer.specs.declared.Answer.the-variants.{Refused, ProblemHeld, ScheduleHeld, SchedulePassed, TreeHeld, TreePassed}
+use Rattle.answer.specs.declared.TreeFigures.{TreeFigures}
 use Rattle.docket.specs.Docket.{fresh-docket}
-use Rattle.docket.specs.Verdicts.{Verdict, refused, problem, schedule, tree}
-use Rattle.docket.specs.Lodging.{pick, judged, lodged, with-schedule, hold, lodge-of}
+use Rattle.docket.specs.Lodging.{pick, lodged, lodge-of}
+use Rattle.docket.specs.Demand3.{Lodging}
 
-abbrev pub refuse-all : Docket → List ℕ → Lodged
+abbrev pub refuse-all : Lodging
 refuse-all d text = lodged d (Refused (record { number = 12; line = 1; unit = 0; period = 0 }))
 
 -- the same docket, with another answer for a tree
@@ -31,24 +26,28 @@ retold f (SchedulePassed c) = SchedulePassed c
 retold f (TreeHeld x) = TreeHeld (f x)
 retold f (TreePassed x) = TreePassed (f x)
 
-abbrev pub retelling : (TreeFigures → TreeFigures) → Docket → List ℕ → Lodged
+abbrev pub retelling : (TreeFigures → TreeFigures) → Lodging
 retelling f d text = lodged (lodge-of d text .docket) (retold f (lodge-of d text .answer))
 
 -- every tree gives never
-abbrev pub one-bound : Docket → List ℕ → Lodged
+abbrev pub one-bound : Lodging
 one-bound = retelling (λ x. record { bound = given.Never; splits = x .splits; leaves = x .leaves })
 
 -- one split more than there are split lines, or one leaf more
-abbrev pub more-splits : Docket → List ℕ → Lodged
+abbrev pub more-splits : Lodging
 more-splits = retelling (λ x. record { bound = x .bound; splits = suc (x .splits); leaves = x .leaves })
 
-abbrev pub more-leaves : Docket → List ℕ → Lodged
+abbrev pub more-leaves : Lodging
 more-leaves = retelling (λ x. record { bound = x .bound; splits = x .splits; leaves = suc (x .leaves) })
 
-abbrev pub never-changing : Docket → List ℕ → Lodged
+abbrev pub never-changing : Lodging
 never-changing d text = lodged d (lodge-of d text .answer)
 
-abbrev pub passing-rest : Docket → List ℕ → Lodged
+-- once a problem is known, every text is refused, or passed
+abbrev pub refuse-rest : Lodging
+refuse-rest d text = pick (d .known) (refuse-all d text) (lodge-of d text)
+
+abbrev pub passing-rest : Lodging
 passing-rest d text = pick (d .known) (lodged d (SchedulePassed 0)) (lodge-of d text)
 
 abbrev pub never-figures : TreeFigures
@@ -61,7 +60,7 @@ examine-no-tree kind.Problem d text = lodge-of d text
 examine-no-tree kind.Schedule d text = lodge-of d text
 examine-no-tree kind.Tree d text = pick (d .known) (lodged d (TreeHeld never-figures)) (lodge-of d text)
 
-abbrev pub unexamined : Docket → List ℕ → Lodged
+abbrev pub unexamined : Lodging
 unexamined d text = examine-no-tree (kindOf (lineAt text 0)) d text
 
 -- a problem is taken up as by a fresh docket, whether one is known or not
@@ -71,20 +70,5 @@ any-problem kind.Problem d text = lodge-of fresh-docket text
 any-problem kind.Schedule d text = lodge-of d text
 any-problem kind.Tree d text = lodge-of d text
 
-abbrev pub second-problem : Docket → List ℕ → Lodged
+abbrev pub second-problem : Lodging
 second-problem d text = any-problem (kindOf (lineAt text 0)) d text
-
--- a schedule is held if it costs no more than the held one
-abbrev pub not-more : ℕ → HeldCost → Bool
-not-more c cost.Nothing = true
-not-more c (cost.Number n) = leb c (n .cost)
-
-abbrev pub hold-last : Docket → Verdict → Lodged
-hold-last d (refused r) = hold d d (refused r)
-hold-last d (problem P) = hold d d (problem P)
-hold-last d (schedule s) =
-    pick (not-more (s .cost) (d .held .cost)) (lodged (with-schedule d s) (ScheduleHeld (s .cost))) (lodged d (SchedulePassed (s .cost)))
-hold-last d (tree F) = hold d d (tree F)
-
-abbrev pub keeping-last : Docket → List ℕ → Lodged
-keeping-last d text = hold-last d (judged (d .known) (view (d .problem)) text)

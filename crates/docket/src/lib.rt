@@ -1,17 +1,20 @@
-// The docket: what it holds, and what lodging a text answers.
+// The docket: what it holds, what lodging a text answers, and its report.
 ghost use mathlib.Core.Path.{_≡_};
 ghost use Rattle.docket.specs.Docket.{fresh-docket};
 ghost use Rattle.docket.specs.Lodging.{lodge-of};
-use crate::answer::Answer;
+ghost use Rattle.docket.specs.Report.{report-of, buffer-of};
 use crate::held::Held;
 use crate::held::HeldBound;
 use crate::held::HeldCost;
+use answer::Answer;
 use model::arrays::Problem;
+use report::ReportAnswer;
 
-pub mod admission;
-pub mod answer;
+mod admission;
+mod figures;
 pub mod held;
-pub mod holding;
+mod holding;
+pub mod listing;
 mod lodging;
 mod sound;
 
@@ -27,6 +30,12 @@ pub struct Docket {
 pub struct Lodged {
     pub docket: Docket,
     pub answer: Answer,
+}
+
+// The docket as it was, and the answer to a report asked for.
+pub struct Reported {
+    pub docket: Docket,
+    pub answer: ReportAnswer,
 }
 
 impl Docket {
@@ -56,5 +65,19 @@ impl Docket {
         }
         let fresh = Docket::fresh();
         lodging::lodge_over(self, fresh, text)
+    }
+
+    // The docket as it was, with how many bytes of the buffer from `at` on now hold the report; or with 43, and the buffer as it was. Of a
+    // docket that is not sound the report is a fresh one's.
+    pub fn report(self, buffer: &mut [u8], at: usize) -> Reported
+        ensures answer { λ r. ⌜ r ≡ report-of self (now (buffer .entry)) at ⌝ }
+        ensures bytes { λ _. ⌜ now (buffer .exit) ≡ buffer-of self (now (buffer .entry)) at ⌝ }
+    {
+        let figures = figures::figures_shown(self);
+        let answer = report::write_report(figures, buffer, at);
+        Reported {
+            docket: self,
+            answer,
+        }
     }
 }

@@ -15,8 +15,8 @@ use crate::Docket;
 use crate::Lodged;
 use crate::admission;
 use crate::admission::Admission;
-use crate::answer::Answer;
 use crate::holding;
+use answer::Answer;
 
 // The docket after a problem's text, and the answer to it.
 fn lodge_problem(was: Docket, text: &[u8]) -> Lodged

@@ -1,4 +1,4 @@
-// Whether a docket can be one that lodging made.
+// A test of a docket, which carries no promise of its own: every docket that lodging makes passes.
 ghost use mathlib.Core.Path.{_≡_};
 ghost use Prim.Native.Nat.{ℕ, _≤_};
 ghost use lib.ListN.{take};

@@ -13,6 +13,7 @@ use Rattle.model.specs.Instance.{_at_}
 use Rattle.model.specs.Rules.{on, statuses, Within}
 use Rattle.model.specs.Above.{Mark, obeys}
 use Rattle.model.specs.Leaf.{gather, words, those, none-of, range, outputs, runs, rows-of}
+use Rattle.model.specs.Agreement.{Candidate}
 use Rattle.model.proofs.Members.{mem-words, mem-those, mem-range}
 
 -- ---- lists
@@ -110,12 +111,6 @@ run-mem n run e = mem-words (false ∷ (true ∷ [])) false n run e (λ t l. bit
 
 pub run-long : (n : ℕ) (run : List Bool) → List·Memᴰ run (runs n) → length run ≡ n
 run-long n run m = words-long (false ∷ (true ∷ [])) n run m
-
--- a row over which the least is taken (document 01, Rules for a leaf, price leaf)
-pub record Candidate (n : ℕ) (g : Generator) (m : ℕ → Mark) (r : List ℕ) : Type 0 where
-  pub long : length r ≡ n
-  pub limits : (t : ℕ) → t < n → Within g (r at t)
-  pub run : T (obeys g m (statuses r))
 
 pub rows-of-are : (n : ℕ) (g : Generator) (m : ℕ → Mark) (r : List ℕ) → List·Memᴰ r (rows-of n g m) ↔ Candidate n g m r
 unfolding rows-of

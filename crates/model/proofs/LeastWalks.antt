@@ -13,7 +13,8 @@ use Rattle.model.specs.Leaf.{least, rows-of}
 use Rattle.model.specs.Walk.{walk}
 use Rattle.model.proofs.Integers.{up, down, nat→le, nat→eq, -ℤ-nat}
 use Rattle.model.proofs.Leasts.{least-is}
-use Rattle.model.proofs.Candidates.{Candidate, rows-of-are}
+use Rattle.model.specs.Agreement.{Candidate}
+use Rattle.model.proofs.Candidates.{rows-of-are}
 use Rattle.model.proofs.WalkRows.{row-total, Cheapest, walk-below, walk-attained}
 
 module _ (n : ℕ) (g : Generator) (positive : 0 < g .pL) (m : ℕ → Mark) (c : ℕ → ℕ → ℕ) (w : ℕ → Bool → ℕ) (o : ℕ → ℕ)

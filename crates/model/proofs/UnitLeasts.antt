@@ -16,7 +16,8 @@ use Rattle.model.specs.Leaf.{least, is-stuck, rows-of, value, unit-least
 use Rattle.model.specs.Prices.{worth, best-output}
 use Rattle.model.proofs.Integers.{least-le}
 use Rattle.model.proofs.Leasts.{least-mem}
-use Rattle.model.proofs.Candidates.{Candidate, rows-of-are}
+use Rattle.model.specs.Agreement.{Candidate}
+use Rattle.model.proofs.Candidates.{rows-of-are}
 use Rattle.model.proofs.WalkRows.{walk-attained}
 use Rattle.model.proofs.Stuck.{stuck→none, not-stuck-walk}
 use Rattle.model.proofs.PriceWalks.{shifted, shifted-cheapest}

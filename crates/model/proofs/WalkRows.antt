@@ -13,7 +13,7 @@ use Rattle.model.specs.Rules.{on, if-on, statuses, Within, spent}
 use Rattle.model.specs.Cost.{switch-costs}
 use Rattle.model.specs.Above.{Mark}
 use Rattle.model.specs.Walk.{walk}
-use Rattle.model.proofs.Candidates.{Candidate}
+use Rattle.model.specs.Agreement.{Candidate}
 use Rattle.model.proofs.WalkRuns.{later, run-total, obeys→obeying, obeying→obeys, walk-below-run, walk-attained-run}
 
 -- what a row costs, the output p (0: off) costing c t p in period t, with its starts and stops, after k periods in b

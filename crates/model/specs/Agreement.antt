@@ -1,14 +1,15 @@
--- When a schedule agrees with the statuses fixed above a node, and what the leaves of a tree are.
+-- When a schedule agrees with the statuses fixed above a node, when a row does, and what the leaves of a tree are.
 use mathlib.Core.Path.{_≡_}
 use mathlib.Core.Bool.{true, false}
-use mathlib.Core.List.{[]}
+use mathlib.Core.List.{List, []}
 use mathlib.Core.Logic.{_⊎_, inl, inr}
-use Prim.Native.Nat.{ℕ}
+use Prim.Native.Nat.{ℕ, _<_}
 use lib.Dec.{T}
-use lib.ListN.{getD}
+use lib.ListN.{length, getD}
+use Rattle.model.specs.declared.generator.Generator.{Generator}
 use Rattle.model.specs.Instance.{Schedule, _at_}
-use Rattle.model.specs.Rules.{on}
-use Rattle.model.specs.Above.{Marks, Above, fix, allows}
+use Rattle.model.specs.Rules.{on, statuses, Within}
+use Rattle.model.specs.Above.{Mark, Marks, Above, fix, allows, obeys}
 use Rattle.model.specs.Tree.{Tree, split, short, stuck, price}
 
 -- unit u's output in period t, both counted from 0; 0 where there is none
@@ -22,6 +23,12 @@ Follows m s = (u t : ℕ) → T (allows (m u t) (on (out s u t)))
 -- it agrees with all that stands above a node
 abbrev pub Agrees : Above → Schedule → Type 0
 Agrees A s = Follows (A .marks) s
+
+-- a row over which a price leaf's least is taken: n whole outputs that obey (4), a run that obeys (5) to (10) and agrees with the marks
+pub record Candidate (n : ℕ) (g : Generator) (m : ℕ → Mark) (r : List ℕ) : Type 0 where
+  pub long : length r ≡ n
+  pub limits : (t : ℕ) → t < n → Within g (r at t)
+  pub run : T (obeys g m (statuses r))
 
 -- the leaves of a tree: those of a split's first tree and those of its second
 abbrev pub LeafOf : Tree → Type 0

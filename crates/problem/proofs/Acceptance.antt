@@ -1,49 +1,67 @@
 -- A problem is held as its text gives it: a text is accepted as a problem exactly where it is that problem's rendering and the problem is
 -- well-formed.
 use Prim.Native.Nat.{ℕ}
-use native.Mathlib.Omega.{arith}
 use mathlib.Core.Path.{_≡_, refl, sym, ap, _∙_}
+use mathlib.Core.Bool.{false, not}
 use mathlib.Core.Logic.{_↔_}
-use mathlib.Core.List.{List, [], _∷_, map}
+use mathlib.Core.List.{List, [], _∷_, _++_, map}
+use lib.ListN.{length}
+use Rattle.model.specs.declared.generator.Generator.{Generator}
 use Rattle.model.specs.Instance.{Instance}
 use Rattle.model.specs.Ranges.{WellFormed}
 use Rattle.model.specs.Held.{held, Valid}
 use Rattle.model.proofs.Held.{held-valid}
-use Rattle.text.specs.Lines.{Line, ended, due, later, linesOf, lineAt, kindProblem}
+use Rattle.text.specs.Lines.{ended, due, later, linesOf, lineAt, kindProblem, endProblem}
 use Rattle.text.specs.Course.{accepted}
-use Rattle.text.proofs.Words.{word-is}
+use Rattle.text.proofs.FirstLine.{problem-is}
+use Rattle.text.proofs.Bytes.{one-line}
 use Rattle.text.proofs.Courses.{accepted-is}
-use Rattle.problem.specs.Rendering.{lines-after, render}
-use Rattle.problem.specs.Course.{periods-due, judge, end, problem-judged}
+use Rattle.text.proofs.Texts.{OneLines, lines-text, whole-is}
+use Rattle.problem.specs.Units.{unit-key, unit-line, Tini-place, numbers}
+use Rattle.problem.specs.Rendering.{periods-key, units-key, demand-key, spare-key, lines-after, render}
+use Rattle.problem.specs.Course.{periods-due, tests, next-due, judge, end, problem-judged}
 use Rattle.problem.specs.Reading.{IsProblem}
-use Rattle.problem.proofs.FirstLine.{problem-line, line-problem}
-use Rattle.problem.proofs.Texts.{lines-text, text-lines, lines-one}
 use Rattle.problem.proofs.Rendered.{lines-good}
 use Rattle.problem.proofs.WasRendered.{lines-were}
 
-render-lines : (P : Instance) → linesOf (render P) ≡ ended kindProblem ∷ map ended (lines-after P)
+-- ---- the lines of a problem
+
+units-one : (gs : List Generator) → OneLines (map unit-line gs ++ (endProblem ∷ []))
+unfolding unit-line
+units-one [] = (refl, tt)
+units-one (g ∷ gs) = (one-line unit-key Tini-place (not (g .on)) (numbers g) refl, units-one gs)
+
+lines-one : (P : Instance) → OneLines (lines-after P)
+unfolding lines-after
+lines-one P = (
+  one-line periods-key 0 false (P .periods ∷ []) refl,
+  (one-line units-key 0 false (length (P .units) ∷ []) refl, (one-line demand-key 0 false (P .demand) refl, (one-line spare-key 0 false (P .spare) refl, units-one (P .units)))),
+)
+
+render-is-problem : (P : Instance) → IsProblem (render P)
 unfolding render
-render-lines P = lines-text (kindProblem ∷ lines-after P) (refl, lines-one P)
+render-is-problem P = problem-is (lineAt (render P) 0) .1 (ap due (lines-text (kindProblem ∷ lines-after P) (refl, lines-one P)))
+
+-- a text is the rendering exactly where its first line is kind=problem and these are the others
+rendered-is : (P : Instance) (text : List ℕ) → IsProblem text → (later (linesOf text) ≡ map ended (lines-after P)) ↔ (text ≡ render P)
+unfolding render
+rendered-is P text k = whole-is text kindProblem (lines-after P) (problem-is (lineAt text 0) .0 k) (refl, lines-one P)
+
+-- ---- accepted
 
 -- the rendering of a well-formed problem is accepted as that problem
 pub render-accepted : (P : Instance) → WellFormed P → IsProblem (render P) × (problem-judged (render P) ≡ accepted P)
-unfolding problem-judged
-render-accepted P W = (
-  line-problem (lineAt (render P) 0) (ap due (render-lines P)),
-  accepted-is judge end P 2 periods-due (later (linesOf (render P))) .1 (rw (render-lines P) (lines-good P W)),
-)
+unfolding problem-judged judge
+render-accepted P W =
+    let k = render-is-problem P in
+    (k, accepted-is tests next-due end P 2 periods-due (later (linesOf (render P))) .1 (rw (rendered-is P (render P) k .1 refl) (lines-good P W)))
 
 -- a text that is accepted is the rendering of what it is accepted as
 pub accepted-rendered : (P : Instance) (text : List ℕ) → IsProblem text → problem-judged text ≡ accepted P → (text ≡ render P) × WellFormed P
-unfolding problem-judged render
+unfolding problem-judged judge
 accepted-rendered P text k e =
-    let L = lines-were P (later (linesOf text)) (accepted-is judge end P 2 periods-due (later (linesOf text)) .0 e) in
-    let f : due (linesOf text) ≡ ended kindProblem = word-is kindProblem (lineAt text 0) (problem-line (lineAt text 0) k) in
-    (text-lines text (kindProblem ∷ lines-after P) (whole (linesOf text) f (L .lines)), L .well-formed)
-  where
-    whole : (ls : List Line) → due ls ≡ ended kindProblem → later ls ≡ map ended (lines-after P) → ls ≡ ended kindProblem ∷ map ended (lines-after P)
-    whole [] f e = absurd (let z : _≡_ {A = ℕ} 0 1 = cc in omega arith)
-    whole (l ∷ ls) f e = λ i. f i ∷ e i
+    let L = lines-were P (later (linesOf text)) (accepted-is tests next-due end P 2 periods-due (later (linesOf text)) .0 e) in
+    (rendered-is P text k .0 (L .lines), L .well-formed)
 
 pub problem-accepted : (P : Instance) (text : List ℕ) → (IsProblem text × (problem-judged text ≡ accepted P)) ↔ ((text ≡ render P) × WellFormed P)
 problem-accepted P text = (λ p. accepted-rendered P text (p .0) (p .1), λ q. rw (q .0) (render-accepted P (q .1)))

@@ -1,23 +1,21 @@
 -- What the reader's answer says of the text: accepted exactly where the text renders a well-formed problem, which is then held; refused
 -- with the number and the line of the first breach.
-use Prim.Native.Nat.{ℕ, _≤_, _<_}
+use Prim.Native.Nat.{ℕ}
 use native.Mathlib.Omega.{arith}
 use mathlib.Core.Path.{_≡_, refl, sym, ap, _∙_}
 use mathlib.Core.List.{List}
 use Rattle.model.specs.Instance.{Instance}
 use Rattle.model.specs.Ranges.{WellFormed}
 use Rattle.model.specs.Held.{held, blank-problem}
-use Rattle.refusal.specs.Refusals.{refusalOf}
+use Rattle.refusal.specs.Refusals.{refusalOf, line-refusal}
 use Rattle.refusal.specs.declared.Refusal.{Refusal}
-use Rattle.refusal.proofs.Places.{line-low}
-use Rattle.text.specs.Lines.{Line, due}
 use Rattle.text.specs.Course.{Judged, refused-at, accepted}
 use Rattle.problem.specs.Rendering.{render}
-use Rattle.problem.specs.Course.{Due, problem-judged}
-use Rattle.problem.specs.Refusals.{Breaks, by-12, by-14, by-13, by-15, RefusedAt}
+use Rattle.problem.specs.Course.{problem-judged}
+use Rattle.problem.specs.Refusals.{RefusedAt}
 use Rattle.problem.specs.Reading.{IsProblem, read-as, problem-read}
 use Rattle.problem.specs.declared.ProblemAnswer.the-variants.{Refused, Accepted}
-use Rattle.problem.proofs.Refusals.{problem-refused}
+use Rattle.problem.proofs.Refusals.{problem-refused, refused-carries}
 use Rattle.problem.proofs.Acceptance.{render-accepted, accepted-rendered}
 
 -- ---- accepted
@@ -46,33 +44,19 @@ answer-accepted text k = go (problem-judged text) refl
 
 -- ---- refused
 
--- every number is 12, 13, 14 or 15
-breaks-number : (s : Due) (l : Line) (n : ℕ) → Breaks s l n → (11 ≤ n) × (n < 16)
-breaks-number s l n (by-12 e p) = (omega arith, omega arith)
-breaks-number s l n (by-14 e p q) = (omega arith, omega arith)
-breaks-number s l n (by-13 e p q t) = (omega arith, omega arith)
-breaks-number s l n (by-15 e p q t u) = (omega arith, omega arith)
-
--- so it carries its line, and no unit or period
-abbrev pub at-line : ℕ → ℕ → Refusal
-at-line n m = record { number = n; line = m; unit = 0; period = 0 }
-
-carried : (n m : ℕ) (text : List ℕ) → RefusedAt n m text → refusalOf n m 0 0 ≡ at-line n m
-carried n m text r = let b = breaks-number (r .stands) (due (r .after)) n (r .breaks) in sym (line-low n m 0 0 (b .0) (b .1))
-
 -- a text with a breach is read as its refusal and a blank problem
-pub refused-read : (n m : ℕ) (text : List ℕ) → RefusedAt n m text → problem-read text ≡ record { answer = Refused (at-line n m); problem = blank-problem }
+pub refused-read : (n m : ℕ) (text : List ℕ) → RefusedAt n m text → problem-read text ≡ record { answer = Refused (line-refusal n m); problem = blank-problem }
 unfolding problem-read read-as
 refused-read n m text r =
     ap read-as (problem-refused n m text .1 r)
-    ∙ ap (λ (x : Refusal). record { answer = Refused x; problem = blank-problem }) (carried n m text r)
+    ∙ ap (λ (x : Refusal). record { answer = Refused x; problem = blank-problem }) (refused-carries n m text r)
 
 -- the refusal is that of a breach of the text
 pub record IsRefused (x : Refusal) (text : List ℕ) : Type 0 where
   pub number : ℕ
   pub line : ℕ
   pub breach : RefusedAt number line text
-  pub refusal : x ≡ at-line number line
+  pub refusal : x ≡ line-refusal number line
 
 pub answer-refused : (x : Refusal) (text : List ℕ) → problem-read text .answer ≡ Refused x → IsRefused x text
 unfolding problem-read read-as
@@ -81,5 +65,5 @@ answer-refused x text = go (problem-judged text) refl
     go : (j : Judged Instance) → problem-judged text ≡ j → read-as j .answer ≡ Refused x → IsRefused x text
     go (refused-at n l) e a =
         let r = problem-refused n l text .0 e in
-        record { number = n; line = l; breach = r; refusal = (let z : refusalOf n l 0 0 ≡ x = cc in sym z) ∙ carried n l text r }
+        record { number = n; line = l; breach = r; refusal = (let z : refusalOf n l 0 0 ≡ x = cc in sym z) ∙ refused-carries n l text r }
     go (accepted P) e a = absurd (let z : _≡_ {A = ℕ} 0 1 = cc in omega arith)

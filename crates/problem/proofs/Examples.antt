@@ -9,9 +9,10 @@ use Rattle.model.specs.Instance.{Instance}
 use Rattle.model.specs.Ranges.{WellFormed, ordered}
 use Rattle.text.specs.Lines.{kindOf}
 use Rattle.text.specs.Forms.{malformed, wrongCount, outOfRange}
+use Rattle.text.specs.Rendering.{text-of}
 use Rattle.text.specs.Course.{refused-at, accepted, judged-from}
 use Rattle.problem.specs.Units.{unit-line, unit-of}
-use Rattle.problem.specs.Rendering.{lines-after, text-of, render}
+use Rattle.problem.specs.Rendering.{lines-after, render}
 use Rattle.problem.specs.Course.{judge, problem-judged}
 use Rattle.problem.specs.Reading.{IsProblem}
 use Rattle.problem.proofs.Acceptance.{accepted-rendered}

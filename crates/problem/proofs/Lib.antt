@@ -1,14 +1,12 @@
-pub mod Judging
+pub mod Refusals
 pub mod Following
 pub mod UnitRows
 pub mod Padding
 pub mod Fleets
 pub mod Ends
 pub mod FirstLine
-pub mod Refusals
 pub mod UnitLines
 pub mod Signs
-pub mod Texts
 pub mod PlainLines
 pub mod Rendered
 pub mod WasRendered

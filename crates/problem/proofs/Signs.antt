@@ -5,6 +5,7 @@ use mathlib.Core.Path.{_≡_, refl, ap, _∙_}
 use mathlib.Core.Bool.{Bool, true, false, not}
 use mathlib.Core.List.{List, []}
 use lib.ListN.{getD}
+use Rattle.decimal.specs.Decimal.{shown-whole}
 use Rattle.model.specs.declared.generator.Generator.{Generator}
 use Rattle.model.specs.Instance.{Tini}
 use Rattle.model.specs.Ranges.{InRange, ordered}
@@ -12,7 +13,7 @@ use Rattle.text.specs.Lines.{Line}
 use Rattle.text.specs.Forms as forms
 use Rattle.text.specs.Forms.{valuesOf}
 use Rattle.text.proofs.Accepted.{values-rendered}
-use Rattle.problem.specs.Units.{numbers, unit-values, unit-line, unit-form, unit-of, shown-whole}
+use Rattle.problem.specs.Units.{numbers, unit-values, unit-line, unit-form, unit-of}
 use Rattle.problem.proofs.UnitLines.{unit-fits, unit-line-was}
 
 -- a generator with another Tini

@@ -5,15 +5,14 @@ use mathlib.Core.Bool.{Bool, true, false, not, _&&_}
 use mathlib.Core.List.{List, [], _∷_, _++_, map}
 use lib.ListN.{length, length-append}
 use lib.Dec.{eqb}
-use Rattle.decimal.specs.Decimal.{digits}
 use Rattle.decimal.proofs.Digits.{width-below}
 use Rattle.model.specs.declared.generator.Generator.{Generator}
 use Rattle.model.specs.Instance.{Instance}
 use Rattle.model.specs.Ranges.{All, InRange, GoodLoad, GoodUnit, WellFormed}
 use Rattle.text.specs.Lines.{kindProblem, endProblem}
-use Rattle.text.specs.Rendering.{joined, shown, shownAll, rendered}
+use Rattle.text.specs.Rendering.{joined, shown, shownAll, rendered, plain-line, text-of}
 use Rattle.problem.specs.Units.{unit-key, Tini-place, numbers, unit-line}
-use Rattle.problem.specs.Rendering.{periods-key, units-key, demand-key, spare-key, plain-line, lines-after, text-of, render}
+use Rattle.problem.specs.Rendering.{periods-key, units-key, demand-key, spare-key, lines-after, render}
 
 -- ---- one line
 

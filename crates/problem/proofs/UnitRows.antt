@@ -3,6 +3,7 @@ use Prim.Native.Nat.{ℕ, _<_}
 use native.Mathlib.Omega.{arith}
 use mathlib.Core.Path.{_≡_, refl, sym, ap, _∙_}
 use mathlib.Core.Bool.{Bool, true, false, not}
+use mathlib.Core.List.{[], _∷_}
 use lib.ListN.{getD}
 use Rattle.model.specs.declared.generator.Generator.{Generator}
 use Rattle.model.specs.Instance.{Instance}
@@ -11,16 +12,16 @@ use Rattle.text.specs.Lines.{Line}
 use Rattle.text.specs.Forms as forms
 use Rattle.text.specs.Forms.{refusedBy, after, padded, rowOf, anyMinus, valuesOf, sizes}
 use Rattle.text.specs.Course.{refused, good}
+use Rattle.text.specs.Tests.{_if_, found}
 use Rattle.text.specs.declared.Row.{Row}
 use Rattle.text.specs.declared.Verdict.the-variants as verdict
-use Rattle.text.proofs.Verdicts.{verdict-refused, verdict-good, row-read}
+use Rattle.text.proofs.Verdicts.{verdict-refused, verdict-good, row-read, form-refused, form-found}
 use Rattle.text.proofs.Accepted.{good-rendered}
 use Rattle.text.proofs.Plain.{padded-at}
 use Rattle.problem.specs.Units.{unit-form, unit-of, generator}
 use Rattle.problem.specs.Course.{unit-due, fleet-due, with-unit, judge}
 use Rattle.problem.specs.Following.{pickUnit, no-unit, unit-row}
 use Rattle.problem.specs.declared.unit.UnitRow.{UnitRow}
-use Rattle.problem.proofs.Judging.{judge-number, judge-15, judge-good}
 
 module _ (l : Line) (at : ℕ) where
   -- ---- what the reader of the line answers, from the row of its numbers
@@ -76,6 +77,17 @@ module _ (l : Line) (at : ℕ) where
 
   -- ---- what the row says of the line at its place
 
+  module _ (m : ℕ) (P : Instance) where
+    judge-number : forms.good unit-form l ≡ false → judge (unit-due m P) l ≡ refused (refusedBy unit-form l)
+    unfolding judge
+    judge-number = form-refused unit-form l (15 if not (ordered (unit-of l)) ∷ []) (fleet-due m (with-unit P (unit-of l)))
+
+    judge-15 : (o : Bool) → forms.good unit-form l ≡ true → ordered (unit-of l) ≡ o → judge (unit-due m P) l ≡ found (15 if not o ∷ []) (fleet-due m (with-unit P (unit-of l)))
+    unfolding judge
+    judge-15 o g e =
+        form-found unit-form l (15 if not (ordered (unit-of l)) ∷ []) (fleet-due m (with-unit P (unit-of l))) g
+        ∙ ap (λ (x : Bool). found (15 if not x ∷ []) (fleet-due m (with-unit P (unit-of l)))) e
+
   pub row-number : (m n : ℕ) (P : Instance) → unit-row l at .verdict ≡ verdict.Refused n → judge (unit-due m P) l ≡ refused n
   unfolding unit-row
   row-number m n P = go (forms.good unit-form l) refl (ordered (unit-of l)) refl
@@ -83,8 +95,8 @@ module _ (l : Line) (at : ℕ) where
       go : (g : Bool) → forms.good unit-form l ≡ g → (o : Bool) → ordered (unit-of l) ≡ o
           → pickUnit g (pickUnit o (record { verdict = verdict.Good (after l at); generator = unit-of l }) (no-unit 15)) (no-unit (refusedBy unit-form l)) .verdict ≡ verdict.Refused n
           → judge (unit-due m P) l ≡ refused n
-      go false p o q e = judge-number (unit-due m P) unit-form l refl p ∙ ap refused (let z : refusedBy unit-form l ≡ n = cc in z)
-      go true p false q e = judge-15 (unit-due m P) unit-form l refl p (ap not q) ∙ ap refused (let z : 15 ≡ n = cc in z)
+      go false p o q e = judge-number m P p ∙ ap refused (let z : refusedBy unit-form l ≡ n = cc in z)
+      go true p false q e = judge-15 m P false p q ∙ ap refused (let z : 15 ≡ n = cc in z)
       go true p true q e = absurd (let z : _≡_ {A = ℕ} 0 1 = cc in omega arith)
 
   -- a good row: the line is good at its place, and its generator follows those before it
@@ -106,5 +118,5 @@ module _ (l : Line) (at : ℕ) where
         formed = p;
         place = let z : after l at ≡ next = cc in sym z;
         unit = refl;
-        judged = λ m P. judge-good (unit-due m P) unit-form l refl p (ap not q);
+        judged = λ m P. judge-15 m P true p q;
       }

@@ -1,7 +1,8 @@
 -- Lines that are all good, each at its place, are those of the problem that they give, and it is well-formed. They are taken off one by one.
-use Prim.Native.Nat.{ℕ, zero, suc, _+_}
+use Prim.Native.Nat.{ℕ, zero, suc}
 use native.Mathlib.Omega.{arith}
 use mathlib.Core.Path.{_≡_, refl, sym, ap, subst, _∙_}
+use mathlib.Core.Bool.{not}
 use mathlib.Core.List.{List, [], _∷_, _++_, map, append-assoc, append-nil}
 use mathlib.Core.Option.{none, some}
 use lib.ListN.{length, getD}
@@ -10,15 +11,17 @@ use Rattle.model.specs.declared.generator.Generator.{Generator}
 use Rattle.model.specs.Instance.{Instance}
 use Rattle.model.specs.Ranges.{Between, All, GoodLoad, GoodUnit, WellFormed, ordered}
 use Rattle.text.specs.Lines.{Line, ended, isLine, endProblem}
-use Rattle.text.specs.Course.{good, Good, none-yet, one-more, AllGood}
+use Rattle.text.specs.Forms.{numbers-of}
+use Rattle.text.specs.Rendering.{plain-line}
+use Rattle.text.specs.Tests.{_if_, None, Passed, none-yet, one-more, AllPassed}
 use Rattle.text.proofs.Words.{word-is}
+use Rattle.text.proofs.Plain.{plain-passed, one-value}
+use Rattle.text.proofs.Verdicts.{form-passes}
 use Rattle.problem.specs.Units.{unit-line, unit-of, unit-form}
-use Rattle.problem.specs.Rendering.{plain-line, lines-after, periods-key, units-key, demand-key, spare-key}
-use Rattle.problem.specs.Course.{Due, periods-due, units-due, demand-due, spare-due, unit-due, end-due, nothing-due, fleet-due, no-units, with-unit, next-due, numbers-of, periods-form, units-form, demand-form, spare-form, judge, end}
-use Rattle.problem.specs.Refusals.{Passes}
-use Rattle.problem.proofs.Refusals.{judge-passes}
+use Rattle.problem.specs.Rendering.{lines-after, periods-key, units-key, demand-key, spare-key}
+use Rattle.problem.specs.Course.{Due, periods-due, units-due, demand-due, spare-due, unit-due, end-due, nothing-due, fleet-due, no-units, with-unit, tests, next-due, periods-form, units-form, demand-form, spare-form, end}
 use Rattle.problem.proofs.UnitLines.{unit-line-was}
-use Rattle.problem.proofs.PlainLines.{passes-good, plain-line-was, one-value}
+use Rattle.problem.proofs.PlainLines.{between-all}
 use Rattle.problem.proofs.Rendered.{having, with-units}
 
 -- ---- one line off
@@ -28,31 +31,29 @@ pub record Taken (P : Instance) (s : Due) (ls : List Line) : Type 0 where
   pub first : Line
   pub rest : List Line
   pub parts : ls ≡ first ∷ rest
-  pub passes : Passes s first
-  pub after : AllGood judge end P (next-due s first) rest
+  pub passes : None (tests s first)
+  pub after : AllPassed tests next-due end P (next-due s first) rest
 
-take-line : (P : Instance) (s : Due) (ls : List Line) → end s ≡ none → AllGood judge end P s ls → Taken P s ls
-take-line P s ls e a = go ls (a .last) (a .good-lines) (a .ends)
+take-line : (P : Instance) (s : Due) (ls : List Line) → end s ≡ none → AllPassed tests next-due end P s ls → Taken P s ls
+take-line P s ls e a = go ls (a .last) (a .passed) (a .ends)
   where
-    go : (ls : List Line) (t : Due) → Good judge end s ls t → end t ≡ some P → Taken P s ls
+    go : (ls : List Line) (t : Due) → Passed tests next-due s ls t → end t ≡ some P → Taken P s ls
     go [] t none-yet q = absurd (let z : _≡_ {A = ℕ} 0 1 = cc in omega arith)
-    go (x ∷ ls) t (one-more {s′ = s′} j g) q =
-        let p = judge-passes s x s′ .0 j in
-        record {
-          first = x;
-          rest = ls;
-          parts = refl;
-          passes = p .0;
-          after = subst (λ (d : Due). AllGood judge end P d ls) (p .1) (record { last = t; good-lines = g; ends = q });
-        }
+    go (x ∷ ls) t (one-more n d g) q = record {
+      first = x;
+      rest = ls;
+      parts = refl;
+      passes = n;
+      after = subst (λ (d : Due). AllPassed tests next-due end P d ls) (sym d) (record { last = t; passed = g; ends = q });
+    }
 
 -- nothing stands where nothing is due
-take-none : (P Q : Instance) (ls : List Line) → AllGood judge end P (nothing-due Q) ls → (ls ≡ []) × (Q ≡ P)
-take-none P Q ls a = go ls (a .last) (a .good-lines) (a .ends)
+take-none : (P Q : Instance) (ls : List Line) → AllPassed tests next-due end P (nothing-due Q) ls → (ls ≡ []) × (Q ≡ P)
+take-none P Q ls a = go ls (a .last) (a .passed) (a .ends)
   where
-    go : (ls : List Line) (t : Due) → Good judge end (nothing-due Q) ls t → end t ≡ some P → (ls ≡ []) × (Q ≡ P)
+    go : (ls : List Line) (t : Due) → Passed tests next-due (nothing-due Q) ls t → end t ≡ some P → (ls ≡ []) × (Q ≡ P)
     go [] t none-yet q = (refl, cc)
-    go (x ∷ ls) t (one-more {s′ = s′} j g) q = absurd (let p = judge-passes (nothing-due Q) x s′ .0 j .0 .not-12 in let z : _≡_ {A = ℕ} 0 1 = cc in omega arith)
+    go (x ∷ ls) t (one-more n d g) q = absurd (let p = n .0 in let z : _≡_ {A = ℕ} 0 1 = cc in omega arith)
 
 -- ---- the unit lines and the end line
 
@@ -64,10 +65,10 @@ pub record IsFleet (n : ℕ) (Q P : Instance) (ls : List Line) : Type 0 where
   pub whole : P ≡ with-units Q units
   pub lines : ls ≡ map ended (map unit-line units ++ (endProblem ∷ []))
 
-pub fleet-was : (n : ℕ) (Q P : Instance) (ls : List Line) → AllGood judge end P (fleet-due n Q) ls → IsFleet n Q P ls
+pub fleet-was : (n : ℕ) (Q P : Instance) (ls : List Line) → AllPassed tests next-due end P (fleet-due n Q) ls → IsFleet n Q P ls
 fleet-was zero Q P ls a =
     let t = take-line P (end-due Q) ls refl a in
-    let e = word-is endProblem (t .first) (not-false (isLine endProblem (t .first)) (t .passes .not-12)) in
+    let e = word-is endProblem (t .first) (not-false (isLine endProblem (t .first)) (t .passes .0)) in
     let r = take-none P Q (t .rest) (t .after) in
     record {
       units = [];
@@ -79,8 +80,8 @@ fleet-was zero Q P ls a =
 fleet-was (suc n) Q P ls a =
     let t = take-line P (unit-due n Q) ls refl a in
     let l = t .first in
-    let g = passes-good (unit-due n Q) unit-form l refl (t .passes) in
-    let u = unit-line-was l g (not-false (ordered (unit-of l)) (t .passes .not-15)) in
+    let g = form-passes unit-form l (15 if not (ordered (unit-of l)) ∷ []) .0 (t .passes) in
+    let u = unit-line-was l (g .0) (not-false (ordered (unit-of l)) (g .1 .0)) in
     let f = fleet-was n (with-unit Q (unit-of l)) P (t .rest) (t .after) in
     record {
       units = unit-of l ∷ f .units;
@@ -102,17 +103,17 @@ record FromSpare (T I : ℕ) (D : List ℕ) (P : Instance) (ls : List Line) : Ty
   units-good : All GoodUnit (P .units)
   lines : ls ≡ ended (plain-line spare-key (P .spare)) ∷ map ended (map unit-line (P .units) ++ (endProblem ∷ []))
 
-spare-was : (T I : ℕ) (D : List ℕ) (P : Instance) (ls : List Line) → AllGood judge end P (spare-due T I D) ls → FromSpare T I D P ls
+spare-was : (T I : ℕ) (D : List ℕ) (P : Instance) (ls : List Line) → AllPassed tests next-due end P (spare-due T I D) ls → FromSpare T I D P ls
 spare-was T I D P ls a =
     let t = take-line P (spare-due T I D) ls refl a in
-    let r = plain-line-was spare-key T 0 320000 (spare-due T I D) (t .first) refl (t .passes) in
+    let r = plain-passed spare-key T 0 320000 (t .first) [] (t .passes) in
     let F = fleet-was I (no-units T D (numbers-of (spare-form T) (t .first))) P (t .rest) (t .after) in
     subst (λ (Q : Instance). FromSpare T I D Q ls) (sym (F .whole)) (record {
       periods-are = refl;
       units-are = F .count;
       demand-is = refl;
       spare-long = r .count;
-      spare-in = r .range;
+      spare-in = between-all 0 320000 (numbers-of (spare-form T) (t .first)) (r .range);
       units-good = F .all-good;
       lines = t .parts ∙ (λ i. r .line i ∷ F .lines i);
     })
@@ -125,16 +126,16 @@ record FromDemand (T I : ℕ) (P : Instance) (ls : List Line) : Type 0 where
   lines : ls ≡ ended (plain-line demand-key (P .demand)) ∷ rest
   after : FromSpare T I (P .demand) P rest
 
-demand-was : (T I : ℕ) (P : Instance) (ls : List Line) → AllGood judge end P (demand-due T I) ls → FromDemand T I P ls
+demand-was : (T I : ℕ) (P : Instance) (ls : List Line) → AllPassed tests next-due end P (demand-due T I) ls → FromDemand T I P ls
 demand-was T I P ls a =
     let t = take-line P (demand-due T I) ls refl a in
-    let d = plain-line-was demand-key T 0 320000 (demand-due T I) (t .first) refl (t .passes) in
+    let d = plain-passed demand-key T 0 320000 (t .first) [] (t .passes) in
     let s = spare-was T I (numbers-of (demand-form T) (t .first)) P (t .rest) (t .after) in
     let e = sym (s .demand-is) in
     record {
       rest = t .rest;
       demand-long = ap length (s .demand-is) ∙ d .count;
-      demand-in = subst (λ (D : List ℕ). All GoodLoad D) e (d .range);
+      demand-in = subst (λ (D : List ℕ). All GoodLoad D) e (between-all 0 320000 (numbers-of (demand-form T) (t .first)) (d .range));
       lines = t .parts ∙ ap (λ (l : Line). l ∷ t .rest) (d .line ∙ ap (λ (D : List ℕ). ended (plain-line demand-key D)) e);
       after = subst (λ (D : List ℕ). FromSpare T I D P (t .rest)) e s;
     }
@@ -146,16 +147,16 @@ record FromUnits (T : ℕ) (P : Instance) (ls : List Line) : Type 0 where
   lines : ls ≡ ended (plain-line units-key (length (P .units) ∷ [])) ∷ rest
   after : FromDemand T (length (P .units)) P rest
 
-units-was : (T : ℕ) (P : Instance) (ls : List Line) → AllGood judge end P (units-due T) ls → FromUnits T P ls
+units-was : (T : ℕ) (P : Instance) (ls : List Line) → AllPassed tests next-due end P (units-due T) ls → FromUnits T P ls
 units-was T P ls a =
     let t = take-line P (units-due T) ls refl a in
-    let u = plain-line-was units-key 1 1 32 (units-due T) (t .first) refl (t .passes) in
+    let u = plain-passed units-key 1 1 32 (t .first) [] (t .passes) in
     let one = one-value (numbers-of units-form (t .first)) (u .count) in
     let d = demand-was T (getD (numbers-of units-form (t .first)) 0 0) P (t .rest) (t .after) in
     let e = sym (d .after .units-are) in
     record {
       rest = t .rest;
-      units-in = subst (λ (n : ℕ). Between 1 n 32) e (subst (λ (vs : List ℕ). All (λ v. Between 1 v 32) vs) one (u .range) .0);
+      units-in = subst (λ (n : ℕ). Between 1 n 32) e (u .range 0 (omega (arith, u .count)));
       lines = t .parts ∙ ap (λ (l : Line). l ∷ t .rest) (u .line ∙ ap (λ (vs : List ℕ). ended (plain-line units-key vs)) one ∙ ap (λ (n : ℕ). ended (plain-line units-key (n ∷ []))) e);
       after = subst (λ (n : ℕ). FromDemand T n P (t .rest)) e d;
     }
@@ -169,11 +170,11 @@ pub record IsLines (P : Instance) (ls : List Line) : Type 0 where
 followed : {l : Line} {ls rest more : List Line} → ls ≡ l ∷ rest → rest ≡ more → ls ≡ l ∷ more
 followed {l} p q = p ∙ ap (λ (x : List Line). l ∷ x) q
 
-pub lines-were : (P : Instance) (ls : List Line) → AllGood judge end P periods-due ls → IsLines P ls
+pub lines-were : (P : Instance) (ls : List Line) → AllPassed tests next-due end P periods-due ls → IsLines P ls
 unfolding lines-after
 lines-were P ls a =
     let t = take-line P periods-due ls refl a in
-    let p = plain-line-was periods-key 1 1 48 periods-due (t .first) refl (t .passes) in
+    let p = plain-passed periods-key 1 1 48 (t .first) [] (t .passes) in
     let one = one-value (numbers-of periods-form (t .first)) (p .count) in
     let u = units-was (getD (numbers-of periods-form (t .first)) 0 0) P (t .rest) (t .after) in
     let d = u .after in
@@ -183,7 +184,7 @@ lines-were P ls a =
     record {
       lines = t .parts ∙ (λ i. first i ∷ followed (u .lines) (followed (d .lines) (s .lines)) i);
       well-formed = record {
-        periods-in = subst (λ (n : ℕ). Between 1 n 48) e (subst (λ (vs : List ℕ). All (λ v. Between 1 v 48) vs) one (p .range) .0);
+        periods-in = subst (λ (n : ℕ). Between 1 n 48) e (p .range 0 (omega (arith, p .count)));
         units-in = u .units-in;
         demand-long = d .demand-long ∙ e;
         demand-in = d .demand-in;

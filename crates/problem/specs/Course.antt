@@ -1,14 +1,15 @@
 -- A problem's text judged line by line: what is due after the first line, and the tests 12, 14, 13, 15 of a line at its place.
 use Prim.Native.Nat.{ℕ, zero, suc}
-use mathlib.Core.Bool.{Bool, true, false, not}
+use mathlib.Core.Bool.{not}
 use mathlib.Core.List.{List, [], _∷_, _++_}
 use mathlib.Core.Option.{Option, none, some}
 use Rattle.model.specs.declared.generator.Generator.{Generator}
 use Rattle.model.specs.Instance.{Instance, _at_}
 use Rattle.model.specs.Ranges.{ordered}
-use Rattle.text.specs.Lines.{Line, later, linesOf, isLine, endProblem}
-use Rattle.text.specs.Forms.{Form, plain, valuesOf, sizes, malformed, wrongCount, outOfRange}
-use Rattle.text.specs.Course.{Found, refused, good, Judged, judged-from}
+use Rattle.text.specs.Lines.{Line, later, linesOf, endProblem}
+use Rattle.text.specs.Forms.{Form, plain, numbers-of, form-tests, word-tests, nothing-tests}
+use Rattle.text.specs.Course.{Found, Judged, judged-from}
+use Rattle.text.specs.Tests.{Test, _if_, found}
 use Rattle.problem.specs.Units.{unit-form, unit-of}
 use Rattle.problem.specs.Rendering.{periods-key, units-key, demand-key, spare-key}
 
@@ -52,10 +53,6 @@ no-units T D R = record { periods = T; demand = D; spare = R; units = [] }
 abbrev pub with-unit : Instance → Generator → Instance
 with-unit P g = record { periods = P .periods; demand = P .demand; spare = P .spare; units = P .units ++ (g ∷ []) }
 
--- the values of a line of numbers
-abbrev pub numbers-of : Form → Line → List ℕ
-numbers-of f l = sizes (valuesOf f l)
-
 -- what is due after a good line
 abbrev pub next-due : Due → Line → Due
 next-due periods-due l = units-due (numbers-of periods-form l at 0)
@@ -68,62 +65,19 @@ next-due (nothing-due P) l = nothing-due P
 
 -- ---- document 01, Numbers that come from the text: the tests of a line at its place
 
--- the line due is one of numbers, a word, or none
-pub data Awaited : Type 0 where
-  numbered : Form → Awaited
-  word : List ℕ → Awaited
-  no-line : Awaited
+-- 12, 14, 13, and on a unit line 15: pL above pU, or Hsc above Csc
+abbrev pub tests : Due → Line → List Test
+tests periods-due l = form-tests periods-form l []
+tests (units-due T) l = form-tests units-form l []
+tests (demand-due T I) l = form-tests (demand-form T) l []
+tests (spare-due T I D) l = form-tests (spare-form T) l []
+tests (unit-due n P) l = form-tests unit-form l (15 if not (ordered (unit-of l)) ∷ [])
+tests (end-due P) l = word-tests endProblem l
+tests (nothing-due P) l = nothing-tests
 
-abbrev pub awaited : Due → Awaited
-awaited periods-due = numbered periods-form
-awaited (units-due T) = numbered units-form
-awaited (demand-due T I) = numbered (demand-form T)
-awaited (spare-due T I D) = numbered (spare-form T)
-awaited (unit-due n P) = numbered unit-form
-awaited (end-due P) = word endProblem
-awaited (nothing-due P) = no-line
-
--- 12: not the line due here
-abbrev pub breaks-12 : Awaited → Line → Bool
-breaks-12 (numbered f) l = malformed f l
-breaks-12 (word w) l = not (isLine w l)
-breaks-12 no-line l = true
-
--- 14: wrong count of values
-abbrev pub breaks-14 : Awaited → Line → Bool
-breaks-14 (numbered f) l = wrongCount f l
-breaks-14 (word w) l = false
-breaks-14 no-line l = false
-
--- 13: value out of range
-abbrev pub breaks-13 : Awaited → Line → Bool
-breaks-13 (numbered f) l = outOfRange f l
-breaks-13 (word w) l = false
-breaks-13 no-line l = false
-
--- 15: pL above pU, or Hsc above Csc, on a unit line
-abbrev pub breaks-15 : Due → Line → Bool
-breaks-15 periods-due l = false
-breaks-15 (units-due T) l = false
-breaks-15 (demand-due T I) l = false
-breaks-15 (spare-due T I D) l = false
-breaks-15 (unit-due n P) l = not (ordered (unit-of l))
-breaks-15 (end-due P) l = false
-breaks-15 (nothing-due P) l = false
-
--- ---- document 01, Numbers that come from the docket: each line by 12, 14, 13, 15
-
-abbrev pub refused-if : Bool → ℕ → Found Due → Found Due
-refused-if true n f = refused n
-refused-if false n f = f
-
+-- refused by the first of them that holds, or good, with what is due then
 unfoldable pub judge : Due → Line → Found Due
-judge s l =
-    refused-if (breaks-12 (awaited s) l) 12
-    (refused-if (breaks-14 (awaited s) l) 14
-    (refused-if (breaks-13 (awaited s) l) 13
-    (refused-if (breaks-15 s l) 15
-    (good (next-due s l)))))
+judge s l = found (tests s l) (next-due s l)
 
 -- the text may end where nothing is due
 abbrev pub end : Due → Option Instance

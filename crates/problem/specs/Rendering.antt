@@ -1,11 +1,10 @@
 -- The text of a problem.
 use Prim.Native.Nat.{ℕ}
-use mathlib.Core.Bool.{false}
 use mathlib.Core.List.{List, [], _∷_, _++_, map}
 use lib.ListN.{length}
 use Rattle.model.specs.Instance.{Instance}
 use Rattle.text.specs.Lines.{kindProblem, endProblem}
-use Rattle.text.specs.Rendering.{rendered}
+use Rattle.text.specs.Rendering.{plain-line, text-of}
 use Rattle.problem.specs.Units.{unit-line}
 
 -- ---- document 01, Texts: the keys of a problem's lines
@@ -28,10 +27,6 @@ spare-key = 115 ∷ 112 ∷ 97 ∷ 114 ∷ 101 ∷ 61 ∷ []
 
 -- ---- document 01, Texts: the lines of a problem in their order
 
--- a line of numbers without a sign
-abbrev pub plain-line : List ℕ → List ℕ → List ℕ
-plain-line key vs = rendered key 0 false vs
-
 -- the lines after the first, without their bytes 10
 unfoldable pub lines-after : Instance → List (List ℕ)
 lines-after P =
@@ -40,11 +35,6 @@ lines-after P =
     ∷ plain-line demand-key (P .demand)
     ∷ plain-line spare-key (P .spare)
     ∷ (map unit-line (P .units) ++ (endProblem ∷ []))
-
--- lines, each ended by byte 10
-abbrev pub text-of : List (List ℕ) → List ℕ
-text-of [] = []
-text-of (b ∷ bs) = b ++ (10 ∷ text-of bs)
 
 -- the whole text
 unfoldable pub render : Instance → List ℕ

@@ -1,13 +1,11 @@
 -- The unit line of a generator, and the generator of a unit line.
-use Prim.Native.Nat.{ℕ, suc}
+use Prim.Native.Nat.{ℕ}
 use mathlib.Core.Bool.{Bool, not}
 use mathlib.Core.List.{List, [], _∷_}
-use lib.IntN.{ℤ, pos, negsuc}
-use Rattle.decimal.specs.Decimal.{digits}
 use Rattle.model.specs.declared.generator.Generator.{Generator}
 use Rattle.model.specs.Instance.{_at_}
 use Rattle.text.specs.Lines.{Line}
-use Rattle.text.specs.Forms.{Form, form, valuesOf, sizes, anyMinus}
+use Rattle.text.specs.Forms.{Form, form, valuesOf, numbers-of, anyMinus}
 use Rattle.text.specs.Rendering.{rendered, shownAll}
 
 -- ---- document 01, Texts: unit=a,b,c,pL,pU,TU,TD,Tini,DR,UR,Hsc,Csc,Tcold,Dc
@@ -51,11 +49,6 @@ generator minus v = record {
 abbrev pub unit-values : Generator → List (List ℕ)
 unit-values g = shownAll Tini-place (not (g .on)) 1 (numbers g)
 
--- a whole number as a line shows it: its digits, after a minus where it is below 0
-abbrev pub shown-whole : ℤ → List ℕ
-shown-whole (pos n) = digits n
-shown-whole (negsuc n) = 45 ∷ digits (suc n)
-
 -- the line without its byte 10
 unfoldable pub unit-line : Generator → List ℕ
 unit-line g = rendered unit-key Tini-place (not (g .on)) (numbers g)
@@ -75,4 +68,4 @@ unit-form = form unit-key Tini-place unit-lows unit-highs
 -- ---- the generator of a line
 
 unfoldable pub unit-of : Line → Generator
-unit-of l = generator (anyMinus (valuesOf unit-form l)) (sizes (valuesOf unit-form l))
+unit-of l = generator (anyMinus (valuesOf unit-form l)) (numbers-of unit-form l)

@@ -15,6 +15,7 @@ use model::ranges::Fleet;
 use model::ranges::Horizon;
 use model::ranges::Load;
 use refusal::Refusal;
+use text::End;
 use text::Verdict;
 
 // What a problem's text is: refused, or accepted.
@@ -167,15 +168,13 @@ fn read_from_end(s: &[u8], at: usize, line: usize, problem: Problem) -> ProblemR
     requires { ⌜ (line ≤ 38) × (held (view problem) ≡ problem) ⌝ }
     ensures { λ r. ⌜ r ≡ read-from (now (s .entry)) at line (end-due (view problem)) ⌝ }
 {
-    if text::is_line(s, at, b"end=problem") {
-        let next = at + 12;
-        if next < s.len() {
-            return refuse_text(12, line + 1);
-        }
-        return ProblemRead {
+    let end = text::read_end(s, at, b"end=problem");
+    match end {
+        End::Missing => refuse_text(12, line),
+        End::Followed => refuse_text(12, line + 1),
+        End::Last => ProblemRead {
             answer: ProblemAnswer::Accepted,
             problem,
-        };
+        },
     }
-    refuse_text(12, line)
 }

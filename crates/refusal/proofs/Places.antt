@@ -1,11 +1,11 @@
 -- What a refusal carries, by the range in which its number lies.
 use Prim.Native.Nat.{ℕ, _≤_, _<_}
 use native.Mathlib.Omega.{arith}
-use mathlib.Core.Path.{_≡_, refl}
+use mathlib.Core.Path.{_≡_, refl, ap}
 use mathlib.Core.Bool.{Bool, true, false, _&&_}
 use lib.Dec.{leb}
 use borrow.Author.Tests.{le-leb, lt-leb}
-use Rattle.refusal.specs.Refusals.{between, carriesLine, carriesUnit, carriesPeriod, applied, refusalOf}
+use Rattle.refusal.specs.Refusals.{between, carriesLine, carriesUnit, carriesPeriod, applied, refusalOf, line-refusal}
 
 inside : (lo hi n : ℕ) → lo ≤ n → n ≤ hi → between lo hi n ≡ true
 inside lo hi n h k = simp (le-leb lo n h, le-leb n hi k)
@@ -76,3 +76,12 @@ module _ (n line unit period : ℕ) where
   pub nothing-high : 36 ≤ n → record { number = n; line = 0; unit = 0; period = 0 } ≡ refusalOf n line unit period
   unfolding carriesLine
   nothing-high h = nothing (simp (over 11 15 n (omega arith), over 31 35 n (omega arith))) (over 21 25 n (omega arith))
+
+-- where a number carries a line and nothing else is given
+pub line-only : (n line : ℕ) → carriesLine n ≡ true → refusalOf n line 0 0 ≡ line-refusal n line
+unfolding refusalOf
+line-only n line e i = record { number = n; line = ap (λ (x : Bool). applied x line) e i; unit = none (carriesUnit n) i; period = none (carriesPeriod n) i }
+  where
+    none : (x : Bool) → applied x 0 ≡ 0
+    none true = refl
+    none false = refl

@@ -33,3 +33,7 @@ refusalOf n line unit period = record {
   unit = applied (carriesUnit n) unit;
   period = applied (carriesPeriod n) period;
 }
+
+-- a refusal that carries its line and no more
+abbrev pub line-refusal : ℕ → ℕ → Refusal
+line-refusal n l = record { number = n; line = l; unit = 0; period = 0 }

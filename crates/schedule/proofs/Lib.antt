@@ -1,9 +1,6 @@
 -- What the definitions imply.
-pub mod Texts
-pub mod Awaited
-pub mod PlainLines
-pub mod RowsRead
-pub mod Courses
+pub mod Alls
+pub mod LinesRefused
 pub mod Steps
 pub mod Ends
 pub mod CutRows
@@ -13,7 +10,6 @@ pub mod Runs
 pub mod Opening
 pub mod Rendered
 pub mod Wholes
-pub mod LinesRefused
 pub mod Outcomes
 pub mod ReadAnswers
 pub mod Specimens

@@ -6,23 +6,24 @@ use native.Mathlib.Omega.{arith}
 use mathlib.Core.Path.{_≡_, refl, ap, subst, _∙_}
 use mathlib.Core.Bool.{true, false}
 use mathlib.Core.List.{List, [], _∷_, _++_}
-use lib.ListN.{length, replicate}
+use lib.ListN.{length, take, replicate}
 use lib.Seq.{paste, length-take-le}
 use Rattle.model.specs.declared.arrays.Problem.{Problem}
 use Rattle.model.specs.Instance.{Instance}
 use Rattle.model.specs.Held.{view, Valid}
+use Rattle.model.specs.Ranges.{All, GoodOutput}
 use Rattle.text.specs.Lines.{Line, lineAt}
-use Rattle.text.specs.Forms.{Form, refusedBy, after}
+use Rattle.text.specs.Forms.{Form, numbers-of, refusedBy, after}
 use Rattle.text.specs.Forms as forms
 use Rattle.text.specs.declared.Row.{Row}
+use Rattle.text.proofs.PlainRows.{PlainRow}
 use Rattle.judge.specs.Rows.{cut-rows}
 use Rattle.schedule.specs.Rendering.{run-key}
-use Rattle.schedule.specs.Awaited.{numbers-of}
 use Rattle.schedule.specs.Course.{Written, written, run-due, end-due, runs-due, with-row, run-form}
 use Rattle.schedule.specs.Storing.{refused-read, read-from, Filled}
 use Rattle.schedule.specs.declared.ScheduleRead.{ScheduleRead}
 use Rattle.schedule.proofs.Steps.{row-passed, row-stopped}
-use Rattle.schedule.proofs.RowsRead.{RowGood, RowRefused}
+use Rattle.schedule.proofs.Alls.{all-from}
 use Rattle.schedule.proofs.Filling.{filled-none, filled-more, filled-length, cut-more}
 
 -- ---- room for the rows
@@ -61,6 +62,10 @@ module _ (P : Instance) (text : List ℕ) (i k units : ℕ) (v : Written) (left 
       let e : suc (k + 3) ≡ suc k + 3 = omega arith in
       rw (one-due, ← e) (row-passed P text i (k + 3) (run-due (units - suc k) v) refl run refl g)
 
+-- the outputs of a good run line are in range
+pub outputs-in : {T : ℕ} {l : Line} {at next : ℕ} {row : Row} → PlainRow run-key T 0 10000 l at next row → All GoodOutput (take T (row .values))
+outputs-in {T} {row = row} g = all-from GoodOutput (take T (row .values)) (g .range)
+
 -- ---- line by line
 
 -- k run lines are read, their rows fill the array, and the rest of the text gives `whole`
@@ -88,21 +93,21 @@ module _ {P : Instance} {text : List ℕ} {T w units : ℕ} {whole : ScheduleRea
 
     module _ (long : P .periods ≡ T) (left : k < units) where
       -- at a line that is refused
-      pub reading-stopped : {number : ℕ} → RowRefused run-key T 0 10000 (lineAt text i) i number → whole ≡ refused-read number (k + 3)
+      pub reading-stopped : {number : ℕ} → (forms.good (run-form T) (lineAt text i) ≡ false) × (refusedBy (run-form T) (lineAt text i) ≡ number) → whole ≡ refused-read number (k + 3)
       reading-stopped g =
           reading .same
-          ∙ run-stopped P text i k units (written w (cut-rows k T rows)) left (rw long (g .line-bad))
-          ∙ ap (λ (n : ℕ). refused-read n (k + 3)) (rw long (g .number-is))
+          ∙ run-stopped P text i k units (written w (cut-rows k T rows)) left (rw long (g .0))
+          ∙ ap (λ (n : ℕ). refused-read n (k + 3)) (rw long (g .1))
 
       -- past a good line, whose row is stored
-      pub reading-more : {row : Row} {next : ℕ} → RowGood run-key T 0 10000 (lineAt text i) i row next
+      pub reading-more : {row : Row} {next : ℕ} → PlainRow run-key T 0 10000 (lineAt text i) i next row
           → suc k * T ≤ 1536 → T ≤ length (row .values) → {stored : List ℕ} → stored ≡ paste rows (k * T) (row .values) T
           → Reading P text T w units whole stored next (k + 1)
       reading-more {row} g fits values e =
           let room : suc k * T ≤ length rows = omega (arith, filled-length k T rows (reading .filled) (omega arith)) in
           let v = written w (cut-rows k T rows) in
-          let f = filled-more k T rows (row .values) (reading .filled) room values (g .in-range) in
-          let c = cut-more k T rows (row .values) (reading .filled) room values ∙ ap (λ (r : List ℕ). cut-rows k T rows ++ (r ∷ [])) (g .numbers) in
+          let f = filled-more k T rows (row .values) (reading .filled) room values (outputs-in g) in
+          let c = cut-more k T rows (row .values) (reading .filled) room values ∙ ap (λ (r : List ℕ). cut-rows k T rows ++ (r ∷ [])) (g .values) in
           rw (e, add-one, g .next-is) record {
             some-left = left;
             filled = f;

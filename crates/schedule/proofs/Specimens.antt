@@ -10,15 +10,16 @@ use Rattle.model.proofs.RangeTests.{in-range-is, ordered-is}
 use Rattle.model.specs.Rules.{output, capacity}
 use Rattle.model.specs.Cost.{cost, row-cost}
 use Rattle.model.specs.Breach.{first-breach}
-use Rattle.refusal.specs.Refusals.{refusalOf, carriesLine, carriesUnit, carriesPeriod}
+use Rattle.refusal.specs.Refusals.{refusalOf, carriesLine, carriesUnit, carriesPeriod, line-refusal}
 use Rattle.text.specs.Lines.{kindOf, kindSchedule, endSchedule}
 use Rattle.text.specs.Forms.{malformed, wrongCount, outOfRange}
+use Rattle.text.specs.Rendering.{plain-line, text-of}
+use Rattle.text.specs.Writer.{writer-key}
 use Rattle.text.specs.Course.{judged-from}
-use Rattle.schedule.specs.Rendering.{text-of, writer-key, run-key, plain-line, render}
-use Rattle.schedule.specs.Awaited.{found}
+use Rattle.schedule.specs.Rendering.{run-key, render}
 use Rattle.schedule.specs.Course.{judge, schedule-judged}
 use Rattle.schedule.specs.Reading.{IsSchedule, Outcome, refused-by, accepted-as, schedule-outcome}
-use Rattle.schedule.specs.Answers.{line-refusal, rule-refusal, Accepts, BreaksFirst}
+use Rattle.schedule.specs.Answers.{rule-refusal, Accepts, BreaksFirst}
 use Rattle.schedule.proofs.Wholes.{render-is-schedule}
 use Rattle.schedule.proofs.Outcomes.{accepted-is, refused-rule-is}
 
@@ -43,7 +44,7 @@ pub specimens : map (schedule-outcome example) (
     ≡ accepted-as 7 1980 (rows (60 ∷ 80 ∷ []) (0 ∷ 20 ∷ [])) ∷ accepted-as 65535 2060 (rows (50 ∷ 80 ∷ []) (10 ∷ 20 ∷ []))
     ∷ refused-by (rule-refusal (record { number = 25; unit = 1; period = 2 })) ∷ refused-by (rule-refusal (record { number = 22; unit = 0; period = 1 }))
     ∷ refused-by (rule-refusal (record { number = 21; unit = 2; period = 2 })) ∷ []
-unfolding schedule-outcome schedule-judged judged-from judge found malformed wrongCount outOfRange first-breach output capacity cost row-cost refusalOf carriesLine carriesUnit carriesPeriod render digits digitsBy
+unfolding schedule-outcome schedule-judged judged-from judge malformed wrongCount outOfRange first-breach output capacity cost row-cost refusalOf carriesLine carriesUnit carriesPeriod render digits digitsBy
 specimens = refl
 
 -- ---- refused at a line
@@ -70,7 +71,7 @@ pub damaged : map (schedule-outcome example) (
     ≡ map refused-by (
     line-refusal 12 2 ∷ line-refusal 13 2 ∷ line-refusal 13 2 ∷ line-refusal 14 2 ∷ line-refusal 14 3 ∷ line-refusal 13 4
     ∷ line-refusal 12 4 ∷ line-refusal 12 5 ∷ line-refusal 12 5 ∷ line-refusal 12 6 ∷ line-refusal 12 5 ∷ [])
-unfolding schedule-outcome schedule-judged judged-from judge found malformed wrongCount outOfRange first-breach output capacity cost row-cost refusalOf carriesLine carriesUnit carriesPeriod render digits digitsBy
+unfolding schedule-outcome schedule-judged judged-from judge malformed wrongCount outOfRange first-breach output capacity cost row-cost refusalOf carriesLine carriesUnit carriesPeriod render digits digitsBy
 damaged = refl
 
 -- ---- the premises of the laws can be met

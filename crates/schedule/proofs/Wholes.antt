@@ -1,61 +1,50 @@
 -- A text is accepted line by line exactly where it renders a writer and rows in range; so a rendering in range says whose rows it renders.
 use Prim.Native.Nat.{ℕ}
-use native.Mathlib.Omega.{arith}
 use mathlib.Core.Path.{_≡_, refl, sym, ap, _∙_}
-use mathlib.Core.Bool.{true, false}
+use mathlib.Core.Bool.{false}
 use mathlib.Core.Logic.{_↔_}
 use mathlib.Core.List.{List, [], _∷_, map}
 use Rattle.model.specs.Instance.{Instance, Schedule}
-use Rattle.model.specs.Ranges.{All, GoodWriter, GoodRows, WellFormed}
-use Rattle.text.specs.Lines.{Line, ended, due, later, linesOf, lineAt, oneLine, kindSchedule}
+use Rattle.model.specs.Ranges.{GoodWriter, GoodRows, WellFormed}
+use Rattle.text.specs.Lines.{ended, due, later, linesOf, lineAt, kindSchedule}
+use Rattle.text.specs.Writer.{writer-key}
 use Rattle.text.specs.Course.{accepted}
 use Rattle.text.proofs.FirstLine.{schedule-is}
 use Rattle.text.proofs.Bytes.{one-line}
+use Rattle.text.proofs.Texts.{OneLines, lines-text, whole-is}
 use Rattle.text.proofs.Courses as courses
-use Rattle.schedule.specs.Rendering.{writer-key, run-key, lines-of-rows, lines-after, render}
-use Rattle.schedule.specs.Course.{Written, written, writer-due, judge, end, schedule-judged}
+use Rattle.schedule.specs.Rendering.{run-key, lines-of-rows, lines-after, render}
+use Rattle.schedule.specs.Course.{Written, written, writer-due, tests, next-due, judge, end, schedule-judged}
 use Rattle.schedule.specs.Reading.{IsSchedule}
-use Rattle.schedule.proofs.Texts.{lines-text, text-lines}
 use Rattle.schedule.proofs.Rendered.{lines-good-is}
 
 -- ---- the lines of a rendering
 
-rows-one : (s : Schedule) → All (λ b. oneLine b ≡ true) (lines-of-rows s)
+rows-one : (s : Schedule) → OneLines (lines-of-rows s)
 rows-one [] = (refl, tt)
 rows-one (r ∷ s) = (one-line run-key 0 false r refl, rows-one s)
 
-pub lines-rendered : (w : ℕ) (s : Schedule) → linesOf (render w s) ≡ ended kindSchedule ∷ map ended (lines-after w s)
-unfolding render
-lines-rendered w s = lines-text (kindSchedule ∷ lines-after w s) (refl, (one-line writer-key 0 false (w ∷ []) refl, rows-one s))
+lines-one : (w : ℕ) (s : Schedule) → OneLines (kindSchedule ∷ lines-after w s)
+lines-one w s = (refl, (one-line writer-key 0 false (w ∷ []) refl, rows-one s))
 
 -- its first line says the kind
 pub render-is-schedule : (w : ℕ) (s : Schedule) → IsSchedule (render w s)
-render-is-schedule w s = schedule-is (lineAt (render w s) 0) .1 (ap due (lines-rendered w s))
+unfolding render
+render-is-schedule w s = schedule-is (lineAt (render w s) 0) .1 (ap due (lines-text (kindSchedule ∷ lines-after w s) (lines-one w s)))
 
 -- a text with these lines after its first is the rendering
-after-first : (ls : List Line) (b : List ℕ) → due ls ≡ ended b → ls ≡ ended b ∷ later ls
-after-first [] b e = absurd (let z : _≡_ {A = ℕ} 0 1 = cc in omega arith)
-after-first (l ∷ ls) b e = ap (λ (x : Line). x ∷ ls) e
-
 rendered-is : (text : List ℕ) → IsSchedule text → (w : ℕ) (s : Schedule) → (later (linesOf text) ≡ map ended (lines-after w s)) ↔ (text ≡ render w s)
 unfolding render
-rendered-is text is w s = (
-  λ e. text-lines (kindSchedule ∷ lines-after w s) text
-      (after-first (linesOf text) kindSchedule first-line ∙ ap (λ (ls : List Line). ended kindSchedule ∷ ls) e),
-  λ e. ap (λ (t : List ℕ). later (linesOf t)) e ∙ ap later (lines-rendered w s),
-)
-  where
-    first-line : lineAt text 0 ≡ ended kindSchedule
-    first-line = schedule-is (lineAt text 0) .0 is
+rendered-is text is w s = whole-is text kindSchedule (lines-after w s) (schedule-is (lineAt text 0) .0 is) (lines-one w s)
 
 -- ---- accepted line by line
 
 module _ (P : Instance) (W : WellFormed P) where
   pub judged-is : (text : List ℕ) → IsSchedule text → (w : ℕ) (s : Schedule)
       → (schedule-judged P text ≡ accepted (written w s)) ↔ ((text ≡ render w s) × (GoodWriter w × GoodRows P s))
-  unfolding schedule-judged
+  unfolding schedule-judged judge
   judged-is text is w s =
-      let a = courses.accepted-is (judge P) end (written w s) 2 writer-due (later (linesOf text)) in
+      let a = courses.accepted-is (tests P) (next-due P) end (written w s) 2 writer-due (later (linesOf text)) in
       let g = lines-good-is P (W .periods-in .0) w s (later (linesOf text)) in
       let r = rendered-is text is w s in (
         (λ e. let p = g .0 (a .0 e) in (r .0 (p .0), p .1)),

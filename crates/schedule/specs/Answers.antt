@@ -1,9 +1,7 @@
 -- When a schedule's text is accepted and when it is refused, in document 01's words: renderings, ranges, rules and the tests of a line.
-use Prim.Native.Nat.{ℕ, _+_}
+use Prim.Native.Nat.{ℕ}
 use mathlib.Core.Path.{_≡_}
-use mathlib.Core.List.{List, [], _++_}
-use mathlib.Core.Option.{none}
-use lib.ListN.{length}
+use mathlib.Core.List.{List}
 use Rattle.model.specs.Instance.{Instance, Schedule}
 use Rattle.model.specs.Ranges.{GoodWriter, GoodRows}
 use Rattle.model.specs.Rules.{Meets}
@@ -11,16 +9,13 @@ use Rattle.model.specs.Cost.{cost}
 use Rattle.model.specs.Breach.{Breach}
 use Rattle.model.specs.Broken.{Broken, Lower}
 use Rattle.refusal.specs.declared.Refusal.{Refusal}
-use Rattle.text.specs.Lines.{Line, due, later, linesOf}
-use Rattle.text.specs.Course.{Good}
+use Rattle.refusal.specs.Refusals.{line-refusal}
+use Rattle.text.specs.Lines.{later, linesOf}
+use Rattle.text.specs.Tests as lines
 use Rattle.schedule.specs.Rendering.{render}
-use Rattle.schedule.specs.Awaited.{FirstTest}
-use Rattle.schedule.specs.Course.{Due, writer-due, awaited, judge, end}
+use Rattle.schedule.specs.Course.{writer-due, tests, next-due, end}
 
--- the refusal of a line, and that of a broken rule
-abbrev pub line-refusal : ℕ → ℕ → Refusal
-line-refusal n l = record { number = n; line = l; unit = 0; period = 0 }
-
+-- the refusal of a broken rule
 abbrev pub rule-refusal : Breach → Refusal
 rule-refusal b = record { number = b .number; line = 0; unit = b .unit; period = b .period }
 
@@ -49,16 +44,9 @@ module _ (P : Instance) (text : List ℕ) where
     pub broken : Broken P rows b
     pub first : (c : Breach) → Lower c b → Broken P rows c → ⊥
 
-  -- every line before line l is good at its place, and n is the first of 12, 14, 13 whose test holds of line l, which may be missing
-  pub record RefusedAt (n l : ℕ) : Type 0 where
-    pub before : List Line
-    pub after : List Line
-    pub stands : Due
-    pub parts : later (linesOf text) ≡ before ++ after
-    pub good-before : Good (judge P) end writer-due before stands
-    pub place : l ≡ 2 + length before
-    pub unfinished : after ≡ [] → end stands ≡ none
-    pub test : FirstTest (awaited P stands) (due after) n
+  -- no test holds of a line before line l, and n is the first number of 12, 14, 13 whose test holds of line l
+  abbrev pub RefusedAt : ℕ → ℕ → Type 0
+  RefusedAt n l = lines.RefusedAt (tests P) (next-due P) end n l 2 writer-due (later (linesOf text))
 
   -- the refusals that meet the text
   pub data RefusedFor : Refusal → Type 0 where

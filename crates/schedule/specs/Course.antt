@@ -5,16 +5,13 @@ use mathlib.Core.Option.{Option, none, some}
 use lib.ListN.{length}
 use Rattle.model.specs.Instance.{Instance, Schedule, _at_}
 use Rattle.text.specs.Lines.{Line, later, linesOf, endSchedule}
-use Rattle.text.specs.Forms.{Form, plain}
+use Rattle.text.specs.Forms.{Form, plain, numbers-of, form-tests, word-tests, nothing-tests}
+use Rattle.text.specs.Writer.{writer-form}
 use Rattle.text.specs.Course.{Found, Judged, judged-from}
-use Rattle.schedule.specs.Rendering.{writer-key, run-key}
-use Rattle.schedule.specs.Awaited.{Awaited, numbered, word, no-line, numbers-of, found}
+use Rattle.text.specs.Tests.{Test, found}
+use Rattle.schedule.specs.Rendering.{run-key}
 
--- ---- document 01, Texts: the forms of a schedule's lines of numbers
-
--- one writer, 1 to 65,535
-abbrev pub writer-form : Form
-writer-form = plain writer-key 1 1 65535
+-- ---- document 01, Texts: the form of a run line
 
 -- T outputs, 0 to 10,000
 abbrev pub run-form : ℕ → Form
@@ -47,22 +44,23 @@ abbrev pub with-row : Written → List ℕ → Written
 with-row v r = written (v .writer) (v .rows ++ (r ∷ []))
 
 module _ (P : Instance) where
-  -- document 01, Texts: a writer, I rows of T outputs, the end line, and nothing after it
-  abbrev pub awaited : Due → Awaited
-  awaited writer-due = numbered writer-form
-  awaited (run-due n v) = numbered (run-form (P .periods))
-  awaited (end-due v) = word endSchedule
-  awaited (nothing-due v) = no-line
-
-  -- what is due after a good line
+  -- what is due after a good line: a writer, I rows of T outputs, the end line, and nothing after it
   abbrev pub next-due : Due → Line → Due
   next-due writer-due l = runs-due (length (P .units)) (written (numbers-of writer-form l at 0) [])
   next-due (run-due n v) l = runs-due n (with-row v (numbers-of (run-form (P .periods)) l))
   next-due (end-due v) l = nothing-due v
   next-due (nothing-due v) l = nothing-due v
 
+  -- document 01, Numbers that come from the text: the tests of a line at its place
+  abbrev pub tests : Due → Line → List Test
+  tests writer-due l = form-tests writer-form l []
+  tests (run-due n v) l = form-tests (run-form (P .periods)) l []
+  tests (end-due v) l = word-tests endSchedule l
+  tests (nothing-due v) l = nothing-tests
+
+  -- refused by the first of them that holds, or good, with what is due then
   unfoldable pub judge : Due → Line → Found Due
-  judge s l = found (awaited s) l (next-due s l)
+  judge s l = found (tests s l) (next-due s l)
 
 -- the text may end where nothing is due
 abbrev pub end : Due → Option Written

@@ -1,6 +1,5 @@
 -- A schedule's text: how it is written, how it is judged, and what reading it gives.
 pub mod Rendering
-pub mod Awaited
 pub mod Course
 pub mod Reading
 pub mod Answers

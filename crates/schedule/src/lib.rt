@@ -16,6 +16,7 @@ use model::arrays::Problem;
 use model::ranges::Output;
 use model::ranges::Writer;
 use refusal::Refusal;
+use text::End;
 use text::Verdict;
 
 // An accepted schedule's writer and its cost.
@@ -104,14 +105,12 @@ fn read_from_end(
     ensures { λ r. ⌜ r ≡ read-from (view problem) (now (text .entry)) at (problem .units + 3) (end-due (written writer (schedule-of problem rows))) ⌝ }
 {
     let line = problem.units + 3;
-    if text::is_line(text, at, b"end=schedule") {
-        let next = at + 13;
-        if next < text.len() {
-            return refuse_text(12, line + 1, 0, 0);
-        }
-        return judge_rows(problem, writer, rows);
+    let end = text::read_end(text, at, b"end=schedule");
+    match end {
+        End::Missing => refuse_text(12, line, 0, 0),
+        End::Followed => refuse_text(12, line + 1, 0, 0),
+        End::Last => judge_rows(problem, writer, rows),
     }
-    refuse_text(12, line, 0, 0)
 }
 
 // What reading gives of a text whose lines are all good and say these rows.

@@ -9,7 +9,7 @@ use lib.Seq.{drop-append-seam}
 use lib.Dec.{eqb}
 use borrow.Author.Tests.{eq-eqb, eqb-true, not-false}
 use Rattle.text.specs.Lines.{Line, missing, unended, ended, linesOf, oneLine, begins}
-use Rattle.text.specs.Forms.{Form, cutValues, allFormed, sizes, anyMinus, valuesOf, withinAll, malformed, wrongCount, outOfRange, good, after, padded, rowOf}
+use Rattle.text.specs.Forms.{Form, cutValues, allFormed, sizes, anyMinus, valuesOf, numbers-of, withinAll, malformed, wrongCount, outOfRange, good, after, padded, rowOf}
 use Rattle.text.specs.Rendering.{joined, shown, shownAll, rendered}
 use Rattle.text.specs.declared.Verdict.the-variants.{Good}
 use Rattle.text.proofs.Cuts.{and-both, cut-line}
@@ -17,7 +17,7 @@ use Rattle.text.proofs.Keys.{begins-append, begins-text}
 use Rattle.text.proofs.Joins.{joined-cut, cut-joined, values-some}
 use Rattle.text.proofs.Shown.{sizes-shown, length-shown, all-formed, any-minus, all-shown, minus-carried}
 use Rattle.text.proofs.Bytes.{no-commas, one-line}
-use Rattle.text.proofs.Verdicts.{refused-first, good-is, row-read}
+use Rattle.text.proofs.Verdicts.{form-passes, row-read}
 
 -- values that fit a form: as many as are due, each in its range, and a minus only at the value that may carry it, which is
 -- then not 0
@@ -41,6 +41,9 @@ module _ (f : Form) (neg : Bool) (vs : List ℕ) (fits : Fits f neg vs) where
       go [] h = absurd (omega arith)
       go (w ∷ ws) h = cut-joined (shown (neg && eqb 1 (f .minus)) w) (shownAll (f .minus) neg 2 ws) (no-commas (f .minus) neg 1 (w ∷ ws))
 
+  pub rendered-numbers : numbers-of f (renderedLine f neg vs) ≡ vs
+  rendered-numbers = ap sizes values-rendered ∙ sizes-shown (f .minus) neg 1 vs
+
   rendered-formed : malformed f (renderedLine f neg vs) ≡ false
   unfolding malformed
   rendered-formed =
@@ -53,10 +56,10 @@ module _ (f : Form) (neg : Bool) (vs : List ℕ) (fits : Fits f neg vs) where
 
   rendered-range : outOfRange f (renderedLine f neg vs) ≡ false
   unfolding outOfRange
-  rendered-range = ap not (ap (λ (x : List ℕ). withinAll x (f .lows) (f .highs)) (ap sizes values-rendered ∙ sizes-shown (f .minus) neg 1 vs) ∙ fits .range)
+  rendered-range = ap not (ap (λ (x : List ℕ). withinAll x (f .lows) (f .highs)) rendered-numbers ∙ fits .range)
 
   pub rendered-good : good f (renderedLine f neg vs) ≡ true
-  rendered-good = good-is f (renderedLine f neg vs) .1 (refused-first f (renderedLine f neg vs) .is-none .1 (rendered-formed, (rendered-count, rendered-range)))
+  rendered-good = form-passes f (renderedLine f neg vs) [] .0 (rendered-formed, (rendered-count, (rendered-range, tt))) .0
 
   -- reading it gives the values and the sign
   pub rendered-read : (at : ℕ) → rowOf f (renderedLine f neg vs) at ≡ record { verdict = Good (after (renderedLine f neg vs) at); minus = neg; values = padded vs }
@@ -65,7 +68,7 @@ module _ (f : Form) (neg : Bool) (vs : List ℕ) (fits : Fits f neg vs) where
       ∙ (λ i. record {
         verdict = Good (after (renderedLine f neg vs) at);
         minus = (ap anyMinus values-rendered ∙ any-minus (f .minus) neg 1 vs (λ e. (fits .sign e .0, fits .sign e .1 .0))) i;
-        values = padded ((ap sizes values-rendered ∙ sizes-shown (f .minus) neg 1 vs) i);
+        values = padded (rendered-numbers i);
       })
 
   -- it stands as one line in a text that has its bytes and byte 10
@@ -84,7 +87,7 @@ length-sizes (f ∷ fs) = ap suc (length-sizes fs)
 
 pub good-rendered : (f : Form) (l : Line) → good f l ≡ true → Accepted f l
 unfolding malformed wrongCount outOfRange
-good-rendered f l g = let r = refused-first f l .is-none .0 (good-is f l .0 g) in go l (r .0) (r .1 .0) (r .1 .1)
+good-rendered f l g = let r = form-passes f l [] .1 (g, tt) in go l (r .0) (r .1 .0) (r .1 .1 .0)
   where
     go : (l : Line) → malformed f l ≡ false → wrongCount f l ≡ false → outOfRange f l ≡ false → Accepted f l
     go missing m c r = absurd (let z : _≡_ {A = ℕ} 0 1 = cc in omega arith)

@@ -2,12 +2,14 @@
 use Prim.Native.Nat.{ℕ}
 use mathlib.Core.Path.{_≡_, refl}
 use mathlib.Core.Bool.{true, false}
-use mathlib.Core.List.{List, [], _∷_}
-use Rattle.text.specs.Lines.{unended, ended, linesOf, lineAt, kindOf}
+use mathlib.Core.List.{List, [], _∷_, _++_}
+use Rattle.text.specs.Lines.{unended, ended, linesOf, lineAt, kindOf, endTree}
 use Rattle.text.specs.Forms.{Form, form, plain, malformed, wrongCount, outOfRange, refusedBy, sizes, valuesOf, anyMinus}
+use Rattle.text.specs.Ends.{endOf}
 use Rattle.text.specs.Rendering.{rendered}
 use Rattle.decimal.specs.Decimal.{digits, digitsBy}
 use Rattle.text.specs.declared.Kind.the-variants.{Unknown, Tree}
+use Rattle.text.specs.declared.End.the-variants.{Missing, Followed, Last}
 
 -- demand=
 key : List ℕ
@@ -90,3 +92,16 @@ tree-text = refl
 cut-short : kindOf (lineAt (107 ∷ 105 ∷ 110 ∷ 100 ∷ 61 ∷ 116 ∷ 114 ∷ 101 ∷ 101 ∷ []) 0) ≡ Unknown
 unfolding kindOf
 cut-short = refl
+
+-- end=tree where it is due: as the last line, with an empty line after it, and without its byte 10
+ends-there : endOf endTree (linesOf (endTree ++ (10 ∷ []))) ≡ Last
+unfolding endOf
+ends-there = refl
+
+goes-on : endOf endTree (linesOf (endTree ++ (10 ∷ 10 ∷ []))) ≡ Followed
+unfolding endOf
+goes-on = refl
+
+ends-short : endOf endTree (linesOf endTree) ≡ Missing
+unfolding endOf
+ends-short = refl

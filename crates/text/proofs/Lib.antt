@@ -8,10 +8,16 @@ pub mod Ranges
 pub mod Joins
 pub mod Scanned
 pub mod Rows
+pub mod Tests
 pub mod Verdicts
 pub mod Shown
 pub mod Bytes
 pub mod Accepted
 pub mod Plain
+pub mod PlainRows
 pub mod Examples
 pub mod Courses
+pub mod Steps
+pub mod Texts
+pub mod Ends
+pub mod Holding

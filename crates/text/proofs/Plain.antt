@@ -10,10 +10,12 @@ use lib.Seq.{take-at}
 use lib.Dec.{leb}
 use borrow.Author.Tests.{leb-true, le-leb}
 use Rattle.text.specs.Lines.{Line, ended}
-use Rattle.text.specs.Forms.{plain, withinAll, good, anyMinus, valuesOf, sizes, padded}
-use Rattle.text.specs.Rendering.{rendered}
+use Rattle.text.specs.Forms.{plain, withinAll, good, anyMinus, valuesOf, numbers-of, padded, form-tests}
+use Rattle.text.specs.Rendering.{rendered, plain-line}
+use Rattle.text.specs.Tests.{Test, None}
 use Rattle.text.proofs.Cuts.{and-both}
-use Rattle.text.proofs.Accepted.{Fits, rendered-good, good-rendered}
+use Rattle.text.proofs.Accepted.{Fits, rendered-numbers, rendered-good, good-rendered}
+use Rattle.text.proofs.Verdicts.{form-passes}
 
 -- each number is from lo to hi
 abbrev pub Between : ℕ → ℕ → List ℕ → Type 0
@@ -47,37 +49,48 @@ module _ (key : List ℕ) (n lo hi : ℕ) where
     sign = λ z. absurd (let y : _≡_ {A = ℕ} 0 1 = cc in omega arith);
   }
 
-  -- the rendering of n values in range is good
-  pub plain-good : (vs : List ℕ) → 0 < n → length vs ≡ n → Between lo hi vs → good (plain key n lo hi) (ended (rendered key 0 false vs)) ≡ true
-  plain-good vs h e r = rendered-good (plain key n lo hi) false vs (plain-fits vs h e r)
+  -- the rendering of n values in range is good, and these are its numbers
+  module _ (vs : List ℕ) (h : 0 < n) (e : length vs ≡ n) (r : Between lo hi vs) where
+    pub plain-good : good (plain key n lo hi) (ended (plain-line key vs)) ≡ true
+    plain-good = rendered-good (plain key n lo hi) false vs (plain-fits vs h e r)
 
-  -- a good line is the rendering of n values in range
+    pub plain-numbers : numbers-of (plain key n lo hi) (ended (plain-line key vs)) ≡ vs
+    plain-numbers = rendered-numbers (plain key n lo hi) false vs (plain-fits vs h e r)
+
+  -- a good line is the rendering of its numbers, n of them in range
   pub record IsPlain (l : Line) : Type 0 where
-    pub values : List ℕ
-    pub read : sizes (valuesOf (plain key n lo hi) l) ≡ values
-    pub unsigned : anyMinus (valuesOf (plain key n lo hi) l) ≡ false
-    pub line : l ≡ ended (rendered key 0 false values)
-    pub count : length values ≡ n
-    pub range : Between lo hi values
+    pub line : l ≡ ended (plain-line key (numbers-of (plain key n lo hi) l))
+    pub count : length (numbers-of (plain key n lo hi) l) ≡ n
+    pub range : Between lo hi (numbers-of (plain key n lo hi) l)
 
   pub plain-was : (l : Line) → good (plain key n lo hi) l ≡ true → IsPlain l
   plain-was l g =
       let a = good-rendered (plain key n lo hi) l g in
-      let vs = sizes (valuesOf (plain key n lo hi) l) in
+      let vs = numbers-of (plain key n lo hi) l in
       let u = no-sign (anyMinus (valuesOf (plain key n lo hi) l)) refl (a .fits) in
       let c : length vs ≡ n = a .fits .count ∙ length-replicate n lo in
       record {
-        values = vs;
-        read = refl;
-        unsigned = u;
         line = a .line ∙ ap (λ (t : Bool). ended (rendered key 0 t vs)) u;
         count = c;
         range = within-between lo hi vs (ap (λ (k : ℕ). withinAll vs (replicate k lo) (replicate k hi)) c ∙ a .fits .range);
       }
     where
-      no-sign : (t : Bool) → anyMinus (valuesOf (plain key n lo hi) l) ≡ t → Fits (plain key n lo hi) t (sizes (valuesOf (plain key n lo hi) l)) → anyMinus (valuesOf (plain key n lo hi) l) ≡ false
+      no-sign : (t : Bool) → anyMinus (valuesOf (plain key n lo hi) l) ≡ t → Fits (plain key n lo hi) t (numbers-of (plain key n lo hi) l) → anyMinus (valuesOf (plain key n lo hi) l) ≡ false
       no-sign false e w = e
       no-sign true e w = let z = w .sign refl in absurd (omega arith)
+
+  -- so is a line that passes the tests of its form
+  pub plain-passed : (l : Line) (ts : List Test) → None (form-tests (plain key n lo hi) l ts) → IsPlain l
+  plain-passed l ts p = plain-was l (form-passes (plain key n lo hi) l ts .0 p .0)
+
+-- one value
+pub one-value : (vs : List ℕ) → length vs ≡ 1 → vs ≡ getD vs 0 0 ∷ []
+one-value [] e = absurd (omega arith)
+one-value (v ∷ []) e = refl
+one-value (v ∷ w ∷ vs) e = absurd (omega arith)
+
+pub one-between : (lo hi v : ℕ) → lo ≤ v → v ≤ hi → Between lo hi (v ∷ [])
+one-between lo hi v h k i e = let z : i ≡ 0 = omega arith in rw z (h, k)
 
 -- ---- the row of 48 numbers
 

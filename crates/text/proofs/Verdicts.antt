@@ -1,88 +1,67 @@
 -- A line is refused by the first of 12, 14, 13 whose test holds of it, and is good exactly when none does. Past a good line
 -- stands the next line of the cut.
-use Prim.Native.Nat.{ℕ, _+_, _≤_}
+use Prim.Native.Nat.{ℕ, _+_, _<_}
 use native.Mathlib.Omega.{arith}
 use mathlib.Core.Path.{_≡_, refl, sym, ap, _∙_}
 use mathlib.Core.Bool.{Bool, true, false}
 use mathlib.Core.Logic.{_↔_}
-use mathlib.Core.List.{List}
+use mathlib.Core.List.{List, [], _∷_}
 use lib.ListN.{length, drop}
 use lib.Dec.{eqb}
 use borrow.Author.Tests.{eqb-true, eq-eqb}
 use Rattle.text.specs.Lines.{Line, missing, unended, ended, bytesOf, later, linesOf, lineAt, isLine}
-use Rattle.text.specs.Forms.{Form, malformed, wrongCount, outOfRange, pickNumber, refusedBy, good, after, pickRow, noRow, rowOf, anyMinus, valuesOf, sizes, padded}
+use Rattle.text.specs.Course as course
+use Rattle.text.specs.Tests.{Test, _if_, First, None, number, found}
+use Rattle.text.specs.Forms.{Form, malformed, wrongCount, outOfRange, form-tests, refusedBy, good, after, pickRow, noRow, rowOf, anyMinus, valuesOf, sizes, padded}
 use Rattle.text.specs.declared.Row.{Row}
 use Rattle.text.specs.declared.Verdict.the-variants.{Refused, Good}
 use Rattle.text.proofs.Cuts.{next-lines}
 use Rattle.text.proofs.Words.{word-is}
+use Rattle.text.proofs.Tests.{number-first, number-none}
 
 -- ---- the number that refuses a line
 
-abbrev first : Bool → Bool → Bool → ℕ
-first m c r = pickNumber m 12 (pickNumber c 14 (pickNumber r 13 0))
-
-first-12 : (m c r : Bool) → first m c r ≡ 12 → m ≡ true
-first-12 true c r e = refl
-first-12 false true r e = absurd (omega arith)
-first-12 false false true e = absurd (omega arith)
-first-12 false false false e = absurd (omega arith)
-
-first-14 : (m c r : Bool) → first m c r ≡ 14 → (m ≡ false) × (c ≡ true)
-first-14 true c r e = absurd (omega arith)
-first-14 false true r e = (refl, refl)
-first-14 false false true e = absurd (omega arith)
-first-14 false false false e = absurd (omega arith)
-
-first-13 : (m c r : Bool) → first m c r ≡ 13 → (m ≡ false) × ((c ≡ false) × (r ≡ true))
-first-13 true c r e = absurd (omega arith)
-first-13 false true r e = absurd (omega arith)
-first-13 false false true e = (refl, (refl, refl))
-first-13 false false false e = absurd (omega arith)
-
-first-none : (m c r : Bool) → first m c r ≡ 0 → (m ≡ false) × ((c ≡ false) × (r ≡ false))
-first-none true c r e = absurd (omega arith)
-first-none false true r e = absurd (omega arith)
-first-none false false true e = absurd (omega arith)
-first-none false false false e = (refl, (refl, refl))
-
--- n is the first of 12, 14, 13 whose test holds, m being the test of 12, c of 14 and r of 13; or 0
-pub record First (m c r : Bool) (n : ℕ) : Type 0 where
-  pub is-12 : (n ≡ 12) ↔ (m ≡ true)
-  pub is-14 : (n ≡ 14) ↔ ((m ≡ false) × (c ≡ true))
-  pub is-13 : (n ≡ 13) ↔ ((m ≡ false) × ((c ≡ false) × (r ≡ true)))
-  pub is-none : (n ≡ 0) ↔ ((m ≡ false) × ((c ≡ false) × (r ≡ false)))
-
-first-is : (m c r : Bool) → First m c r (first m c r)
-first-is m c r = record {
-  is-12 = (first-12 m c r, λ e. simp e);
-  is-14 = (first-14 m c r, λ e. simp (e .0, e .1));
-  is-13 = (first-13 m c r, λ e. simp (e .0, e .1 .0, e .1 .1));
-  is-none = (first-none m c r, λ e. simp (e .0, e .1 .0, e .1 .1));
-}
-
 module _ (f : Form) (l : Line) where
-  pub refused-first : First (malformed f l) (wrongCount f l) (outOfRange f l) (refusedBy f l)
+  -- is the first of 12, 14, 13 whose test holds
+  pub refused-first : (n : ℕ) → 0 < n → (refusedBy f l ≡ n) ↔ First n (form-tests f l [])
   unfolding refusedBy
-  refused-first = first-is (malformed f l) (wrongCount f l) (outOfRange f l)
+  refused-first n h = number-first n h (form-tests f l [])
 
-  -- none of the three refuses the line exactly where none of their tests holds
-  pub refused-none : (refusedBy f l ≡ 0) ↔ ((malformed f l ≡ false) × ((wrongCount f l ≡ false) × (outOfRange f l ≡ false)))
-  refused-none = refused-first .is-none
+  -- and 0 exactly where none holds
+  pub refused-none : (refusedBy f l ≡ 0) ↔ None (form-tests f l [])
+  unfolding refusedBy
+  refused-none = number-none (form-tests f l []) (omega arith, (omega arith, (omega arith, tt)))
 
   pub good-is : (good f l ≡ true) ↔ (refusedBy f l ≡ 0)
   unfolding good
   good-is = (eqb-true (refusedBy f l) 0, eq-eqb (refusedBy f l) 0)
 
-  -- a line that is not good has one of the three numbers
-  pub refused-between : good f l ≡ false → (12 ≤ refusedBy f l) × (refusedBy f l ≤ 14)
-  unfolding good refusedBy
-  refused-between = among (malformed f l) (wrongCount f l) (outOfRange f l)
-    where
-      among : (m c r : Bool) → eqb (first m c r) 0 ≡ false → (12 ≤ first m c r) × (first m c r ≤ 14)
-      among true c r e = (omega arith, omega arith)
-      among false true r e = (omega arith, omega arith)
-      among false false true e = (omega arith, omega arith)
-      among false false false e = absurd (let z : _≡_ {A = ℕ} 0 1 = cc in omega arith)
+-- ---- a line among others, by its form
+
+module _ (f : Form) (l : Line) (ts : List Test) where
+  -- it passes exactly where it is good and passes the other tests
+  pub form-passes : (None (form-tests f l ts)) ↔ ((good f l ≡ true) × None ts)
+  form-passes = (
+    λ n. (good-is f l .1 (refused-none f l .1 (n .0, (n .1 .0, (n .1 .1 .0, tt)))), n .1 .1 .1),
+    λ g. let r = refused-none f l .0 (good-is f l .0 (g .0)) in (r .0, (r .1 .0, (r .1 .1 .0, g .1))),
+  )
+
+  module _ {S : Type 0} (s : S) where
+    -- refused by the number that the form gives
+    pub form-refused : good f l ≡ false → found (form-tests f l ts) s ≡ course.refused (refusedBy f l)
+    unfolding good refusedBy
+    form-refused = go (malformed f l) (wrongCount f l) (outOfRange f l)
+      where
+        go : (m c r : Bool) → eqb (number (12 if m ∷ 14 if c ∷ 13 if r ∷ [])) 0 ≡ false
+            → found (12 if m ∷ 14 if c ∷ 13 if r ∷ ts) s ≡ course.refused (number (12 if m ∷ 14 if c ∷ 13 if r ∷ []))
+        go true c r e = refl
+        go false true r e = refl
+        go false false true e = refl
+        go false false false e = absurd (let z : _≡_ {A = ℕ} 0 1 = cc in omega arith)
+
+    -- of a good line the other tests are left
+    pub form-found : good f l ≡ true → found (form-tests f l ts) s ≡ found ts s
+    form-found g = let r = refused-none f l .0 (good-is f l .0 g) in rw (r .0, r .1 .0, r .1 .1 .0) refl
 
 -- ---- what the readers of a line answer
 
@@ -126,7 +105,7 @@ module _ (f : Form) (l : Line) (at : ℕ) where
 
 pub good-ended : (f : Form) (l : Line) → good f l ≡ true → l ≡ ended (bytesOf l)
 unfolding malformed
-good-ended f l g = go l (refused-first f l .is-none .0 (good-is f l .0 g) .0)
+good-ended f l g = go l (form-passes f l [] .1 (g, tt) .0)
   where
     go : (l : Line) → malformed f l ≡ false → l ≡ ended (bytesOf l)
     go missing e = absurd (let z : _≡_ {A = ℕ} 0 1 = cc in omega arith)

@@ -1,9 +1,7 @@
 -- A whole text, judged line by line: what is due at a line depends on the lines before it.
-use Prim.Native.Nat.{ℕ, suc, _+_}
-use mathlib.Core.Path.{_≡_}
-use mathlib.Core.List.{List, [], _∷_, _++_}
+use Prim.Native.Nat.{ℕ, suc}
+use mathlib.Core.List.{List, [], _∷_}
 use mathlib.Core.Option.{Option, none, some}
-use lib.ListN.{length}
 use Rattle.text.specs.Lines.{Line}
 
 -- what a line is found to be at its place: refused by a number, or good, with what is due after it
@@ -30,29 +28,3 @@ module _ {S R : Type 0} (judge : S → Line → Found S) (end : S → Option R) 
   unfoldable pub judged-from : ℕ → S → List Line → Judged R
   judged-from l s [] = at-end l (end s)
   judged-from l s (x ∷ ls) = at-line l (judge s x) (λ s′. judged-from (suc l) s′ ls)
-
-  -- these lines are good, each at its place, from what s says is due to what s′ says
-  pub data Good : S → List Line → S → Type 0 where
-    none-yet : {s : S} → Good s [] s
-    one-more : {s s′ s″ : S} {x : Line} {ls : List Line} → judge s x ≡ good s′ → Good s′ ls s″ → Good s (x ∷ ls) s″
-
-  -- n refuses the line after these: it is missing, or the number is the one found
-  pub data Refuses (n : ℕ) (s : S) : List Line → Type 0 where
-    missing-line : n ≡ 12 → end s ≡ none → Refuses n s []
-    wrong-line : {x : Line} {ls : List Line} → judge s x ≡ refused n → Refuses n s (x ∷ ls)
-
-  -- every line before line m is good at its place, and n refuses line m
-  pub record FirstRefused (n m l : ℕ) (s : S) (ls : List Line) : Type 0 where
-    pub before : List Line
-    pub after : List Line
-    pub due : S
-    pub parts : ls ≡ before ++ after
-    pub good-before : Good s before due
-    pub place : m ≡ l + length before
-    pub refuses : Refuses n due after
-
-  -- every line is good at its place, and the text may end there with v
-  pub record AllGood (v : R) (s : S) (ls : List Line) : Type 0 where
-    pub last : S
-    pub good-lines : Good s ls last
-    pub ends : end last ≡ some v

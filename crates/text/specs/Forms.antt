@@ -6,7 +6,8 @@ use lib.ListN.{length, drop, replicate}
 use lib.Dec.{leb, ltb, eqb}
 use Rattle.decimal.specs.Decimal.{valueOf, numeral}
 use Rattle.decimal.specs.Reading.{cap}
-use Rattle.text.specs.Lines.{Line, missing, unended, ended, bytesOf, begins}
+use Rattle.text.specs.Lines.{Line, missing, unended, ended, bytesOf, begins, isLine}
+use Rattle.text.specs.Tests.{Test, _if_, number}
 use Rattle.text.specs.declared.Verdict.the-variants.{Refused, Good}
 use Rattle.text.specs.declared.Row.{Row}
 
@@ -84,6 +85,10 @@ plain key n lo hi = form key 0 (replicate n lo) (replicate n hi)
 abbrev pub valuesOf : Form → Line → List (List ℕ)
 valuesOf f l = cutValues (drop (length (f .key)) (bytesOf l))
 
+-- the numbers of a line, without their signs
+abbrev pub numbers-of : Form → Line → List ℕ
+numbers-of f l = sizes (valuesOf f l)
+
 -- each number is from its low to its high
 abbrev pub withinAll : List ℕ → List ℕ → List ℕ → Bool
 withinAll [] ls hs = true
@@ -103,15 +108,23 @@ wrongCount f l = not (eqb (length (valuesOf f l)) (length (f .lows)))
 
 -- 13: value out of range
 unfoldable pub outOfRange : Form → Line → Bool
-outOfRange f l = not (withinAll (sizes (valuesOf f l)) (f .lows) (f .highs))
+outOfRange f l = not (withinAll (numbers-of f l) (f .lows) (f .highs))
 
-abbrev pub pickNumber : Bool → ℕ → ℕ → ℕ
-pickNumber true a b = a
-pickNumber false a b = b
+-- document 01, Numbers that come from the docket: the tests of a line of numbers, 12, 14, 13, and then others
+abbrev pub form-tests : Form → Line → List Test → List Test
+form-tests f l ts = 12 if malformed f l ∷ 14 if wrongCount f l ∷ 13 if outOfRange f l ∷ ts
 
--- document 01, Numbers that come from the docket: each line by 12, 14, 13. The first of these whose test holds, or 0
+-- where a word is due
+abbrev pub word-tests : List ℕ → Line → List Test
+word-tests w l = 12 if not (isLine w l) ∷ []
+
+-- where nothing is due, any line is 12
+abbrev pub nothing-tests : List Test
+nothing-tests = 12 if true ∷ []
+
+-- the first of 12, 14, 13 whose test holds, or 0
 unfoldable pub refusedBy : Form → Line → ℕ
-refusedBy f l = pickNumber (malformed f l) 12 (pickNumber (wrongCount f l) 14 (pickNumber (outOfRange f l) 13 0))
+refusedBy f l = number (form-tests f l [])
 
 -- none of them holds
 unfoldable pub good : Form → Line → Bool
@@ -139,7 +152,7 @@ after l at = at + length (bytesOf l) + 1
 unfoldable pub rowOf : Form → Line → ℕ → Row
 rowOf f l at =
     pickRow (good f l)
-    (record { verdict = Good (after l at); minus = anyMinus (valuesOf f l); values = padded (sizes (valuesOf f l)) })
+    (record { verdict = Good (after l at); minus = anyMinus (valuesOf f l); values = padded (numbers-of f l) })
     (noRow (refusedBy f l))
 
 -- no range reaches the cap of numbers read

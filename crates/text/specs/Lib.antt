@@ -1,5 +1,9 @@
 pub mod Lines
+pub mod Course
+pub mod Tests
 pub mod Forms
 pub mod Rendering
+pub mod Writer
 pub mod Scan
-pub mod Course
+pub mod Ends
+pub mod Places

@@ -26,3 +26,12 @@ shownAll m neg k (v ∷ vs) = shown (neg && eqb k m) v ∷ shownAll m neg (suc k
 -- the bytes of a line before its byte 10
 abbrev pub rendered : List ℕ → ℕ → Bool → List ℕ → List ℕ
 rendered key m neg vs = key ++ joined (shownAll m neg 1 vs)
+
+-- the same without a minus
+abbrev pub plain-line : List ℕ → List ℕ → List ℕ
+plain-line key vs = rendered key 0 false vs
+
+-- lines, each ended by byte 10
+abbrev pub text-of : List (List ℕ) → List ℕ
+text-of [] = []
+text-of (b ∷ bs) = b ++ (10 ∷ text-of bs)

@@ -4,10 +4,14 @@ ghost use mathlib.Core.Bool.{true, _||_};
 ghost use Prim.Native.Nat.{ℕ, _+_, _≤_, _<_};
 ghost use lib.ListN.{length, drop, set};
 ghost use Rattle.decimal.specs.Reading.{cap};
-ghost use Rattle.text.specs.Lines.{oneLine, begins, lineAt, isLine, kindOf};
+ghost use Rattle.text.specs.Lines.{oneLine, begins, linesOf, lineAt, isLine, kindOf};
+ghost use Rattle.text.specs.Ends.{endOf};
 ghost use Rattle.text.specs.Forms.{byteIs, withinAll, belowAll, noRow, rowOf, form, plain};
 ghost use Rattle.text.specs.Scan.{endedAt, fieldAt, valuesAt};
+use crate::reader::Reader;
 use decimal::Number;
+
+pub mod reader;
 
 // A value at a place: malformed, or its size, whether it has a minus, the place after the byte that ends it, and whether
 // that byte ends the line.
@@ -54,6 +58,13 @@ pub enum Kind {
     Tree,
 }
 
+// What stands where a text's end line is due: not that line, that line with something after it, or that line as the last.
+pub enum End {
+    Missing,
+    Followed,
+    Last,
+}
+
 // Whether the byte b stands at the place `at`.
 fn byte_is(s: &[u8], at: usize, b: u8) -> bool
     ensures { λ r. ⌜ r ≡ byteIs (drop at (now (s .entry))) b ⌝ }
@@ -84,7 +95,7 @@ pub fn starts(s: &[u8], at: usize, key: &[u8]) -> bool
 }
 
 // Whether the line that starts at `at` is this word.
-pub fn is_line(s: &[u8], at: usize, word: &[u8]) -> bool
+fn is_line(s: &[u8], at: usize, word: &[u8]) -> bool
     requires { ⌜ oneLine (now word) ≡ true ⌝ }
     ensures { λ r. ⌜ r ≡ isLine (now (word .entry)) (lineAt (now (s .entry)) at) ⌝ }
 {
@@ -99,16 +110,15 @@ pub fn is_line(s: &[u8], at: usize, word: &[u8]) -> bool
 pub fn read_kind(s: &[u8]) -> Kind
     ensures { λ r. ⌜ r ≡ kindOf (lineAt (now (s .entry)) 0) ⌝ }
 {
-    if is_line(s, 0, b"kind=problem") {
-        return Kind::Problem;
-    }
-    if is_line(s, 0, b"kind=schedule") {
-        return Kind::Schedule;
-    }
-    if is_line(s, 0, b"kind=tree") {
-        return Kind::Tree;
-    }
-    Kind::Unknown
+    Reader::open(s).kind()
+}
+
+// Whether the line that starts at `at` is the end line, this word, and the last.
+pub fn read_end(s: &[u8], at: usize, word: &[u8]) -> End
+    requires { ⌜ oneLine (now word) ≡ true ⌝ }
+    ensures { λ r. ⌜ r ≡ endOf (now (word .entry)) (linesOf (drop at (now (s .entry)))) ⌝ }
+{
+    Reader::open(s).moved(at).end(word)
 }
 
 // The value without a sign that starts at `at`.

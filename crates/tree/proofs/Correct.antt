@@ -1,7 +1,7 @@
 -- An accepted text is that of a tree: read backwards from its last line, the lines that are left are always those of one tree for
 -- each node that is still to be read, and then the end line.
 use mathlib.Core.Path.{_≡_, refl, sym, ap, subst, _∙_}
-use mathlib.Core.Bool.{Bool, true, false, not}
+use mathlib.Core.Bool.{true, false, not}
 use mathlib.Core.List.{List, [], _∷_, _++_, map, append-assoc}
 use mathlib.Core.Option.{some}
 use Prim.Native.Nat.{ℕ, suc, _≤_, _<_}
@@ -10,22 +10,23 @@ use lib.Dec.{T}
 use lib.ListN.{length}
 use borrow.Author.Tests.{not-false}
 use Rattle.model.specs.Instance.{Instance, _at_}
-use Rattle.model.specs.Ranges.{All, GoodWriter}
+use Rattle.model.specs.Ranges.{GoodWriter}
 use Rattle.model.specs.Above.{free, Above, root, fix}
 use Rattle.model.specs.Leaf.{any-stuck, leaf-value}
 use Rattle.model.specs.Tree.{Tree, split, short, stuck, price, Limits, Holds, Multipliers, number}
 use Rattle.text.specs.Lines.{Line, ended, isLine, endTree}
-use Rattle.text.specs.Course.{good, Good, none-yet, one-more}
+use Rattle.text.specs.Course.{good}
+use Rattle.text.specs.Rendering.{plain-line}
+use Rattle.text.specs.Writer.{writer-key, writer-form}
+use Rattle.text.specs.Tests.{Passed, none-yet, one-more}
+use Rattle.text.specs.Forms.{numbers-of, form-tests, word-tests}
 use Rattle.text.proofs.Words.{word-is}
-use Rattle.text.proofs.Plain.{Between}
-use Rattle.tree.specs.Rendering.{numbers, writer-key, split-key, short-key, stuck-key, price-key, reserve-key, node-lines}
-use Rattle.tree.specs.Tests.{_if_}
-use Rattle.tree.specs.NodeLines.{writer-form, form-tests, numbers-of}
-use Rattle.tree.specs.Due.{Figures, by-writer, with-split, with-leaf, Pending, pending, Due, writer-due, nodes-due, reserve-due, nothing-due, tests, next, judge, end, is-there}
-use Rattle.tree.proofs.Tests.{good-none}
+use Rattle.text.proofs.Plain.{plain-passed, one-value}
+use Rattle.text.proofs.Courses.{passed-line}
+use Rattle.text.proofs.Tests.{good-none}
+use Rattle.tree.specs.Rendering.{split-key, short-key, stuck-key, price-key, reserve-key, node-lines}
+use Rattle.tree.specs.Due.{Figures, by-writer, with-split, with-leaf, Pending, pending, Due, writer-due, nodes-due, reserve-due, nothing-due, tests, next, judge, end}
 use Rattle.tree.proofs.Bounds.{add}
-use Rattle.tree.proofs.Lines.{was-plain}
-use Rattle.tree.proofs.Written.{There}
 use Rattle.tree.proofs.NodeLines.{NodeWas, split-was, short-was, stuck-was, price-was, node-was, reserve-was}
 
 -- ---- trees for the nodes still to be read
@@ -59,7 +60,7 @@ pub record Forest (P : Instance) (F : Figures) (ps : List Pending) (ls : List Li
 pub record ForestAfter (P : Instance) (F : Figures) (A : Above) (q : List ℕ) (ps : List Pending) (ls : List Line) (v : Figures) : Type 0 where
   pub s : List ℕ
   pub after : List Line
-  pub lines : ls ≡ ended (numbers reserve-key s) ∷ after
+  pub lines : ls ≡ ended (plain-line reserve-key s) ∷ after
   pub range : Multipliers P s
   pub none-stuck : T (not (any-stuck (P .periods) (P .units) (A .marks)))
   pub forest : Forest P (with-leaf F (number (leaf-value P (A .marks) (λ t. q at t) (λ t. s at t)))) ps after v
@@ -68,7 +69,7 @@ pub record ForestAfter (P : Instance) (F : Figures) (A : Above) (q : List ℕ) (
 pub record Whole (P : Instance) (ls : List Line) (v : Figures) : Type 0 where
   pub writer : ℕ
   pub after : List Line
-  pub lines : ls ≡ ended (numbers writer-key (writer ∷ [])) ∷ after
+  pub lines : ls ≡ ended (plain-line writer-key (writer ∷ [])) ∷ after
   pub range : GoodWriter writer
   pub forest : Forest P (by-writer writer) (pending root 0 ∷ []) after v
 
@@ -92,7 +93,7 @@ module _ (P : Instance) (F : Figures) (p : Pending) (ps : List Pending) (x : Lin
     gives = f .gives;
   }
 
-  split-before : (U t : ℕ) → x ≡ ended (numbers split-key (suc U ∷ suc t ∷ [])) → U < length (P .units) → t < P .periods
+  split-before : (U t : ℕ) → x ≡ ended (plain-line split-key (suc U ∷ suc t ∷ [])) → U < length (P .units) → t < P .periods
       → p .above .marks U t ≡ free → p .depth ≤ 63
       → Forest P (with-split F) (pending (fix U t false (p .above)) (suc (p .depth)) ∷ pending (fix U t true (p .above)) (suc (p .depth)) ∷ ps) ls v
       → Forest P F (p ∷ ps) (x ∷ ls) v
@@ -117,27 +118,27 @@ module _ (P : Instance) (F : Figures) (p : Pending) (ps : List Pending) (x : Lin
         gives = w;
       }
 
-  price-before : (q : List ℕ) → x ≡ ended (numbers price-key q) → Multipliers P q → ForestAfter P F (p .above) q ps ls v → Forest P F (p ∷ ps) (x ∷ ls) v
+  price-before : (q : List ℕ) → x ≡ ended (plain-line price-key q) → Multipliers P q → ForestAfter P F (p .above) q ps ls v → Forest P F (p ∷ ps) (x ∷ ls) v
   unfolding Limits Holds node-lines add
   price-before q e m f = record {
     trees = price q (f .s) ∷ f .forest .trees;
     grown = (((m, f .range), f .none-stuck), f .forest .grown);
-    lines = λ i. e i ∷ (f .lines ∙ ap (λ (k : List Line). ended (numbers reserve-key (f .s)) ∷ k) (f .forest .lines)) i;
+    lines = λ i. e i ∷ (f .lines ∙ ap (λ (k : List Line). ended (plain-line reserve-key (f .s)) ∷ k) (f .forest .lines)) i;
     gives = f .forest .gives;
   }
 
   node-before : (s : Due) → NodeWas P F (p .above) (p .depth) ps x s → Left P s ls v → Forest P F (p ∷ ps) (x ∷ ls) v
   unfolding Limits Holds node-lines add
   node-before s (split-was U t e h k m d) f = split-before U t e h k m d f
-  node-before s (short-was t e h k) f = leaf-before (short t) (numbers short-key (suc t ∷ [])) refl e h (h, k) f
-  node-before s (stuck-was U e h k) f = leaf-before (stuck U) (numbers stuck-key (suc U ∷ [])) refl e h k f
+  node-before s (short-was t e h k) f = leaf-before (short t) (plain-line short-key (suc t ∷ [])) refl e h (h, k) f
+  node-before s (stuck-was U e h k) f = leaf-before (stuck U) (plain-line stuck-key (suc U ∷ [])) refl e h k f
   node-before s (price-was q e m) f = price-before q e m f
 
 end-before : (P : Instance) (F : Figures) (x : Line) (ls : List Line) (v : Figures) (s : Due) → judge P (nodes-due F []) x ≡ good s → Left P s ls v
     → Forest P F [] (x ∷ ls) v
 unfolding judge tests next
 end-before P F x ls v s e f =
-    let g = good-none (nothing-due F) s (12 if not (isLine endTree x) ∷ []) e in
+    let g = good-none (nothing-due F) s (word-tests endTree x) e in
     let r : Left P (nothing-due F) ls v = subst (λ (y : Due). Left P y ls v) (sym (g .1)) f in
     record {
       trees = [];
@@ -164,38 +165,23 @@ writer-before : (P : Instance) (x : Line) (ls : List Line) (v : Figures) (s : Du
 unfolding judge tests next
 writer-before P x ls v s e f =
     let g = good-none (next P writer-due x) s (form-tests writer-form x []) e in
-    let n = g .0 in
-    let w = was-plain writer-key 1 1 65535 x (n .0, n .1 .0, n .1 .1 .0) in
-    go (numbers-of writer-form x) refl (w .count) (w .line) (w .range) (subst (λ (y : Due). Left P y ls v) (sym (g .1)) f)
-  where
-    go : (vs : List ℕ) → numbers-of writer-form x ≡ vs → length vs ≡ 1 → x ≡ ended (numbers writer-key vs) → Between 1 65535 vs
-        → Forest P (by-writer (numbers-of writer-form x at 0)) (pending root 0 ∷ []) ls v
-        → Whole P (x ∷ ls) v
-    go [] e c l r f = absurd (omega arith)
-    go (w ∷ []) e c l r f = record {
-      writer = w;
+    let w = plain-passed writer-key 1 1 65535 x [] (g .0) in
+    let vs = numbers-of writer-form x in
+    record {
+      writer = vs at 0;
       after = ls;
-      lines = ap (λ (y : Line). y ∷ ls) l;
-      range = r 0 (omega arith);
-      forest = rw e at f;
+      lines = ap (λ (y : Line). y ∷ ls) (w .line ∙ ap (λ (ws : List ℕ). ended (plain-line writer-key ws)) (one-value vs (w .count)));
+      range = w .range 0 (omega (arith, w .count));
+      forest = subst (λ (y : Due). Left P y ls v) (sym (g .1)) f;
     }
-    go (w ∷ u ∷ vs) e c l r f = absurd (omega arith)
 
-nothing-before : (P : Instance) (F : Figures) (s : Due) (x : Line) → is-there x ≡ true → judge P (nothing-due F) x ≡ good s → ⊥
-unfolding judge tests next
-nothing-before P F s x h e =
-    let g = good-none (nothing-due F) s (12 if is-there x ∷ []) e in
-    let z : _≡_ {A = Bool} true false = sym h ∙ g .0 .0 in
-    let y : _≡_ {A = ℕ} 0 1 = cc in
-    omega arith
-
-line-before : (P : Instance) (s s′ : Due) (x : Line) (ls : List Line) (v : Figures) → is-there x ≡ true → judge P s x ≡ good s′ → Left P s′ ls v
-    → Left P s (x ∷ ls) v
-line-before P writer-due s′ x ls v h e f = writer-before P x ls v s′ e f
-line-before P (nodes-due F []) s′ x ls v h e f = end-before P F x ls v s′ e f
-line-before P (nodes-due F (p ∷ ps)) s′ x ls v h e f = node-before P F p ps x ls v s′ (node-was P F (p .above) (p .depth) ps x s′ e) f
-line-before P (reserve-due F A q ps) s′ x ls v h e f = reserve-before P F A q ps x ls v s′ e f
-line-before P (nothing-due F) s′ x ls v h e f = absurd (nothing-before P F s′ x h e)
+line-before : (P : Instance) (s s′ : Due) (x : Line) (ls : List Line) (v : Figures) → judge P s x ≡ good s′ → Left P s′ ls v → Left P s (x ∷ ls) v
+unfolding judge tests
+line-before P writer-due s′ x ls v e f = writer-before P x ls v s′ e f
+line-before P (nodes-due F []) s′ x ls v e f = end-before P F x ls v s′ e f
+line-before P (nodes-due F (p ∷ ps)) s′ x ls v e f = node-before P F p ps x ls v s′ (node-was P F (p .above) (p .depth) ps x s′ e) f
+line-before P (reserve-due F A q ps) s′ x ls v e f = reserve-before P F A q ps x ls v s′ e f
+line-before P (nothing-due F) s′ x ls v e f = absurd (let z : _≡_ {A = ℕ} 0 1 = cc in omega arith)
 
 -- ---- all lines
 
@@ -205,7 +191,8 @@ none-left P (nodes-due F ps) v e = absurd (let z : _≡_ {A = ℕ} 0 1 = cc in o
 none-left P (reserve-due F A q ps) v e = absurd (let z : _≡_ {A = ℕ} 0 1 = cc in omega arith)
 none-left P (nothing-due F) v e = (refl, cc)
 
-pub good-left : (P : Instance) (s last : Due) (ls : List Line) (v : Figures) → All There ls → Good (judge P) end s ls last → end last ≡ some v
-    → Left P s ls v
-good-left P s last [] v h none-yet e = none-left P s v e
-good-left P s last (x ∷ ls) v h (one-more {s′ = s′} j g) e = line-before P s s′ x ls v (h .0) j (good-left P s′ last ls v (h .1) g e)
+pub good-left : (P : Instance) (s last : Due) (ls : List Line) (v : Figures) → Passed (tests P) (next P) s ls last → end last ≡ some v → Left P s ls v
+unfolding judge
+good-left P s last [] v none-yet e = none-left P s v e
+good-left P s last (x ∷ ls) v (one-more {s′ = s′} h d g) e =
+    line-before P s s′ x ls v (passed-line (tests P) (next P) end s s′ x h d) (good-left P s′ last ls v g e)

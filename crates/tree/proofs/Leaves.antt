@@ -13,27 +13,26 @@ use Rattle.model.specs.Above.{Above}
 use Rattle.model.specs.Leaf.{stuck-at, any-stuck, leaf-value}
 use Rattle.model.specs.Tree.{never, number}
 use Rattle.model.proofs.Extents.{SameMarks, available-ext, stuck-at-ext, any-stuck-ext, leaf-value-ext}
-use Rattle.text.specs.Lines.{Line, lineAt}
-use Rattle.text.specs.Forms.{rowOf}
+use Rattle.text.specs.Lines.{lineAt}
+use Rattle.text.specs.Forms.{rowOf, numbers-of}
+use Rattle.text.specs.Forms as forms
 use Rattle.text.specs.Course.{refused, good}
 use Rattle.text.specs.declared.Row.{Row}
 use Rattle.text.specs.declared.Verdict.the-variants.{Refused, Good}
+use Rattle.text.specs.Tests.{_if_, found}
+use Rattle.text.proofs.Verdicts.{form-found}
 use Rattle.least.specs.declared.unit.Least.the-variants.{Stuck, Value}
 use Rattle.least.specs.Marks.{all-marks}
 use Rattle.least.specs.Answers.{short-at, leaf-of}
 use Rattle.tree.specs.Rendering.{price-key, reserve-key}
-use Rattle.tree.specs.Tests.{Test, _if_, found}
-use Rattle.tree.specs.NodeLines.{Kind, short-line, stuck-line, price-line, kind-of, node-form, reserve-form, numbers-of, named, Passes, split-again, too-deep, not-short, not-stuck, node-tests}
+use Rattle.tree.specs.NodeLines.{Kind, short-line, stuck-line, price-line, kind-of, node-form, reserve-form, named, split-again, too-deep, not-short, not-stuck, node-tests}
 use Rattle.tree.specs.Due.{Figures, with-leaf, Pending, pending, nodes-due, reserve-due, tests, next, after-node, judge}
 use Rattle.tree.specs.Coded.{marks-in}
 use Rattle.tree.specs.Reading.{LineRefused}
-use Rattle.tree.proofs.Rows.{passes-found, row-refused, row-passes, values-taken}
+use Rattle.tree.proofs.Rows.{refused-found, row-refused, row-good, values-taken}
+use Rattle.tree.proofs.NodeLines.{rules}
 use Rattle.tree.proofs.Marked.{marks-same}
 use Rattle.tree.proofs.Steps.{AtNode, AtReserve}
-
--- the tests after 12, 14, 13
-abbrev pub rules : Instance → Above → ℕ → Kind → Line → List Test
-rules P A d k l = 31 if split-again P A k l ∷ 32 if too-deep d k ∷ 33 if not-short P A k l ∷ 34 if not-stuck P A k l ∷ []
 
 -- ---- where a node is due
 
@@ -48,18 +47,20 @@ module _ (P : Instance) (text : List ℕ) (here : ℕ) (A : Above) (d : ℕ) whe
   module _ (k : Kind) (e : kind-of (lineAt text here) ≡ k) where
     -- 12, 14 or 13
     pub line-refused : (n : ℕ) → LineRefused (node-form P k) (lineAt text here) n → AtNode P text here A d (λ F rest. refused n)
-    line-refused n h F rest = judge-by k e F rest ∙ h (after-node P F (pending A d) rest k (lineAt text here)) (rules P A d k (lineAt text here))
+    line-refused n h F rest =
+        judge-by k e F rest
+        ∙ refused-found (node-form P k) (lineAt text here) n (rules P A d k (lineAt text here)) (after-node P F (pending A d) rest k (lineAt text here)) h
 
     -- none of these: the other tests are left
-    pub line-passed : Passes (node-form P k) (lineAt text here) → (F : Figures) (rest : List Pending)
+    pub line-passed : forms.good (node-form P k) (lineAt text here) ≡ true → (F : Figures) (rest : List Pending)
         → judge P (nodes-due F (pending A d ∷ rest)) (lineAt text here)
         ≡ found (rules P A d k (lineAt text here)) (after-node P F (pending A d) rest k (lineAt text here))
     line-passed p F rest =
         judge-by k e F rest
-        ∙ passes-found (after-node P F (pending A d) rest k (lineAt text here)) (rules P A d k (lineAt text here)) (node-form P k) (lineAt text here) p
+        ∙ form-found (node-form P k) (lineAt text here) (rules P A d k (lineAt text here)) (after-node P F (pending A d) rest k (lineAt text here)) p
 
   -- a leaf that names the period t
-  module _ (e : kind-of (lineAt text here) ≡ short-line) (p : Passes (node-form P short-line) (lineAt text here)) (t : ℕ)
+  module _ (e : kind-of (lineAt text here) ≡ short-line) (p : forms.good (node-form P short-line) (lineAt text here) ≡ true) (t : ℕ)
       (is : t ≡ named (node-form P short-line) (lineAt text here) 0) where
     short-by : (b : Bool) → b ≡ short-at P (A .marks) t → not-short P A short-line (lineAt text here) ≡ not b
     unfolding not-short
@@ -74,7 +75,7 @@ module _ (P : Instance) (text : List ℕ) (here : ℕ) (A : Above) (d : ℕ) whe
     short-fails s F rest = line-passed short-line e p F rest ∙ rw (short-by false s) refl
 
   -- a leaf that names the unit U
-  module _ (e : kind-of (lineAt text here) ≡ stuck-line) (p : Passes (node-form P stuck-line) (lineAt text here)) (U : ℕ)
+  module _ (e : kind-of (lineAt text here) ≡ stuck-line) (p : forms.good (node-form P stuck-line) (lineAt text here) ≡ true) (U : ℕ)
       (is : U ≡ named (node-form P stuck-line) (lineAt text here) 0) where
     stuck-by : (b : Bool) → b ≡ stuck-at (P .periods) (P .units) (A .marks) U → not-stuck P A stuck-line (lineAt text here) ≡ not b
     unfolding not-stuck
@@ -93,7 +94,7 @@ module _ (P : Instance) (text : List ℕ) (here : ℕ) (A : Above) (d : ℕ) whe
       → AtNode P text here A d (λ F rest. good (reserve-due F A (take (P .periods) (row .values)) rest))
   unfolding split-again too-deep not-short not-stuck after-node
   price-read e row is n v F rest =
-      line-passed price-line e (row-passes (node-form P price-line) text here row is n v) F rest
+      line-passed price-line e (row-good (node-form P price-line) text here row is n v) F rest
       ∙ ap (λ (q : List ℕ). good (reserve-due F A q rest)) (sym (values-taken P price-key text here row is n v))
 
 -- ---- what the bytes say of short and stuck is what the marks say
@@ -115,8 +116,8 @@ module _ (P : Instance) (W : WellFormed P) (text : List ℕ) (here : ℕ) (bytes
   pub reserve-line-refused : (n : ℕ) → row .verdict ≡ Refused n → AtReserve P text here (record { marks = marks-in (P .periods) bytes }) q (λ F rest. refused n)
   unfolding judge tests next
   reserve-line-refused n v F rest =
-      row-refused (reserve-form P) text here row is n v (next P (reserve-due F (record { marks = marks-in (P .periods) bytes }) q rest) (lineAt text here))
-      (35 if any-stuck (P .periods) (P .units) (marks-in (P .periods) bytes) ∷ [])
+      refused-found (reserve-form P) (lineAt text here) n (35 if any-stuck (P .periods) (P .units) (marks-in (P .periods) bytes) ∷ [])
+      (next P (reserve-due F (record { marks = marks-in (P .periods) bytes }) q rest) (lineAt text here)) (row-refused (reserve-form P) text here row is n v)
 
   module _ (n : ℕ) (v : row .verdict ≡ Good n) where
     same : SameMarks (length (P .units)) (P .periods) (all-marks (P .periods) bytes) (marks-in (P .periods) bytes)
@@ -127,9 +128,8 @@ module _ (P : Instance) (W : WellFormed P) (text : List ℕ) (here : ℕ) (bytes
         ≡ found (35 if b ∷ []) (next P (reserve-due F (record { marks = marks-in (P .periods) bytes }) q rest) (lineAt text here))
     unfolding judge tests
     passed F rest b e =
-        passes-found (next P (reserve-due F (record { marks = marks-in (P .periods) bytes }) q rest) (lineAt text here))
-        (35 if any-stuck (P .periods) (P .units) (marks-in (P .periods) bytes) ∷ []) (reserve-form P) (lineAt text here)
-        (row-passes (reserve-form P) text here row is n v)
+        form-found (reserve-form P) (lineAt text here) (35 if any-stuck (P .periods) (P .units) (marks-in (P .periods) bytes) ∷ [])
+        (next P (reserve-due F (record { marks = marks-in (P .periods) bytes }) q rest) (lineAt text here)) (row-good (reserve-form P) text here row is n v)
         ∙ ap (λ (x : Bool). found (35 if x ∷ []) (next P (reserve-due F (record { marks = marks-in (P .periods) bytes }) q rest) (lineAt text here)))
         (sym (any-stuck-ext (P .periods) (P .units) (all-marks (P .periods) bytes) (marks-in (P .periods) bytes) same) ∙ e)
 

@@ -1,5 +1,4 @@
 -- What the definitions imply.
-pub mod Tests
 pub mod Bounds
 pub mod Lines
 pub mod NodeLines

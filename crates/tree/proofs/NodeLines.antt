@@ -13,16 +13,24 @@ use Rattle.model.specs.Above.{Mark, free, fixed, Above, fix}
 use Rattle.model.specs.Leaf.{available, stuck-at, any-stuck, leaf-value}
 use Rattle.model.specs.Tree.{Multipliers, never, number}
 use Rattle.text.specs.Lines.{Line, ended}
-use Rattle.text.specs.Forms.{withinAll}
+use Rattle.text.specs.Forms.{withinAll, numbers-of}
+use Rattle.text.specs.Forms as forms
 use Rattle.text.specs.Course.{good}
+use Rattle.text.specs.Rendering.{plain-line}
+use Rattle.text.specs.Tests.{Test, _if_, None}
 use Rattle.text.proofs.Cuts.{and-both}
-use Rattle.text.proofs.Accepted.{Fits}
-use Rattle.tree.specs.Rendering.{numbers, split-key, short-key, stuck-key, price-key, reserve-key}
-use Rattle.tree.specs.Tests.{None}
-use Rattle.tree.specs.NodeLines.{Passes, Kind, split-line, short-line, stuck-line, price-line, kind-of, node-form, reserve-form, numbers-of, named, is-fixed, split-again, too-deep, not-short, not-stuck, node-tests, reserve-tests}
+use Rattle.text.proofs.Accepted.{Fits, rendered-good, rendered-numbers}
+use Rattle.text.proofs.Tests.{none-good, good-none}
+use Rattle.text.proofs.Plain.{plain-was, plain-passed}
+use Rattle.text.proofs.Verdicts.{form-passes}
+use Rattle.tree.specs.Rendering.{split-key, short-key, stuck-key, price-key, reserve-key}
+use Rattle.tree.specs.NodeLines.{Kind, split-line, short-line, stuck-line, price-line, kind-of, node-form, reserve-form, named, is-fixed, split-again, too-deep, not-short, not-stuck, node-tests, reserve-tests}
 use Rattle.tree.specs.Due.{Figures, Pending, pending, with-split, with-leaf, Due, nodes-due, reserve-due, tests, next, after-node, judge}
-use Rattle.tree.proofs.Tests.{none-good, good-none}
-use Rattle.tree.proofs.Lines.{written-passes, written-numbers, was-written, multipliers-fit, was-plain, was-multipliers, one-fits, was-one}
+use Rattle.tree.proofs.Lines.{was-written, multipliers-fit, was-multipliers, one-fits, was-one}
+
+-- the tests of a node line after 12, 14, 13
+abbrev pub rules : Instance → Above → ℕ → Kind → Line → List Test
+rules P A d k l = 31 if split-again P A k l ∷ 32 if too-deep d k ∷ 33 if not-short P A k l ∷ 34 if not-stuck P A k l ∷ []
 
 -- ---- tests and facts
 
@@ -56,19 +64,19 @@ module _ (P : Instance) where
   }
 
   pub record WasSplit (l : Line) : Type 0 where
-    pub line : l ≡ ended (numbers split-key (suc (named (node-form P split-line) l 0) ∷ suc (named (node-form P split-line) l 1) ∷ []))
+    pub line : l ≡ ended (plain-line split-key (suc (named (node-form P split-line) l 0) ∷ suc (named (node-form P split-line) l 1) ∷ []))
     pub count : length (numbers-of (node-form P split-line) l) ≡ 2
     pub first : 1 ≤ numbers-of (node-form P split-line) l at 0
     pub second : 1 ≤ numbers-of (node-form P split-line) l at 1
     pub unit : named (node-form P split-line) l 0 < length (P .units)
     pub period : named (node-form P split-line) l 1 < P .periods
 
-  pub was-split : (l : Line) → Passes (node-form P split-line) l → WasSplit l
+  pub was-split : (l : Line) → forms.good (node-form P split-line) l ≡ true → WasSplit l
   was-split l p =
       let w = was-written (node-form P split-line) refl l p in
       go (numbers-of (node-form P split-line) l) refl (w .line) (w .fits .count) (w .fits .range)
     where
-      go : (vs : List ℕ) → numbers-of (node-form P split-line) l ≡ vs → l ≡ ended (numbers split-key vs) → length vs ≡ 2
+      go : (vs : List ℕ) → numbers-of (node-form P split-line) l ≡ vs → l ≡ ended (plain-line split-key vs) → length vs ≡ 2
           → withinAll vs (1 ∷ 1 ∷ []) (length (P .units) ∷ P .periods ∷ []) ≡ true
           → WasSplit l
       go [] e line c r = absurd (omega arith)
@@ -95,103 +103,107 @@ module _ (P : Instance) (F : Figures) (A : Above) (d : ℕ) (ps : List Pending) 
   At l s = judge P (nodes-due F (pending A d ∷ ps)) l ≡ good s
 
   pub split-good : (U t : ℕ) → U < length (P .units) → t < P .periods → A .marks U t ≡ free → d ≤ 63
-      → At (ended (numbers split-key (suc U ∷ suc t ∷ [])))
+      → At (ended (plain-line split-key (suc U ∷ suc t ∷ [])))
       (nodes-due (with-split F) (pending (fix U t false A) (suc d) ∷ pending (fix U t true A) (suc d) ∷ ps))
   unfolding judge tests next kind-of after-node split-again too-deep not-short not-stuck
   split-good U t h k e b =
       let f = node-form P split-line in
-      let l = ended (numbers split-key (suc U ∷ suc t ∷ [])) in
+      let l = ended (plain-line split-key (suc U ∷ suc t ∷ [])) in
       let w = split-fits P U t h k in
-      let p = written-passes f (suc U ∷ suc t ∷ []) w in
-      let n = written-numbers f (suc U ∷ suc t ∷ []) w in
+      let p = rendered-good f false (suc U ∷ suc t ∷ []) w in
+      let n = rendered-numbers f false (suc U ∷ suc t ∷ []) w in
       let u : named f l 0 ≡ U = ap (λ (vs : List ℕ). pred (vs at 0)) n ∙ omega arith in
       let v : named f l 1 ≡ t = ap (λ (vs : List ℕ). pred (vs at 1)) n ∙ omega arith in
       let r : is-fixed (A .marks (named f l 0) (named f l 1)) ≡ false = rw (u, v, e) refl in
       none-good (after-node P F (pending A d) ps split-line l) (node-tests P A d split-line l)
-      (p .0, (p .1, (p .2, (r, (le-ltb 63 d b, (refl, (refl, tt)))))))
+      (form-passes f l (rules P A d split-line l) .1 (p, (r, (le-ltb 63 d b, (refl, (refl, tt))))))
       ∙ rw (u, v) refl
 
   pub short-good : (t : ℕ) → t < P .periods → available (P .units) (A .marks) t < P .demand at t + P .spare at t
-      → At (ended (numbers short-key (suc t ∷ []))) (nodes-due (with-leaf F never) ps)
+      → At (ended (plain-line short-key (suc t ∷ []))) (nodes-due (with-leaf F never) ps)
   unfolding judge tests next kind-of after-node split-again too-deep not-short not-stuck
   short-good t h k =
       let f = node-form P short-line in
-      let l = ended (numbers short-key (suc t ∷ [])) in
+      let l = ended (plain-line short-key (suc t ∷ [])) in
       let w = one-fits short-key (P .periods) t h in
-      let p = written-passes f (suc t ∷ []) w in
-      let v : named f l 0 ≡ t = ap (λ (vs : List ℕ). pred (vs at 0)) (written-numbers f (suc t ∷ []) w) ∙ omega arith in
+      let p = rendered-good f false (suc t ∷ []) w in
+      let v : named f l 0 ≡ t = ap (λ (vs : List ℕ). pred (vs at 0)) (rendered-numbers f false (suc t ∷ []) w) ∙ omega arith in
       let r : not-short P A short-line l ≡ false = rw v (ap not (lt-ltb _ _ k)) in
       none-good (after-node P F (pending A d) ps short-line l) (node-tests P A d short-line l)
-      (p .0, (p .1, (p .2, (refl, (refl, (r, (refl, tt)))))))
+      (form-passes f l (rules P A d short-line l) .1 (p, (refl, (refl, (r, (refl, tt))))))
 
   pub stuck-good : (U : ℕ) → U < length (P .units) → T (stuck-at (P .periods) (P .units) (A .marks) U)
-      → At (ended (numbers stuck-key (suc U ∷ []))) (nodes-due (with-leaf F never) ps)
+      → At (ended (plain-line stuck-key (suc U ∷ []))) (nodes-due (with-leaf F never) ps)
   unfolding judge tests next kind-of after-node split-again too-deep not-short not-stuck
   stuck-good U h k =
       let f = node-form P stuck-line in
-      let l = ended (numbers stuck-key (suc U ∷ [])) in
+      let l = ended (plain-line stuck-key (suc U ∷ [])) in
       let w = one-fits stuck-key (length (P .units)) U h in
-      let p = written-passes f (suc U ∷ []) w in
-      let v : named f l 0 ≡ U = ap (λ (vs : List ℕ). pred (vs at 0)) (written-numbers f (suc U ∷ []) w) ∙ omega arith in
+      let p = rendered-good f false (suc U ∷ []) w in
+      let v : named f l 0 ≡ U = ap (λ (vs : List ℕ). pred (vs at 0)) (rendered-numbers f false (suc U ∷ []) w) ∙ omega arith in
       let r : not-stuck P A stuck-line l ≡ false = rw v (ap not (T-is (stuck-at (P .periods) (P .units) (A .marks) U) k)) in
       none-good (after-node P F (pending A d) ps stuck-line l) (node-tests P A d stuck-line l)
-      (p .0, (p .1, (p .2, (refl, (refl, (refl, (r, tt)))))))
+      (form-passes f l (rules P A d stuck-line l) .1 (p, (refl, (refl, (refl, (r, tt))))))
 
-  pub price-good : 1 ≤ P .periods → (q : List ℕ) → Multipliers P q → At (ended (numbers price-key q)) (reserve-due F A q ps)
+  pub price-good : 1 ≤ P .periods → (q : List ℕ) → Multipliers P q → At (ended (plain-line price-key q)) (reserve-due F A q ps)
   unfolding judge tests next kind-of after-node split-again too-deep not-short not-stuck
   price-good some q m =
       let f = node-form P price-line in
-      let l = ended (numbers price-key q) in
+      let l = ended (plain-line price-key q) in
       let w = multipliers-fit P price-key some q m in
-      let p = written-passes f q w in
+      let p = rendered-good f false q w in
       none-good (after-node P F (pending A d) ps price-line l) (node-tests P A d price-line l)
-      (p .0, (p .1, (p .2, (refl, (refl, (refl, (refl, tt)))))))
-      ∙ ap (λ (vs : List ℕ). good (reserve-due F A vs ps)) (written-numbers f q w)
+      (form-passes f l (rules P A d price-line l) .1 (p, (refl, (refl, (refl, (refl, tt))))))
+      ∙ ap (λ (vs : List ℕ). good (reserve-due F A vs ps)) (rendered-numbers f false q w)
 
   pub reserve-good : 1 ≤ P .periods → (q s : List ℕ) → Multipliers P s → T (not (any-stuck (P .periods) (P .units) (A .marks)))
-      → judge P (reserve-due F A q ps) (ended (numbers reserve-key s))
+      → judge P (reserve-due F A q ps) (ended (plain-line reserve-key s))
       ≡ good (nodes-due (with-leaf F (number (leaf-value P (A .marks) (λ t. q at t) (λ t. s at t)))) ps)
   unfolding judge tests next
   reserve-good some q s m k =
       let f = reserve-form P in
-      let l = ended (numbers reserve-key s) in
+      let l = ended (plain-line reserve-key s) in
       let w = multipliers-fit P reserve-key some s m in
-      let p = written-passes f s w in
-      none-good (next P (reserve-due F A q ps) l) (reserve-tests P A l) (p .0, (p .1, (p .2, (T-not _ k, tt))))
-      ∙ ap (λ (vs : List ℕ). good (nodes-due (with-leaf F (number (leaf-value P (A .marks) (λ t. q at t) (λ t. vs at t)))) ps)) (written-numbers f s w)
+      let p = rendered-good f false s w in
+      none-good (next P (reserve-due F A q ps) l) (reserve-tests P A l)
+      (form-passes f l (35 if any-stuck (P .periods) (P .units) (A .marks) ∷ []) .1 (p, (T-not _ k, tt)))
+      ∙ ap (λ (vs : List ℕ). good (nodes-due (with-leaf F (number (leaf-value P (A .marks) (λ t. q at t) (λ t. vs at t)))) ps)) (rendered-numbers f false s w)
 
   -- ---- a line that is good where a node is due is a node's, within the limits and with its rule
 
   pub data NodeWas (l : Line) : Due → Type 0 where
-    split-was : (U t : ℕ) → l ≡ ended (numbers split-key (suc U ∷ suc t ∷ [])) → U < length (P .units) → t < P .periods
+    split-was : (U t : ℕ) → l ≡ ended (plain-line split-key (suc U ∷ suc t ∷ [])) → U < length (P .units) → t < P .periods
         → A .marks U t ≡ free → d ≤ 63
         → NodeWas l (nodes-due (with-split F) (pending (fix U t false A) (suc d) ∷ pending (fix U t true A) (suc d) ∷ ps))
-    short-was : (t : ℕ) → l ≡ ended (numbers short-key (suc t ∷ [])) → t < P .periods
+    short-was : (t : ℕ) → l ≡ ended (plain-line short-key (suc t ∷ [])) → t < P .periods
         → available (P .units) (A .marks) t < P .demand at t + P .spare at t
         → NodeWas l (nodes-due (with-leaf F never) ps)
-    stuck-was : (U : ℕ) → l ≡ ended (numbers stuck-key (suc U ∷ [])) → U < length (P .units)
+    stuck-was : (U : ℕ) → l ≡ ended (plain-line stuck-key (suc U ∷ [])) → U < length (P .units)
         → T (stuck-at (P .periods) (P .units) (A .marks) U)
         → NodeWas l (nodes-due (with-leaf F never) ps)
-    price-was : (q : List ℕ) → l ≡ ended (numbers price-key q) → Multipliers P q → NodeWas l (reserve-due F A q ps)
+    price-was : (q : List ℕ) → l ≡ ended (plain-line price-key q) → Multipliers P q → NodeWas l (reserve-due F A q ps)
 
   by-kind : (k : Kind) (l : Line) → None (node-tests P A d k l) → NodeWas l (after-node P F (pending A d) ps k l)
   unfolding after-node split-again too-deep not-short not-stuck
   by-kind split-line l n =
-      let w = was-split P l (n .0, n .1 .0, n .1 .1 .0) in
-      let m = n .1 .1 .1 in
+      let g = form-passes (node-form P split-line) l (rules P A d split-line l) .0 n in
+      let w = was-split P l (g .0) in
+      let m = g .1 in
       split-was (named (node-form P split-line) l 0) (named (node-form P split-line) l 1) (w .line) (w .unit) (w .period)
       (free-mark _ (m .0)) (ltb-false 63 d (m .1 .0))
   by-kind short-line l n =
-      let w = was-one short-key (P .periods) l (n .0, n .1 .0, n .1 .1 .0) in
+      let g = form-passes (node-form P short-line) l (rules P A d short-line l) .0 n in
+      let w = was-one short-key (P .periods) l (g .0) in
       let t = named (node-form P short-line) l 0 in
-      short-was t (w .line) (w .range) (ltb-true _ _ (not-false _ (n .1 .1 .1 .1 .1 .0)))
+      short-was t (w .line) (w .range) (ltb-true _ _ (not-false _ (g .1 .1 .1 .0)))
   by-kind stuck-line l n =
-      let w = was-one stuck-key (length (P .units)) l (n .0, n .1 .0, n .1 .1 .0) in
+      let g = form-passes (node-form P stuck-line) l (rules P A d stuck-line l) .0 n in
+      let w = was-one stuck-key (length (P .units)) l (g .0) in
       let U = named (node-form P stuck-line) l 0 in
       let b = stuck-at (P .periods) (P .units) (A .marks) U in
-      stuck-was U (w .line) (w .range) (is-T b (not-false b (n .1 .1 .1 .1 .1 .1 .0)))
+      stuck-was U (w .line) (w .range) (is-T b (not-false b (g .1 .1 .1 .1 .0)))
   by-kind price-line l n =
-      let w = was-plain price-key (P .periods) 0 1000000000 l (n .0, n .1 .0, n .1 .1 .0) in
+      let w = plain-passed price-key (P .periods) 0 1000000000 l (rules P A d price-line l) n in
       price-was (numbers-of (node-form P price-line) l) (w .line) (was-multipliers P price-key l w)
 
   pub node-was : (l : Line) (s : Due) → At l s → NodeWas l s
@@ -202,7 +214,7 @@ module _ (P : Instance) (F : Figures) (A : Above) (d : ℕ) (ps : List Pending) 
 
   pub record ReserveWas (q : List ℕ) (l : Line) (s′ : Due) : Type 0 where
     pub s : List ℕ
-    pub line : l ≡ ended (numbers reserve-key s)
+    pub line : l ≡ ended (plain-line reserve-key s)
     pub range : Multipliers P s
     pub none-stuck : T (not (any-stuck (P .periods) (P .units) (A .marks)))
     pub due : s′ ≡ nodes-due (with-leaf F (number (leaf-value P (A .marks) (λ t. q at t) (λ t. s at t)))) ps
@@ -211,12 +223,12 @@ module _ (P : Instance) (F : Figures) (A : Above) (d : ℕ) (ps : List Pending) 
   unfolding judge tests next
   reserve-was q l s e =
       let g = good-none (next P (reserve-due F A q ps) l) s (reserve-tests P A l) e in
-      let n = g .0 in
-      let w = was-plain reserve-key (P .periods) 0 1000000000 l (n .0, n .1 .0, n .1 .1 .0) in
+      let n = form-passes (reserve-form P) l (35 if any-stuck (P .periods) (P .units) (A .marks) ∷ []) .0 (g .0) in
+      let w = plain-was reserve-key (P .periods) 0 1000000000 l (n .0) in
       record {
         s = numbers-of (reserve-form P) l;
         line = w .line;
         range = was-multipliers P reserve-key l w;
-        none-stuck = not-T _ (n .1 .1 .1 .0);
+        none-stuck = not-T _ (n .1 .0);
         due = sym (g .1);
       }

@@ -1,73 +1,57 @@
 -- What the row of a line says: the number that refuses the line is the first of 12, 14, 13, and of a good line the row holds the
 -- numbers and the next line's start.
-use mathlib.Core.Path.{_≡_, refl, ap, _∙_}
-use mathlib.Core.Bool.{Bool, true, false}
+use mathlib.Core.Path.{_≡_, ap, _∙_}
+use mathlib.Core.Bool.{true}
 use mathlib.Core.List.{List, _∷_}
 use Prim.Native.Nat.{ℕ, suc, pred, _+_, _-_, _≤_}
 use native.Mathlib.Omega.{arith}
-use lib.Dec.{eqb}
 use lib.ListN.{length, drop, length-drop, length-append, take}
 use Rattle.model.specs.Instance.{Instance, _at_}
 use Rattle.model.specs.Tree.{Multipliers}
 use Rattle.text.specs.Lines.{Line, ended, bytesOf, later, linesOf, lineAt}
-use Rattle.text.specs.Forms.{Form, plain, malformed, wrongCount, outOfRange, pickNumber, refusedBy, good, after, rowOf, padded}
+use Rattle.text.specs.Forms.{Form, plain, numbers-of, good, after, rowOf, padded, form-tests}
 use Rattle.text.specs.Course.{refused}
+use Rattle.text.specs.Tests.{Test, found}
 use Rattle.text.specs.declared.Row.{Row}
 use Rattle.text.specs.declared.Verdict.the-variants.{Refused, Good}
 use Rattle.text.proofs.Cuts.{text-ended, later-fewer}
-use Rattle.text.proofs.Plain.{padded-at, padded-take}
-use Rattle.text.proofs.Verdicts.{verdict-refused, verdict-good, values-good, good-ended, good-next}
-use Rattle.tree.specs.Tests.{Test, _if_, found}
-use Rattle.tree.specs.NodeLines.{Passes, numbers-of, named, form-tests}
+use Rattle.text.proofs.Plain.{plain-was}
+use Rattle.text.proofs.PlainRows.{plain-row}
+use Rattle.text.proofs.Verdicts.{verdict-refused, verdict-good, values-good, good-ended, good-next, form-refused}
+use Rattle.tree.specs.NodeLines.{named}
 use Rattle.tree.specs.Reading.{LineRefused, Moved}
-use Rattle.tree.proofs.Lines.{good-passes, was-plain, was-multipliers}
+use Rattle.tree.proofs.Lines.{was-multipliers}
 
 -- ---- refused
 
-module _ {S : Type 0} (x : S) (ts : List Test) where
-  by-three : (m c r : Bool) (n : ℕ) → pickNumber m 12 (pickNumber c 14 (pickNumber r 13 0)) ≡ n
-      → eqb (pickNumber m 12 (pickNumber c 14 (pickNumber r 13 0))) 0 ≡ false
-      → found (12 if m ∷ 14 if c ∷ 13 if r ∷ ts) x ≡ refused n
-  by-three true c r n e h = ap refused e
-  by-three false true r n e h = ap refused e
-  by-three false false true n e h = ap refused e
-  by-three false false false n e h = absurd (let z : _≡_ {A = ℕ} 0 1 = cc in omega arith)
-
-  -- a form's tests that all fail leave the others
-  pub passes-found : (f : Form) (l : Line) → Passes f l → found (form-tests f l ts) x ≡ found ts x
-  passes-found f l p = rw (p .0, p .1, p .2) refl
+pub refused-found : {S : Type 0} (f : Form) (l : Line) (n : ℕ) (ts : List Test) (s : S) → LineRefused f l n → found (form-tests f l ts) s ≡ refused n
+refused-found f l n ts s r = form-refused f l ts s (r .0) ∙ ap refused (r .1)
 
 module _ (f : Form) (text : List ℕ) (here : ℕ) (row : Row) (is : row ≡ rowOf f (lineAt text here) here) where
   pub row-refused : (n : ℕ) → row .verdict ≡ Refused n → LineRefused f (lineAt text here) n
-  unfolding refusedBy good
-  row-refused n e x ts =
-      let r = verdict-refused f (lineAt text here) here row is n e in
-      by-three x ts (malformed f (lineAt text here)) (wrongCount f (lineAt text here)) (outOfRange f (lineAt text here)) n (r .1) (r .0)
+  row-refused n e = verdict-refused f (lineAt text here) here row is n e
 
   -- ---- good
 
   module _ (next : ℕ) (e : row .verdict ≡ Good next) where
-    is-good : good f (lineAt text here) ≡ true
-    is-good = verdict-good f (lineAt text here) here row is next e .0
+    pub row-good : good f (lineAt text here) ≡ true
+    row-good = verdict-good f (lineAt text here) here row is next e .0
 
     next-is : next ≡ after (lineAt text here) here
     next-is = verdict-good f (lineAt text here) here row is next e .1
 
-    pub row-passes : Passes f (lineAt text here)
-    row-passes = good-passes f (lineAt text here) is-good
-
     pub row-values : row .values ≡ padded (numbers-of f (lineAt text here))
-    row-values = values-good f (lineAt text here) here row is is-good
+    row-values = values-good f (lineAt text here) here row is row-good
 
     pub row-moved : Moved text here next
     row-moved =
         let b = bytesOf (lineAt text here) in
-        let l : lineAt text here ≡ ended b = good-ended f (lineAt text here) is-good in
+        let l : lineAt text here ≡ ended b = good-ended f (lineAt text here) row-good in
         let t : length (drop here text) ≡ length b + suc (length (drop (length b + 1) (drop here text))) =
         ap (λ (s : List ℕ). length s) (text-ended (drop here text) b l) ∙ length-append b (10 ∷ drop (length b + 1) (drop here text)) in
         let d = length-drop here text in
         let n = next-is in
-        let k : linesOf (drop next text) ≡ later (linesOf (drop here text)) = rw n (good-next f text here is-good) in
+        let k : linesOf (drop next text) ≡ later (linesOf (drop here text)) = rw n (good-next f text here row-good) in
         record {
           past = omega arith;
           inside = omega arith;
@@ -86,28 +70,20 @@ module _ (key : List ℕ) (hi : ℕ) (text : List ℕ) (here : ℕ) (row : Row) 
 
   pub one-value : OneValue
   one-value =
-      let f = plain key 1 1 hi in
-      let p = row-passes f text here row is next e in
-      let w = was-plain key 1 1 hi (lineAt text here) p in
-      let c = w .count in
-      let v : row .values at 0 ≡ numbers-of f (lineAt text here) at 0 =
-      ap (λ (vs : List ℕ). vs at 0) (row-values f text here row is next e) ∙ padded-at (numbers-of f (lineAt text here)) 0 (omega arith) in
-      let b = w .range 0 (omega arith) in
-      let z : row .values at 0 - 1 ≡ pred (numbers-of f (lineAt text here) at 0) = omega arith in
-      record { low = omega arith; high = omega arith; is-named = z }
+      let w = plain-row key 1 1 hi (lineAt text here) here next row is e in
+      let v = w .first (omega arith) in
+      let b = w .first-in (omega arith) in
+      let z : row .values at 0 - 1 ≡ pred (numbers-of (plain key 1 1 hi) (lineAt text here) at 0) = omega arith in
+      record { low = b .0; high = b .1; is-named = z }
 
 module _ (P : Instance) (key : List ℕ) (text : List ℕ) (here : ℕ) (row : Row)
     (is : row ≡ rowOf (plain key (P .periods) 0 1000000000) (lineAt text here) here) (next : ℕ) (e : row .verdict ≡ Good next) where
-  many : Multipliers P (numbers-of (plain key (P .periods) 0 1000000000) (lineAt text here))
-  many =
-      was-multipliers P key (lineAt text here)
-      (was-plain key (P .periods) 0 1000000000 (lineAt text here) (row-passes (plain key (P .periods) 0 1000000000) text here row is next e))
-
   -- the row begins with the numbers of the line
   pub values-taken : take (P .periods) (row .values) ≡ numbers-of (plain key (P .periods) 0 1000000000) (lineAt text here)
-  values-taken =
-      ap (take (P .periods)) (row-values (plain key (P .periods) 0 1000000000) text here row is next e)
-      ∙ padded-take (numbers-of (plain key (P .periods) 0 1000000000) (lineAt text here)) (P .periods) (many .0)
+  values-taken = plain-row key (P .periods) 0 1000000000 (lineAt text here) here next row is e .values
 
   pub taken-multipliers : Multipliers P (take (P .periods) (row .values))
-  taken-multipliers = rw values-taken many
+  taken-multipliers =
+      rw values-taken
+      (was-multipliers P key (lineAt text here)
+      (plain-was key (P .periods) 0 1000000000 (lineAt text here) (row-good (plain key (P .periods) 0 1000000000) text here row is next e)))

@@ -10,15 +10,15 @@ use lib.ListN.{length}
 use Rattle.model.specs.Instance.{Instance, _at_}
 use Rattle.model.specs.Above.{Above, fix}
 use Rattle.text.specs.Lines.{lineAt}
-use Rattle.text.specs.Forms.{rowOf}
+use Rattle.text.specs.Forms.{rowOf, numbers-of}
 use Rattle.text.specs.Course.{refused, good}
 use Rattle.text.specs.declared.Row.{Row}
 use Rattle.text.specs.declared.Verdict.the-variants.{Good}
+use Rattle.text.specs.Tests.{_if_, found}
 use Rattle.text.proofs.Plain.{padded-at}
-use Rattle.tree.specs.Tests.{_if_, found}
-use Rattle.tree.specs.NodeLines.{split-line, kind-of, node-form, numbers-of, named, is-fixed, split-again, too-deep, not-short, not-stuck}
+use Rattle.tree.specs.NodeLines.{split-line, kind-of, node-form, named, is-fixed, split-again, too-deep, not-short, not-stuck}
 use Rattle.tree.specs.Due.{Figures, with-split, Pending, pending, nodes-due, after-node, judge}
-use Rattle.tree.proofs.Rows.{row-passes, row-values}
+use Rattle.tree.proofs.Rows.{row-good, row-values}
 use Rattle.tree.proofs.NodeLines.{was-split}
 use Rattle.tree.proofs.Steps.{AtNode}
 use Rattle.tree.proofs.Leaves.{line-passed}
@@ -47,7 +47,7 @@ module _ (P : Instance) (text : List ℕ) (here : ℕ) (row : Row) (is : row ≡
   two-values =
       let f = node-form P split-line in
       let l = lineAt text here in
-      let w = was-split P l (row-passes f text here row is n v) in
+      let w = was-split P l (row-good f text here row is n v) in
       let c = w .count in
       let same : (i : ℕ) → i < 2 → row .values at i ≡ numbers-of f l at i =
       λ i h. ap (λ (vs : List ℕ). vs at i) (row-values f text here row is n v) ∙ padded-at (numbers-of f l) i (omega arith) in
@@ -81,7 +81,7 @@ module _ (P : Instance) (text : List ℕ) (here : ℕ) (A : Above) (d : ℕ) (e 
   unfolding too-deep not-short not-stuck
   by-two x y p q F rest =
       let s = after-node P F (pending A d) rest split-line (lineAt text here) in
-      line-passed P text here A d split-line e (row-passes (node-form P split-line) text here row is n v) F rest
+      line-passed P text here A d split-line e (row-good (node-form P split-line) text here row is n v) F rest
       ∙ ap (λ (z : Bool). found (31 if z ∷ 32 if ltb 63 d ∷ 33 if false ∷ 34 if false ∷ []) s) (again ∙ p)
       ∙ ap (λ (z : Bool). found (31 if x ∷ 32 if z ∷ 33 if false ∷ 34 if false ∷ []) s) q
 

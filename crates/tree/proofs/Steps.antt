@@ -5,42 +5,37 @@ use mathlib.Core.Option.{none}
 use Prim.Native.Nat.{ℕ, suc, _+_, _≤_}
 use native.Mathlib.Numerals.{add-one}
 use native.Mathlib.Omega.{arith}
-use lib.ListN.{drop}
 use Rattle.model.specs.Instance.{Instance}
 use Rattle.model.specs.Above.{Above}
-use Rattle.text.specs.Lines.{Line, missing, due, later, linesOf, lineAt}
-use Rattle.text.specs.Course.{Found, refused, good, refused-at, at-end, at-line, judged-from}
+use Rattle.text.specs.Lines.{missing, lineAt}
+use Rattle.text.specs.Forms.{malformed}
+use Rattle.text.specs.Course.{Found, refused, good, refused-at}
+use Rattle.text.proofs.Steps as steps
 use Rattle.tree.specs.declared.figures.Bound.{Bound}
 use Rattle.tree.specs.declared.figures.Tally.{Tally}
 use Rattle.tree.specs.declared.leaf.Read.{Read}
 use Rattle.tree.specs.declared.leaf.Read.the-variants.{Refused, Tree}
-use Rattle.tree.specs.Due.{Figures, with-split, with-leaf, Pending, pending, Due, nodes-due, reserve-due, tests, next, judge, end}
+use Rattle.tree.specs.Due.{Figures, with-split, with-leaf, Pending, pending, Due, writer-due, nodes-due, reserve-due, nothing-due, tests, judge, end}
+use Rattle.tree.specs.NodeLines.{kind-of}
 use Rattle.tree.specs.Coded.{bound-of, figures, one-split, LeafAdded}
 use Rattle.tree.specs.Reading.{from, NodeRead, LeafRead, TreesRead, ReserveRead, Placed, Past, Moved}
-use Rattle.tree.proofs.Tests.{refused-first}
 use Rattle.tree.proofs.Bounds.{figures-same}
-use Rattle.tree.proofs.Answers.{missing-first}
 
--- where a line is due, the first line that is left is judged, and then the others
-step : (P : Instance) (l : ℕ) (s : Due) (ls : List Line) → end s ≡ none
-    → judged-from (judge P) end l s ls ≡ at-line (judge P) end l (judge P s (due ls)) (λ s′. judged-from (judge P) end (suc l) s′ (later ls))
-unfolding judged-from judge
-step P l s [] e =
-    ap (at-end (judge P) end l) e
-    ∙ ap (λ (f : Found Due). at-line (judge P) end l f (λ s′. judged-from (judge P) end (suc l) s′ [])) (sym (refused-first (next P s missing) 12 (tests P s missing) .1 (missing-first P 12 s .0 (refl, e))))
-step P l s (x ∷ ls) e = refl
+-- a line that is missing is 12, whatever is due
+judge-missing : (P : Instance) (s : Due) → judge P s missing ≡ refused 12
+unfolding judge tests kind-of malformed
+judge-missing P writer-due = refl
+judge-missing P (nodes-due F []) = refl
+judge-missing P (nodes-due F (p ∷ ps)) = refl
+judge-missing P (reserve-due F A q ps) = refl
+judge-missing P (nothing-due F) = refl
 
 module _ (P : Instance) (text : List ℕ) (at l : ℕ) (s : Due) (e : end s ≡ none) where
   pub step-refused : (n : ℕ) → judge P s (lineAt text at) ≡ refused n → from P text at l s ≡ refused-at n l
-  step-refused n j =
-      step P l s (linesOf (drop at text)) e
-      ∙ ap (λ (f : Found Due). at-line (judge P) end l f (λ s′. judged-from (judge P) end (suc l) s′ (later (linesOf (drop at text))))) j
+  step-refused n j = steps.step-refused (judge P) end (judge-missing P) text at l s e n j
 
   pub step-good : (s′ : Due) (next : ℕ) → judge P s (lineAt text at) ≡ good s′ → Moved text at next → from P text at l s ≡ from P text next (l + 1) s′
-  step-good s′ next j m =
-      step P l s (linesOf (drop at text)) e
-      ∙ ap (λ (f : Found Due). at-line (judge P) end l f (λ s′. judged-from (judge P) end (suc l) s′ (later (linesOf (drop at text))))) j
-      ∙ rw (← (m .lines), add-one) refl
+  step-good s′ next j m = rw add-one (steps.step-good (judge P) end (judge-missing P) text at l s s′ next j (m .lines))
 
 -- one leaf more
 leaf-figures : (w : ℕ) (S S′ : Tally) (b : Bound) → LeafAdded S b S′ → with-leaf (figures w S) (bound-of b) ≡ figures w S′

@@ -12,9 +12,10 @@ use Rattle.model.specs.Above.{Above, root, fix}
 use Rattle.model.specs.Tree.{Tree, split, short, stuck, price, Limits}
 use Rattle.text.specs.Lines.{ended, bytesOf, linesOf, endTree}
 use Rattle.text.specs.Forms.{form, cutValues, sizes, withinAll}
-use Rattle.text.proofs.Accepted.{values-rendered}
-use Rattle.text.proofs.Shown.{sizes-shown}
-use Rattle.tree.specs.Rendering.{numbers, writer-key, split-key, short-key, stuck-key, price-key, reserve-key, node-lines, tree-lines, render}
+use Rattle.text.specs.Rendering.{plain-line}
+use Rattle.text.specs.Writer.{writer-key}
+use Rattle.text.proofs.Accepted.{rendered-numbers}
+use Rattle.tree.specs.Rendering.{split-key, short-key, stuck-key, price-key, reserve-key, node-lines, tree-lines, render}
 use Rattle.tree.specs.NodeLines.{Kind, split-line, short-line, stuck-line, price-line, kind-of}
 use Rattle.tree.proofs.Written.{render-cut}
 
@@ -25,17 +26,16 @@ within-self [] = refl
 within-self (v ∷ vs) = simp (le-leb v v (omega arith), within-self vs)
 
 -- the numbers of a line, read back
-read-back : (key vs : List ℕ) → 0 < length vs → sizes (cutValues (drop (length key) (numbers key vs))) ≡ vs
+read-back : (key vs : List ℕ) → 0 < length vs → sizes (cutValues (drop (length key) (plain-line key vs))) ≡ vs
 read-back key vs h =
-    ap sizes (values-rendered (form key 0 vs vs) false vs (record {
+    rendered-numbers (form key 0 vs vs) false vs (record {
       some = h;
       count = refl;
       range = within-self vs;
       sign = λ z. absurd (let y : _≡_ {A = ℕ} 0 1 = cc in omega arith);
-    }))
-    ∙ sizes-shown 0 false 1 vs
+    })
 
-numbers-once : (key vs ws : List ℕ) → 0 < length vs → 0 < length ws → numbers key vs ≡ numbers key ws → vs ≡ ws
+numbers-once : (key vs ws : List ℕ) → 0 < length vs → 0 < length ws → plain-line key vs ≡ plain-line key ws → vs ≡ ws
 numbers-once key vs ws h k e = sym (read-back key vs h) ∙ ap (λ (l : List ℕ). sizes (cutValues (drop (length key) l))) e ∙ read-back key ws k
 
 -- ---- one node
@@ -135,7 +135,7 @@ pub tree-once : (P : Instance) → 1 ≤ P .periods → (w w′ : ℕ) (t t′ :
 unfolding head tail
 tree-once P h w w′ t t′ l l′ e =
     let ls = sym (written w t) ∙ ap (λ (s : List ℕ). map bytesOf (linesOf s)) e ∙ written w′ t′ in
-    let a : numbers writer-key (w ∷ []) ≡ numbers writer-key (w′ ∷ []) = ap (λ (x : List (List ℕ)). head (tail x)) ls in
+    let a : plain-line writer-key (w ∷ []) ≡ plain-line writer-key (w′ ∷ []) = ap (λ (x : List (List ℕ)). head (tail x)) ls in
     let b = numbers-once writer-key (w ∷ []) (w′ ∷ []) (omega arith) (omega arith) a in
     let c = once t t′ (endTree ∷ []) (endTree ∷ []) (limits-priced P h root 0 t l) (limits-priced P h root 0 t′ l′) (ap (λ (x : List (List ℕ)). tail (tail x)) ls) in
     (cc, c .0)

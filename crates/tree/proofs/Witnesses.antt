@@ -12,10 +12,12 @@ use Rattle.model.specs.Above.{root, fix}
 use Rattle.model.specs.Cost.{row-cost}
 use Rattle.model.specs.Leaf.{available, rows-of, is-stuck, revenue, value, unit-least, units-least, requirement, leaf-value}
 use Rattle.model.specs.Tree.{Tree, split, short, price, Limits, Holds, Bound, number, bound, splits, leaves}
+use Rattle.refusal.specs.Refusals.{line-refusal}
 use Rattle.text.specs.Lines.{Line, ended}
 use Rattle.text.specs.Course.{refused, good, accepted, refused-at, judged-from}
 use Rattle.text.specs.Forms.{malformed, wrongCount, outOfRange}
-use Rattle.tree.specs.Rendering.{numbers, split-key, node-lines, render}
+use Rattle.text.specs.Rendering.{plain-line}
+use Rattle.tree.specs.Rendering.{split-key, node-lines, render}
 use Rattle.tree.specs.NodeLines.{kind-of, split-again, too-deep, not-short, not-stuck}
 use Rattle.tree.specs.Due.{Figures, by-writer, with-split, pending, nodes-due, tests, after-node, next, judge, judged}
 use Rattle.tree.specs.Reading.{coded, read-as, tree-read}
@@ -23,7 +25,7 @@ use Rattle.tree.specs.declared.figures.Bound.the-variants.{Number}
 use Rattle.tree.specs.declared.TreeRead.the-variants.{Refused, Accepted}
 use Rattle.tree.proofs.Complete.{tree-accepted}
 use Rattle.tree.proofs.Answers.{refused-is-first}
-use Rattle.tree.proofs.ReadAnswers.{at-line, read-refused}
+use Rattle.tree.proofs.ReadAnswers.{read-refused}
 
 -- ---- document 01's problem and tree
 
@@ -216,7 +218,7 @@ one-byte-more-refused = refl
 
 -- a split at depth 63 is allowed, at depth 64 it is 32, and 31 comes first
 abbrev split-one : Line
-split-one = ended (numbers split-key (1 ∷ 1 ∷ []))
+split-one = ended (plain-line split-key (1 ∷ 1 ∷ []))
 
 abbrev none-yet : Figures
 none-yet = by-writer 3
@@ -244,5 +246,5 @@ pub specimen-price : tree-read problem (render 3 lone-price) ≡ Accepted 3 (Num
 unfolding tree-read read-as
 specimen-price = ap read-as lone-price-accepted
 
-pub specimen-short : tree-read problem lone-short ≡ Refused (at-line 33 3)
+pub specimen-short : tree-read problem lone-short ≡ Refused (line-refusal 33 3)
 specimen-short = read-refused problem lone-short 33 3 .1 (refused-is-first problem lone-short 33 3 .0 lone-short-refused)

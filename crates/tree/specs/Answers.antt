@@ -1,17 +1,15 @@
 -- What document 01 says of a tree's text as a whole: when it is accepted, apart from any reader, and when a number refuses it.
 use mathlib.Core.Path.{_≡_}
-use mathlib.Core.List.{List, _++_}
-use Prim.Native.Nat.{ℕ, _+_}
-use lib.ListN.{length}
+use mathlib.Core.List.{List}
+use Prim.Native.Nat.{ℕ}
 use Rattle.model.specs.Instance.{Instance}
 use Rattle.model.specs.Ranges.{GoodWriter}
 use Rattle.model.specs.Above.{root}
 use Rattle.model.specs.Tree.{Tree, Limits, Holds, bound, splits, leaves}
-use Rattle.text.specs.Lines.{Line, due, later, linesOf}
-use Rattle.text.specs.Course.{Good}
+use Rattle.text.specs.Lines.{later, linesOf}
+use Rattle.text.specs.Tests as lines
 use Rattle.tree.specs.Rendering.{render}
-use Rattle.tree.specs.Tests.{First}
-use Rattle.tree.specs.Due.{Figures, Due, writer-due, tests, judge, end}
+use Rattle.tree.specs.Due.{Figures, writer-due, tests, next, end}
 
 -- what a tree by the writer w gives
 abbrev pub figures-of : Instance → ℕ → Tree → Figures
@@ -26,13 +24,7 @@ pub record Accepted (P : Instance) (text : List ℕ) (F : Figures) : Type 0 wher
   pub holds : Holds P root tree
   pub figures : F ≡ figures-of P (F .writer) tree
 
--- of a text whose first line is kind=tree: each line after that and before line m is good at its place, and n is the first
--- number whose test holds of line m, which may be missing
-pub record Refused (P : Instance) (text : List ℕ) (n m : ℕ) : Type 0 where
-  pub before : List Line
-  pub after : List Line
-  pub place-due : Due
-  pub lines : later (linesOf text) ≡ before ++ after
-  pub good-before : Good (judge P) end writer-due before place-due
-  pub place : m ≡ 2 + length before
-  pub first : First n (tests P place-due (due after))
+-- of a text whose first line is kind=tree: no test holds of a line before line m, and n is the first number of 12, 14, 13, 31 to 35
+-- whose test holds of line m
+abbrev pub Refused : Instance → List ℕ → ℕ → ℕ → Type 0
+Refused P text n m = lines.RefusedAt (tests P) (next P) end n m 2 writer-due (later (linesOf text))

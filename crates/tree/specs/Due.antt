@@ -1,6 +1,6 @@
 -- Document 01, Texts: which line of a tree's text is due after which. Units and periods count from 0.
 use mathlib.Core.Path.{_≡_}
-use mathlib.Core.Bool.{Bool, true, false, not}
+use mathlib.Core.Bool.{true, false}
 use mathlib.Core.List.{List, [], _∷_}
 use mathlib.Core.Option.{Option, none, some}
 use Prim.Native.Nat.{ℕ, suc}
@@ -8,11 +8,13 @@ use Rattle.model.specs.Instance.{Instance, _at_}
 use Rattle.model.specs.Above.{Above, root, fix}
 use Rattle.model.specs.Leaf.{leaf-value}
 use Rattle.model.specs.Tree.{Bound, never, number, lower}
-use Rattle.text.specs.Lines.{Line, missing, unended, ended, later, linesOf, lineAt, isLine, kindOf, endTree}
+use Rattle.text.specs.Lines.{Line, later, linesOf, lineAt, kindOf, endTree}
+use Rattle.text.specs.Forms.{numbers-of, form-tests, word-tests, nothing-tests}
+use Rattle.text.specs.Writer.{writer-form}
 use Rattle.text.specs.declared.Kind.the-variants as kind
 use Rattle.text.specs.Course.{Found, Judged, judged-from}
-use Rattle.tree.specs.Tests.{Test, _if_, found}
-use Rattle.tree.specs.NodeLines.{Kind, split-line, short-line, stuck-line, price-line, kind-of, node-form, writer-form, reserve-form, numbers-of, named, form-tests, node-tests, reserve-tests}
+use Rattle.text.specs.Tests.{Test, found}
+use Rattle.tree.specs.NodeLines.{Kind, split-line, short-line, stuck-line, price-line, kind-of, node-form, reserve-form, named, node-tests, reserve-tests}
 
 -- what the lines read so far give: the writer, the smallest price leaf's value, the split lines and the leaves
 pub record Figures : Type 0 where
@@ -47,18 +49,13 @@ pub data Due : Type 0 where
   reserve-due : Figures → Above → List ℕ → List Pending → Due
   nothing-due : Figures → Due
 
-abbrev pub is-there : Line → Bool
-is-there missing = false
-is-there (unended b) = true
-is-there (ended b) = true
-
--- the numbers that may refuse the line at its place, in order
+-- document 01, Numbers that come from the text: the tests of a line at its place
 unfoldable pub tests : Instance → Due → Line → List Test
 tests P writer-due l = form-tests writer-form l []
-tests P (nodes-due F []) l = 12 if not (isLine endTree l) ∷ []
+tests P (nodes-due F []) l = word-tests endTree l
 tests P (nodes-due F (p ∷ ps)) l = node-tests P (p .above) (p .depth) (kind-of l) l
 tests P (reserve-due F A q ps) l = reserve-tests P A l
-tests P (nothing-due F) l = 12 if is-there l ∷ []
+tests P (nothing-due F) l = nothing-tests
 
 -- what is due after a good node line: the two trees of a split, the first with the unit off; a price leaf's reserve line
 unfoldable pub after-node : Instance → Figures → Pending → List Pending → Kind → Line → Due
@@ -79,7 +76,7 @@ next P (reserve-due F A q ps) l =
     nodes-due (with-leaf F (number (leaf-value P (A .marks) (λ t. q at t) (λ t. numbers-of (reserve-form P) l at t)))) ps
 next P (nothing-due F) l = nothing-due F
 
--- the line at its place
+-- refused by the first of them that holds, or good, with what is due then
 unfoldable pub judge : Instance → Due → Line → Found Due
 judge P s l = found (tests P s l) (next P s l)
 

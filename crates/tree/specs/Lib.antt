@@ -1,6 +1,5 @@
 -- What document 01 says of a tree's text.
 pub mod Rendering
-pub mod Tests
 pub mod NodeLines
 pub mod Due
 pub mod Answers

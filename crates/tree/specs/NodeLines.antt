@@ -1,5 +1,4 @@
 -- Document 01, Numbers that come from the text: the tests of one line of a tree by what stands above it.
-use mathlib.Core.Path.{_≡_}
 use mathlib.Core.Bool.{Bool, true, false, not, cond}
 use mathlib.Core.List.{List, [], _∷_}
 use Prim.Native.Nat.{ℕ, _+_, pred}
@@ -9,9 +8,9 @@ use Rattle.model.specs.Instance.{Instance, _at_}
 use Rattle.model.specs.Above.{Mark, free, fixed, Above}
 use Rattle.model.specs.Leaf.{available, stuck-at, any-stuck}
 use Rattle.text.specs.Lines.{Line, bytesOf, begins}
-use Rattle.text.specs.Forms.{Form, form, plain, valuesOf, sizes, malformed, wrongCount, outOfRange}
-use Rattle.tree.specs.Rendering.{writer-key, split-key, short-key, stuck-key, price-key, reserve-key}
-use Rattle.tree.specs.Tests.{Test, _if_}
+use Rattle.text.specs.Forms.{Form, form, plain, numbers-of, form-tests}
+use Rattle.text.specs.Tests.{Test, _if_}
+use Rattle.tree.specs.Rendering.{split-key, short-key, stuck-key, price-key, reserve-key}
 
 -- ---- what a line is due to be
 
@@ -34,15 +33,8 @@ node-form P short-line = plain short-key 1 1 (P .periods)
 node-form P stuck-line = plain stuck-key 1 1 (length (P .units))
 node-form P price-line = plain price-key (P .periods) 0 1000000000
 
-abbrev pub writer-form : Form
-writer-form = plain writer-key 1 1 65535
-
 abbrev pub reserve-form : Instance → Form
 reserve-form P = plain reserve-key (P .periods) 0 1000000000
-
--- the numbers of a line
-abbrev pub numbers-of : Form → Line → List ℕ
-numbers-of f l = sizes (valuesOf f l)
 
 -- a unit or a period that a line names, from 0
 abbrev pub named : Form → Line → ℕ → ℕ
@@ -85,14 +77,6 @@ not-stuck P A stuck-line l = not (stuck-at (P .periods) (P .units) (A .marks) (n
 not-stuck P A price-line l = false
 
 -- ---- the order of the numbers (document 01, Numbers that come from the docket)
-
--- 12, 14, 13, and then others
-abbrev pub form-tests : Form → Line → List Test → List Test
-form-tests f l ts = 12 if malformed f l ∷ 14 if wrongCount f l ∷ 13 if outOfRange f l ∷ ts
-
--- none of 12, 14, 13 holds
-abbrev pub Passes : Form → Line → Type 0
-Passes f l = (malformed f l ≡ false) × (wrongCount f l ≡ false) × (outOfRange f l ≡ false)
 
 -- a node line
 abbrev pub node-tests : Instance → Above → ℕ → Kind → Line → List Test

@@ -1,16 +1,17 @@
 -- What the readers of a tree ensure: to read a node is to go through the lines of Due as far as its last line.
 use mathlib.Core.Path.{_≡_}
-use mathlib.Core.Bool.{Bool, true, false}
+use mathlib.Core.Bool.{true, false}
 use mathlib.Core.List.{List, _∷_}
 use Prim.Native.Nat.{ℕ, suc, _+_, _≤_, _<_}
-use lib.Dec.{eqb}
 use lib.ListN.{length, drop}
 use Rattle.model.specs.Instance.{Instance}
 use Rattle.model.specs.Above.{Above, fix}
 use Rattle.model.specs.Tree.{Bound, never, number}
-use Rattle.text.specs.Lines.{Line, later, linesOf, lineAt, isLine, endTree}
+use Rattle.text.specs.Lines.{Line, later, linesOf, lineAt, endTree}
+use Rattle.text.specs.Forms as forms
 use Rattle.text.specs.Forms.{Form, plain}
 use Rattle.text.specs.Course.{refused, good, Judged, refused-at, accepted, judged-from}
+use Rattle.text.specs.Ends.{endOf, endedBy}
 use Rattle.refusal.specs.Refusals.{refusalOf}
 use Rattle.tree.specs.declared.figures.Tally.{Tally}
 use Rattle.tree.specs.declared.figures.Bound as code
@@ -23,8 +24,7 @@ use Rattle.tree.specs.declared.splitting.SplitLine.{SplitLine}
 use Rattle.tree.specs.declared.splitting.SplitLine.the-variants as split
 use Rattle.tree.specs.declared.TreeRead.{TreeRead}
 use Rattle.tree.specs.declared.TreeRead.the-variants as answer
-use Rattle.tree.specs.Tests.{Test, found}
-use Rattle.tree.specs.NodeLines.{named, form-tests, Passes}
+use Rattle.tree.specs.NodeLines.{named}
 use Rattle.tree.specs.Due.{Figures, with-split, Pending, pending, Due, nodes-due, reserve-due, judge, end, judged}
 use Rattle.tree.specs.Coded.{figures}
 
@@ -101,14 +101,14 @@ pub record Moved (text : List ℕ) (at next : ℕ) : Type 0 where
 
 -- ---- a line of numbers, and one that names a unit or a period
 
--- the first of 12, 14, 13 that holds of the line is n
+-- the first of 12, 14, 13 whose test holds of the line is n
 abbrev pub LineRefused : Form → Line → ℕ → Type 0
-LineRefused f l n = (s : Due) (ts : List Test) → found (form-tests f l ts) s ≡ refused n
+LineRefused f l n = (forms.good f l ≡ false) × (forms.refusedBy f l ≡ n)
 
 abbrev pub NamedRead : List ℕ → ℕ → List ℕ → ℕ → NamedLine → Type 0
 NamedRead key most text at (name.Refused n) = LineRefused (plain key 1 1 most) (lineAt text at) n
 NamedRead key most text at (name.Names i next) =
-    Passes (plain key 1 1 most) (lineAt text at) × (i ≡ named (plain key 1 1 most) (lineAt text at) 0) × (i < most) × Moved text at next
+    (forms.good (plain key 1 1 most) (lineAt text at) ≡ true) × (i ≡ named (plain key 1 1 most) (lineAt text at) 0) × (i < most) × Moved text at next
 
 -- ---- a split line
 
@@ -122,14 +122,7 @@ SplitRead P text at A d (split.On U t next) =
 
 -- ---- the end line
 
-abbrev pub pickRead : Bool → TreeRead → TreeRead → TreeRead
-pickRead true a b = a
-pickRead false a b = b
-
 -- after the tree the end line, and then nothing
 unfoldable pub ended-as : List ℕ → ℕ → Read → TreeRead
 ended-as text w (Refused n l) = answer.Refused (refusalOf n l 0 0)
-ended-as text w (Tree next l S) =
-    pickRead (isLine endTree (lineAt text next))
-    (pickRead (eqb (next + 9) (length text)) (answer.Accepted w (S .bound) (S .splits) (S .leaves)) (answer.Refused (refusalOf 12 (l + 1) 0 0)))
-    (answer.Refused (refusalOf 12 l 0 0))
+ended-as text w (Tree next l S) = read-as (endedBy l (figures w S) (endOf endTree (linesOf (drop next text))))

@@ -18,7 +18,7 @@ pub struct Tally {
 }
 
 // The smaller of two bounds, never being above every number.
-pub fn lower_bound(a: Bound, b: Bound) -> Bound
+fn lower_bound(a: Bound, b: Bound) -> Bound
     ensures { λ r. ⌜ bound-of r ≡ lower (bound-of a) (bound-of b) ⌝ }
 {
     match a {

@@ -13,6 +13,7 @@ use crate::node::read_node;
 use model::arrays::Problem;
 use model::ranges::Writer;
 use refusal::Refusal;
+use text::End;
 use text::Verdict;
 
 mod above;
@@ -24,9 +25,6 @@ mod splitting;
 
 // Where the second line starts: after kind=tree and its byte 10.
 const SECOND_LINE: usize = 10;
-
-// The length of end=tree with its byte 10.
-const END_LENGTH: usize = 9;
 
 // What a tree's text is found to be.
 pub enum TreeRead {
@@ -47,21 +45,22 @@ fn read_end(text: &[u8], writer: u64, read: Read) -> TreeRead
     match read {
         Read::Refused { number, line } => TreeRead::Refused(refusal::refuse(number, line, 0, 0)),
         Read::Tree { next, line, tally } => {
-            if text::is_line(text, next, b"end=tree") {
-                if next + END_LENGTH == text.len() {
+            let end = text::read_end(text, next, b"end=tree");
+            match end {
+                End::Missing => TreeRead::Refused(refusal::refuse(12, line, 0, 0)),
+                End::Followed => TreeRead::Refused(refusal::refuse(12, line + 1, 0, 0)),
+                End::Last => {
                     let bound = tally.bound;
                     let splits = tally.splits;
                     let leaves = tally.leaves;
-                    return TreeRead::Accepted {
+                    TreeRead::Accepted {
                         writer,
                         bound,
                         splits,
                         leaves,
-                    };
+                    }
                 }
-                return TreeRead::Refused(refusal::refuse(12, line + 1, 0, 0));
             }
-            TreeRead::Refused(refusal::refuse(12, line, 0, 0))
         }
     }
 }

@@ -1,20 +1,15 @@
 -- Lines of document 01's report, by computation.
 use mathlib.Core.Path.{_≡_, refl}
 use mathlib.Core.List.{[], _∷_}
-use lib.IntN.{pos, negsuc}
+use lib.IntN.{pos}
 use Rattle.decimal.specs.Decimal.{digits, digitsBy}
-use Rattle.writer.specs.Written.{over, figure, figureOf, shown, line, none}
-use Rattle.writer.specs.declared.Figure.the-variants.{Missing, Number, Minus}
+use Rattle.writer.specs.Written.{over, figure, figureOf, line}
+use Rattle.writer.specs.declared.Figure.the-variants.{Missing, Number}
 
 -- gap=0
 gap : line (103 ∷ 97 ∷ 112 ∷ 61 ∷ []) (figureOf (pos 0)) ≡ 103 ∷ 97 ∷ 112 ∷ 61 ∷ 48 ∷ 10 ∷ []
 unfolding figure figureOf digits digitsBy
 gap = refl
-
--- -30
-negative : shown (negsuc 29) ≡ 45 ∷ 51 ∷ 48 ∷ []
-unfolding shown digits digitsBy
-negative = refl
 
 -- cost=none
 no-cost : line (99 ∷ 111 ∷ 115 ∷ 116 ∷ 61 ∷ []) Missing ≡ 99 ∷ 111 ∷ 115 ∷ 116 ∷ 61 ∷ 110 ∷ 111 ∷ 110 ∷ 101 ∷ 10 ∷ []

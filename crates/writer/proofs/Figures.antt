@@ -5,8 +5,8 @@ use mathlib.Core.Path.{_≡_, refl, ap}
 use mathlib.Core.List.{List, [], _∷_, _++_}
 use lib.ListN.{length, length-append}
 use lib.IntN.{ℤ, pos, negsuc}
-use Rattle.decimal.specs.Decimal.{digits}
-use Rattle.writer.specs.Written.{none, never, figure, figureOf, shown, line}
+use Rattle.decimal.specs.Decimal.{digits, shown-whole}
+use Rattle.writer.specs.Written.{none, never, figure, figureOf, line}
 use Rattle.writer.specs.declared.Figure.{Figure}
 use Rattle.writer.specs.declared.Figure.the-variants.{Missing, Never, Number, Minus}
 
@@ -28,8 +28,8 @@ module _ (f : Figure) where
   is-minus n e = ap figure e
 
 -- the figure of a whole number shows it
-pub figure-shown : (z : ℤ) → figure (figureOf z) ≡ shown z
-unfolding figure figureOf shown
+pub figure-shown : (z : ℤ) → figure (figureOf z) ≡ shown-whole z
+unfolding figure figureOf
 figure-shown (pos n) = refl
 figure-shown (negsuc n) = refl
 

@@ -16,7 +16,7 @@ use Rattle.text.specs.Rendering.{rendered}
 use Rattle.text.specs.declared.Row.{Row}
 use Rattle.text.specs.declared.Verdict.the-variants.{Good}
 use Rattle.text.proofs.Accepted.{rendered-read, rendered-cut, renderedLine}
-use Rattle.text.proofs.Plain.{Between, plain-fits}
+use Rattle.text.proofs.Plain.{plain-fits, one-between}
 use Rattle.writer.specs.Written.{over, figure, line}
 use Rattle.writer.specs.declared.Figure.the-variants.{Number, Minus}
 
@@ -38,9 +38,6 @@ line-number key n = sym (append-assoc key (digits n) (10 ∷ []))
 pub line-minus : (key : List ℕ) (n : ℕ) → line key (Minus n) ≡ rendered key 1 true (n ∷ []) ++ (10 ∷ [])
 unfolding figure
 line-minus key n = sym (append-assoc key (45 ∷ digits n) (10 ∷ []))
-
-one-between : (lo hi n : ℕ) → lo ≤ n → n ≤ hi → Between lo hi (n ∷ [])
-one-between lo hi n h k i e = let z : i ≡ 0 = omega arith in rw z (h, k)
 
 -- the line of n over a buffer is read as n
 pub line-back : (key : List ℕ) (n lo hi : ℕ) (b : List ℕ) → oneLine key ≡ true → lo ≤ n → n ≤ hi

@@ -29,12 +29,7 @@ figure Never = never
 figure (Number n) = digits n
 figure (Minus n) = 45 ∷ digits n
 
--- a whole number as it is shown: negsuc n is -(n + 1)
-unfoldable pub shown : ℤ → List ℕ
-shown (pos n) = digits n
-shown (negsuc n) = 45 ∷ digits (suc n)
-
--- the figure that shows it
+-- the figure that shows a whole number
 unfoldable pub figureOf : ℤ → Figure
 figureOf (pos n) = Number n
 figureOf (negsuc n) = Minus (suc n)

@@ -1,73 +1,74 @@
 use Prim.Native.Nat.{_+_}
-use native.Mathlib.Omega.{arith}
 use mathlib.Core.Path.{sym, _∙_}
 use borrow.Author.Needs.{needs}
 use Rattle.model.specs.Held.{view}
-use Rattle.text.specs.Lines.{endSchedule}
-use Rattle.schedule.proofs.Texts.{word-within}
-use Rattle.schedule.proofs.Ends.{text-ends, text-goes-on, end-missing}
+use Rattle.text.specs.declared.End.the-variants.{Missing, Followed, Last}
+use Rattle.schedule.proofs.Ends.{end-read}
 use Rattle.schedule.proofs.read_from_end.Statement.{statement}
 use Rattle.schedule.proofs.read_from_end.Tie as tie
 
 add-line : tie.Need-add-line
 add-line c = search needs
 
-slice-aggregate-is-line : tie.Need-slice-aggregate-is-line
-slice-aggregate-is-line c = search needs
+slice-aggregate-read-end : tie.Need-slice-aggregate-read-end
+slice-aggregate-read-end c = search needs
 
-is-line-requires : tie.Need-is-line-requires
-is-line-requires c κs = search needs
+read-end-requires : tie.Need-read-end-requires
+read-end-requires c κs = search needs
 
-add-next : tie.Need-add-next
-add-next c =
-    let s = c .before .before .before .before .before in
-    omega (arith, s .good, word-within endSchedule (s .args .text .now) (s .args .at) (sym (c .before .is-line .ensures) ∙ c .if1 .taken))
-
-add-refuse-text : tie.Need-add-refuse-text
-add-refuse-text c = search needs
+enum-told : tie.Need-enum-told
+enum-told c = search needs
 
 refuse-text-requires : tie.Need-refuse-text-requires
 refuse-text-requires c κs = search needs
 
-returns : tie.Need-returns
-returns c =
-    let a = c .before .before .before .before .before .before .before .args in
-    let there = sym (c .before .before .before .is-line .ensures) ∙ c .before .before .if1 .taken in
-    c .refuse-text .ensures
-    ∙ sym (text-goes-on (view (a .problem)) (a .text .now) (a .at) (a .problem .units + 3) _ there (c .before .if2 .taken))
+enum-told-2 : tie.Need-enum-told-2
+enum-told-2 c = search needs
 
-judge-rows-requires : tie.Need-judge-rows-requires
-judge-rows-requires c κs = search needs
-
-returns-2 : tie.Need-returns-2
-returns-2 c =
-    let a = c .before .before .before .before .before .before .before .args in
-    let there = sym (c .before .before .before .is-line .ensures) ∙ c .before .before .if1 .taken in
-    c .judge-rows .ensures
-    ∙ sym (text-ends (view (a .problem)) (a .text .now) (a .at) (a .problem .units + 3) _ there (c .before .if2 .left))
+add-refuse-text : tie.Need-add-refuse-text
+add-refuse-text c = search needs
 
 refuse-text-requires-2 : tie.Need-refuse-text-requires-2
 refuse-text-requires-2 c κs = search needs
 
+enum-told-3 : tie.Need-enum-told-3
+enum-told-3 c = search needs
+
+judge-rows-requires : tie.Need-judge-rows-requires
+judge-rows-requires c κs = search needs
+
+returns : tie.Need-returns
+returns c =
+    let a = c .before .before .before .before .before .before .before .args in
+    let e = sym (c .before .enum-told .given .1) ∙ c .before .before .before .read-end .ensures in
+    c .refuse-text .ensures ∙ end-read (view (a .problem)) _ (a .text .now) (a .at) (a .problem .units + 3) Missing e
+
+returns-2 : tie.Need-returns-2
+returns-2 c =
+    let a = c .before .before .before .before .before .before .before .args in
+    let e = sym (c .before .enum-told2 .given .1) ∙ c .before .before .before .read-end .ensures in
+    c .refuse-text2 .ensures ∙ end-read (view (a .problem)) _ (a .text .now) (a .at) (a .problem .units + 3) Followed e
+
 returns-3 : tie.Need-returns-3
 returns-3 c =
-    let a = c .before .before .before .before .before .before .args in
-    let missing = sym (c .before .before .is-line .ensures) ∙ c .before .if1 .left in
-    c .refuse-text2 .ensures
-    ∙ sym (end-missing (view (a .problem)) (a .text .now) (a .at) (a .problem .units + 3) _ missing)
+    let a = c .before .before .before .before .before .before .before .args in
+    let e = sym (c .before .enum-told3 .given .1) ∙ c .before .before .before .read-end .ensures in
+    c .judge-rows .ensures ∙ end-read (view (a .problem)) _ (a .text .now) (a .at) (a .problem .units + 3) Last e
 
 pub read-from-end-spec : {M : Type 1} → statement M
 read-from-end-spec =
     tie.close
     (tie.spec
     add-line
-    slice-aggregate-is-line
-    is-line-requires
-    add-next
-    add-refuse-text
+    slice-aggregate-read-end
+    read-end-requires
+    enum-told
     refuse-text-requires
-    returns
-    judge-rows-requires
-    returns-2
+    enum-told-2
+    add-refuse-text
     refuse-text-requires-2
+    enum-told-3
+    judge-rows-requires
+    returns
+    returns-2
     returns-3)

@@ -7,11 +7,12 @@ use borrow.Author.Needs.{needs}
 use Rattle.model.specs.Held.{view}
 use Rattle.text.specs.Lines.{lineAt}
 use Rattle.text.specs.Forms.{rowOf}
+use Rattle.text.proofs.Verdicts.{verdict-refused}
+use Rattle.text.proofs.PlainRows.{PlainRow, plain-row}
 use Rattle.schedule.specs.Rendering.{run-key}
 use Rattle.schedule.specs.Course.{written, runs-due, run-form}
 use Rattle.schedule.specs.Storing.{read-from}
-use Rattle.schedule.proofs.RowsRead.{RowGood, row-good, row-refused}
-use Rattle.schedule.proofs.Runs.{rows-fit, Reading, reading-none, reading-done, reading-filled, reading-stopped, reading-more}
+use Rattle.schedule.proofs.Runs.{outputs-in, rows-fit, Reading, reading-none, reading-done, reading-filled, reading-stopped, reading-more}
 use Rattle.schedule.proofs.read_from_runs.Statement.{statement}
 use Rattle.schedule.proofs.read_from_runs.Tie as tie
 
@@ -55,7 +56,7 @@ unfolding view
 returns c =
     c .refuse-text .ensures
     ∙ sym (reading-stopped (c .before .before .before .before .before .before .before .loop .inv) refl (c .before .before .before .before .before .before .loop-test .taken)
-    (row-refused (run-row (c .before .before .before .before)) (c .before .before .verdict .given .1)))
+    (verdict-refused _ _ _ _ (run-row (c .before .before .before .before)) _ (c .before .before .verdict .given .1)))
 
 enum-known-verdict-2 : tie.Need-enum-known-verdict-2 Inv-loop μ-loop
 enum-known-verdict-2 c = search needs
@@ -64,8 +65,8 @@ enum-known-verdict-2 c = search needs
 good-row : (c : tie.After-values Inv-loop μ-loop) →
     let a = c .before .before .before .before .before .before .before .before .before .args in
     let i = c .before .before .before .before .before .before .before .loop .i in
-    RowGood run-key (a .problem .periods) 0 10000 (lineAt (a .text .now) i) i (c .before .before .before .before .read-row .result) (c .before .before .verdict2 .given .0 .0)
-good-row c = row-good (run-row (c .before .before .before .before)) (c .before .before .verdict2 .given .1)
+    PlainRow run-key (a .problem .periods) 0 10000 (lineAt (a .text .now) i) i (c .before .before .verdict2 .given .0 .0) (c .before .before .before .before .read-row .result)
+good-row c = plain-row _ _ _ _ _ _ _ _ (run-row (c .before .before .before .before)) (c .before .before .verdict2 .given .1)
 
 -- there is room for it
 room : (c : tie.After-values Inv-loop μ-loop) →
@@ -84,7 +85,7 @@ store-row-requires : tie.Need-store-row-requires Inv-loop μ-loop
 unfolding view
 store-row-requires c κs =
     let s = c .before .before .before .before .before .before .before .before .before in
-    (s .pre .well-formed .periods-in .1, (omega (arith, room c, s .pre .units-fit, s .pre .well-formed .periods-in .1), good-row c .in-range))
+    (s .pre .well-formed .periods-in .1, (omega (arith, room c, s .pre .units-fit, s .pre .well-formed .periods-in .1), outputs-in (good-row c)))
 
 add-k : tie.Need-add-k Inv-loop μ-loop
 add-k c = search needs

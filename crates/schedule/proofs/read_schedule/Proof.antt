@@ -1,11 +1,12 @@
-use mathlib.Core.Path.{_≡_, sym, ap, _∙_}
+use mathlib.Core.Path.{_≡_, sym, _∙_}
 use lib.ListN.{length, length-map}
 use borrow.Author.Needs.{needs}
 use Rattle.model.specs.Held.{view}
 use Rattle.text.specs.Lines.{lineAt}
 use Rattle.text.specs.Forms.{rowOf}
-use Rattle.schedule.specs.Course.{writer-form}
-use Rattle.schedule.proofs.RowsRead.{row-good, row-refused}
+use Rattle.text.specs.Writer.{writer-key, writer-form}
+use Rattle.text.proofs.Verdicts.{verdict-refused}
+use Rattle.text.proofs.PlainRows.{plain-row}
 use Rattle.schedule.proofs.Opening.{opening-stopped, opening-passed}
 use Rattle.schedule.proofs.read_schedule.Statement.{statement}
 use Rattle.schedule.proofs.read_schedule.Tie as tie
@@ -46,14 +47,14 @@ returns c =
     let s = c .before .before .before .before .before .before .before in
     c .refuse-text .ensures
     ∙ sym (opening-stopped (view (s .args .problem)) (s .args .text .now) (s .pre .1)
-    (row-refused (writer-row (c .before .before .before .before)) (c .before .before .verdict .given .1)))
+    (verdict-refused _ _ _ _ (writer-row (c .before .before .before .before)) _ (c .before .before .verdict .given .1)))
 
 returns-2 : tie.Need-returns-2
 returns-2 c =
     let s = c .before .before .before .before .before .before .before .before in
     c .read-from-runs .ensures
     ∙ sym (opening-passed (s .args .problem) (s .pre .0) (many s) (s .args .text .now) (s .pre .1)
-    (row-good (writer-row (c .before .before .before .before .before)) (c .before .before .before .verdict2 .given .1)))
+    (plain-row writer-key 1 1 65535 _ _ _ _ (writer-row (c .before .before .before .before .before)) (c .before .before .before .verdict2 .given .1)))
 
 pub read-schedule-spec : {M : Type 1} → statement M
 read-schedule-spec =

@@ -2,7 +2,7 @@
 use borrow.Author.Needs.{needs}
 use native.Mathlib.Omega.{arith}
 use Rattle.text.specs.Forms.{plain}
-use Rattle.tree.proofs.Rows.{row-refused, row-passes, row-moved, OneValue, one-value}
+use Rattle.tree.proofs.Rows.{row-refused, row-good, row-moved, OneValue, one-value}
 use Rattle.tree.proofs.naming.read_named.Statement.{statement}
 use Rattle.tree.proofs.naming.read_named.Tie as tie
 
@@ -44,7 +44,7 @@ returns-2 c =
     let v = c .before .before .verdict2 .given in
     let f = plain (a .key .now) 1 1 (a .most) in
     let w = value c in (
-      row-passes f (a .text .now) (a .at) (r .read-row .result) (r .read-row .ensures) (v .0 .0) (v .1),
+      row-good f (a .text .now) (a .at) (r .read-row .result) (r .read-row .ensures) (v .0 .0) (v .1),
       w .is-named,
       omega (arith, w .low, w .high),
       row-moved f (a .text .now) (a .at) (r .read-row .result) (r .read-row .ensures) (v .0 .0) (v .1),

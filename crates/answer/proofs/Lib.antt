@@ -1,0 +1,4 @@
+pub mod Examples
+pub mod InTurn
+pub mod Cases
+pub mod Widths

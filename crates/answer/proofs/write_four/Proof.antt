@@ -1,0 +1,74 @@
+-- `write_four` meets its contract: a value, then the three after it.
+use borrow.Author.Needs.{needs}
+use native.Mathlib.Omega.{arith}
+use mathlib.Core.List.{[], _∷_}
+use Rattle.writer.specs.Written.{figure}
+use Rattle.answer.specs.AnswerLines.{ending}
+use Rattle.answer.proofs.InTurn.{first-fits, place-fits, second-fits, both-many, both-written}
+use Rattle.answer.proofs.write_four.Statement.{statement}
+use Rattle.answer.proofs.write_four.Tie as tie
+
+write-value-requires : tie.Need-write-value-requires
+write-value-requires c κs =
+    let st = c .before .before in
+    let a = st .args in
+    first-fits (44 ∷ figure (a .f)) (ending (a .g ∷ a .h ∷ a .i ∷ [])) (a .buf .now) (st .pre)
+
+sub-write-three : tie.Need-sub-write-three
+sub-write-three c =
+    let st = c .before .before .before .before .before in
+    let a = st .args in
+    let v = c .before .before .write-value in
+    place-fits (44 ∷ figure (a .f)) (ending (a .g ∷ a .h ∷ a .i ∷ [])) (a .buf .now) (st .pre) (v .last .0) (v .result) (v .ensures .0) (v .ensures .1)
+
+part-write-three-start : tie.Need-part-write-three-start
+part-write-three-start c =
+    let st = c .before .before .before .before .before in
+    let a = st .args in
+    let v = c .before .before .write-value in
+    place-fits (44 ∷ figure (a .f)) (ending (a .g ∷ a .h ∷ a .i ∷ [])) (a .buf .now) (st .pre) (v .last .0) (v .result) (v .ensures .0) (v .ensures .1)
+
+part-write-three-end : tie.Need-part-write-three-end
+part-write-three-end c = search needs
+
+write-three-requires : tie.Need-write-three-requires
+write-three-requires c κs =
+    let st = c .before .before .before .before .before .before in
+    let a = st .args in
+    let v = c .before .before .before .write-value in
+    second-fits (44 ∷ figure (a .f)) (ending (a .g ∷ a .h ∷ a .i ∷ [])) (a .buf .now) (st .pre) (v .last .0) (v .result) (v .ensures .0) (v .ensures .1)
+
+add-result : tie.Need-add-result
+add-result c =
+    let st = c .before .before .before .before .before .before .before .before .before in
+    let a = st .args in
+    let v = c .before .before .before .before .before .before .write-value in
+    let o = c .before .before .write-three in
+    let n = both-many (44 ∷ figure (a .f)) (ending (a .g ∷ a .h ∷ a .i ∷ [])) (a .buf .now) (st .pre) (v .last .0) (v .result) (v .ensures .0) (v .ensures .1) (o .last .0) (o .result) (o .ensures .0) in
+    omega (arith, n, st .pre, st .good)
+
+same-length : tie.Need-same-length
+same-length c = search needs
+
+returns : tie.Need-returns
+returns c =
+    let st = c .before .before .before .before .before .before .before .before .before in
+    let a = st .args in
+    let v = c .before .before .before .before .before .before .write-value in
+    let o = c .before .before .write-three in (
+      both-many (44 ∷ figure (a .f)) (ending (a .g ∷ a .h ∷ a .i ∷ [])) (a .buf .now) (st .pre) (v .last .0) (v .result) (v .ensures .0) (v .ensures .1) (o .last .0) (o .result) (o .ensures .0),
+      both-written (44 ∷ figure (a .f)) (ending (a .g ∷ a .h ∷ a .i ∷ [])) (a .buf .now) (st .pre) (v .last .0) (v .result) (v .ensures .0) (v .ensures .1) (o .last .0) (o .result) (o .ensures .0) (o .ensures .1),
+    )
+
+pub write-four-spec : {M : Type 1} → statement M
+write-four-spec =
+    tie.close
+    (tie.spec
+    write-value-requires
+    sub-write-three
+    part-write-three-start
+    part-write-three-end
+    write-three-requires
+    add-result
+    same-length
+    returns)

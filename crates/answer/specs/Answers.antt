@@ -1,0 +1,38 @@
+-- Document 01, The listing program: the number and the values that each case of an answer stands for.
+use mathlib.Core.Path.{_≡_}
+use Prim.Native.Nat.{ℕ}
+use Rattle.model.specs.Tree.{Bound}
+use Rattle.tree.specs.Coded.{bound-of}
+use Rattle.answer.specs.declared.Answer.{Answer}
+use Rattle.answer.specs.declared.Answer.the-variants.{Refused, ProblemHeld, ScheduleHeld, SchedulePassed, TreeHeld, TreePassed}
+use Rattle.answer.specs.declared.TreeFigures.{TreeFigures}
+
+-- what follows `held` or `passed`: nothing for a problem, a schedule's cost, a tree's bound, splits and leaves
+pub data Values : Type 0 where
+  no-values : Values
+  its-cost : ℕ → Values
+  its-bound : Bound → (splits leaves : ℕ) → Values
+
+-- the four numbers of a refusal, or held or passed and the values
+pub data Stated : Type 0 where
+  refused : (number line unit period : ℕ) → Stated
+  held : Values → Stated
+  passed : Values → Stated
+
+abbrev pub tree-values : TreeFigures → Values
+tree-values f = its-bound (bound-of (f .bound)) (f .splits) (f .leaves)
+
+-- every case
+abbrev pub stated : Answer → Stated
+stated (Refused r) = refused (r .number) (r .line) (r .unit) (r .period)
+stated ProblemHeld = held no-values
+stated (ScheduleHeld c) = held (its-cost c)
+stated (SchedulePassed c) = passed (its-cost c)
+stated (TreeHeld f) = held (tree-values f)
+stated (TreePassed f) = passed (tree-values f)
+
+-- accepted, with these values: held or passed
+abbrev pub Carries : Stated → Values → Type 0
+Carries (refused n l u t) w = ⊥
+Carries (held v) w = v ≡ w
+Carries (passed v) w = v ≡ w

@@ -1,0 +1,116 @@
+-- A docket that keeps the last of equal schedules, or of equal trees, breaks demand 3, however it reports: the same text by another writer is passed.
+use mathlib.Core.Path.{_≡_, refl, sym, subst, _∙_}
+use mathlib.Core.Bool.{Bool, true, false, not}
+use Prim.Native.Nat.{ℕ}
+use native.Mathlib.Omega.{arith}
+use lib.Dec.{leb}
+use lib.IntN.{ℤ}
+use lib.Signed.{ltZ}
+use borrow.Author.Tests.{le-leb}
+use Rattle.model.specs.Held.{view}
+use Rattle.model.specs.Tree.{Bound, never, number}
+use Rattle.model.proofs.Integers.{ltZ→nat}
+use Rattle.tree.specs.Coded.{bound-of}
+use Rattle.tree.specs.Reading.{coded}
+use Rattle.docket.specs.declared.Docket.{Docket}
+use Rattle.docket.specs.declared.held.CostBy.{CostBy}
+use Rattle.docket.specs.declared.held.HeldCost.{HeldCost}
+use Rattle.docket.specs.declared.held.HeldCost.the-variants as held-cost
+use Rattle.docket.specs.declared.held.HeldBound.{HeldBound}
+use Rattle.docket.specs.declared.held.HeldBound.the-variants as held-bound
+use Rattle.answer.specs.declared.Answer.the-variants.{ScheduleHeld, SchedulePassed, TreeHeld, TreePassed}
+use Rattle.answer.specs.Answers.{its-cost, its-bound, Stated, stated, Carries}
+use Rattle.docket.specs.Verdicts.{Costed, Verdict, refused, problem, schedule, tree}
+use Rattle.docket.specs.Lodging.{pick, judged, lodged, with-schedule, with-bound, given-figures, is-less, is-higher}
+use Rattle.docket.specs.Demand3.{reached, Reporting, Writing, Demand3}
+use Rattle.docket.specs.WrongDockets.{IsHeld, IsBound}
+use Rattle.docket.specs.WrongHolding as wrong
+use Rattle.docket.proofs.WrongDockets as refuted
+
+-- ---- the last of the least
+
+-- what is told of a schedule, held or passed
+abbrev told : Docket → Costed → Bool → Stated
+told d s t = stated (pick t (lodged (with-schedule d s) (ScheduleHeld (s .cost))) (lodged d (SchedulePassed (s .cost))) .answer)
+
+no-bound-told : {A : Type 0} {c : ℕ} {b : Bound} {m n : ℕ} → its-bound b m n ≡ its-cost c → A
+no-bound-told e = absurd (let z : _≡_ {A = ℕ} 0 1 = cc in omega arith)
+
+module _ (d : Docket) (s : Costed) where
+  told-number : (n : ℕ) (t : Bool) → leb (s .cost) n ≡ t → Carries (told d s t) (its-cost n) → IsHeld (told d s t)
+  told-number n true p c = tt
+  told-number n false p c =
+      let q : s .cost ≡ n = cc in
+      let l : leb (s .cost) n ≡ true = le-leb (s .cost) n (omega arith) in
+      let z : _≡_ {A = ℕ} 0 1 = cc in
+      omega arith
+
+  told-held : (by : CostBy) (h : HeldCost) → h ≡ held-cost.Number by → Carries (told d s (wrong.not-more (s .cost) h)) (its-cost (by .cost))
+      → IsHeld (told d s (wrong.not-more (s .cost) h))
+  told-held by held-cost.Nothing e c = tt
+  told-held by (held-cost.Number n) e c =
+      let q : by .cost ≡ n .cost = cc in
+      told-number (n .cost) (leb (s .cost) (n .cost)) refl (subst (λ (x : ℕ). Carries (told d s (leb (s .cost) (n .cost))) (its-cost x)) q c)
+
+last-held : (d : Docket) (by : CostBy) (v : Verdict) → d .held .cost ≡ held-cost.Number by → Carries (stated (wrong.hold-last d v .answer)) (its-cost (by .cost))
+    → IsHeld (stated (wrong.hold-last d v .answer))
+last-held d by (refused r) e c = absurd c
+last-held d by (problem P) e c = tt
+last-held d by (schedule s) e c = told-held d s by (d .held .cost) e c
+last-held d by (tree F) e c = go (is-higher (F .bound) (d .held .bound)) c
+  where
+    go : (t : Bool) → Carries (stated (pick t (lodged (with-bound d F) (TreeHeld (given-figures F))) (lodged d (TreePassed (given-figures F))) .answer)) (its-cost (by .cost))
+        → IsHeld (stated (pick t (lodged (with-bound d F) (TreeHeld (given-figures F))) (lodged d (TreePassed (given-figures F))) .answer))
+    go true c = tt
+    go false c = no-bound-told c
+
+pub keeping-last-fails : {report : Reporting} {buffer : Writing} → Demand3 wrong.keeping-last report buffer → ⊥
+keeping-last-fails D = refuted.keeps-last wrong.keeping-last D (λ texts text by e c.
+    let d = reached wrong.keeping-last texts in
+    last-held d by (judged (d .known) (view (d .problem)) text) e c)
+
+-- ---- the last of the highest
+
+not-below-itself : (z : ℤ) → not (ltZ z z) ≡ true
+not-below-itself z = go (ltZ z z) refl
+  where
+    go : (t : Bool) → ltZ z z ≡ t → not t ≡ true
+    go true e = absurd (omega (arith, ltZ→nat z z (rw e tt)))
+    go false e = refl
+
+same-not-lower : (b : Bound) (h : HeldBound) → IsBound h b → wrong.not-lower b h ≡ true
+same-not-lower b held-bound.Nothing i = absurd i
+same-not-lower never (held-bound.Number n) i = refl
+same-not-lower (number z) (held-bound.Number n) i = let e : n .value ≡ z = cc in subst (λ (y : ℤ). not (ltZ z y) ≡ true) (sym e) (not-below-itself z)
+same-not-lower never (held-bound.Never n) i = refl
+same-not-lower (number z) (held-bound.Never n) i = absurd (let z : _≡_ {A = ℕ} 0 1 = cc in omega arith)
+
+coded-back : (b : Bound) → bound-of (coded b) ≡ b
+coded-back never = refl
+coded-back (number z) = refl
+
+last-tree-held : (d : Docket) (b : Bound) (m n : ℕ) (v : Verdict) → IsBound (d .held .bound) b → Carries (stated (wrong.hold-last-tree d v .answer)) (its-bound b m n)
+    → IsHeld (stated (wrong.hold-last-tree d v .answer))
+last-tree-held d b m n (refused r) i c = absurd c
+last-tree-held d b m n (problem P) i c = tt
+last-tree-held d b m n (schedule s) i c = go (is-less (s .cost) (d .held .cost)) c
+  where
+    go : (t : Bool) → Carries (told d s t) (its-bound b m n) → IsHeld (told d s t)
+    go true c = tt
+    go false c = no-bound-told (sym c)
+last-tree-held d b m n (tree F) i c = go (wrong.not-lower (F .bound) (d .held .bound)) refl c
+  where
+    go : (t : Bool) → wrong.not-lower (F .bound) (d .held .bound) ≡ t
+        → Carries (stated (pick t (lodged (with-bound d F) (TreeHeld (given-figures F))) (lodged d (TreePassed (given-figures F))) .answer)) (its-bound b m n)
+        → IsHeld (stated (pick t (lodged (with-bound d F) (TreeHeld (given-figures F))) (lodged d (TreePassed (given-figures F))) .answer))
+    go true e c = tt
+    go false e c =
+        let f : bound-of (coded (F .bound)) ≡ b = cc in
+        let g = same-not-lower (F .bound) (d .held .bound) (subst (IsBound (d .held .bound)) (sym f ∙ coded-back (F .bound)) i) in
+        let z : _≡_ {A = ℕ} 0 1 = cc in
+        absurd (omega arith)
+
+pub keeping-last-tree-fails : {report : Reporting} {buffer : Writing} → Demand3 wrong.keeping-last-tree report buffer → ⊥
+keeping-last-tree-fails D = refuted.keeps-last-tree wrong.keeping-last-tree D (λ texts text b m n i c.
+    let d = reached wrong.keeping-last-tree texts in
+    last-tree-held d b m n (judged (d .known) (view (d .problem)) text) i c)

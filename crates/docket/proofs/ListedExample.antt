@@ -1,0 +1,40 @@
+-- Document 01, The listing program: its example's input gives its output. The input is cut into the three texts; their answers and what is held after
+-- them are known, and written out they are the output.
+use mathlib.Core.Path.{_≡_, refl, ap, _∙_}
+use mathlib.Core.List.{List, [], _∷_, _++_, map, flatten}
+use Prim.Native.Nat.{ℕ}
+use Rattle.decimal.specs.Decimal.{digits, digitsBy}
+use Rattle.writer.specs.Written.{figure, figureOf}
+use Rattle.pieces.specs.Pieces.{pieces}
+use Rattle.report.specs.Report.{report-lines}
+use Rattle.answer.specs.declared.Answer.{Answer}
+use Rattle.answer.specs.Answers.{stated}
+use Rattle.answer.specs.AnswerLines.{answer-line}
+use Rattle.docket.specs.Docket.{fresh-docket}
+use Rattle.docket.specs.Lodging.{lodge-of}
+use Rattle.docket.specs.Report.{report-text}
+use Rattle.docket.specs.Demand3.{answers-to}
+use Rattle.docket.specs.Listing.{answer-lines, listed, listing-text}
+use Rattle.docket.specs.Promised.{stated-lines}
+use Rattle.docket.specs.Specimens.{listed-problem, schedule-text, tree-text, listed-texts, listed-input, listed-output}
+use Rattle.docket.proofs.SpecimenList.{listing-answers, listing-held}
+
+-- the input's pieces
+pub input-pieces : pieces listed-input ≡ listed-texts
+unfolding pieces listed-problem schedule-text tree-text
+input-pieces = refl
+
+-- the lines of answers are those of what they state
+pub lines-stated : (l : List Answer) → answer-lines l ≡ stated-lines (map stated l)
+lines-stated [] = refl
+lines-stated (a ∷ l) = ap (λ (x : List ℕ). answer-line (stated a) ++ x) (lines-stated l)
+
+texts-listed : listed listed-texts ≡ listed-output
+unfolding answer-line report-lines flatten figure figureOf digits digitsBy listed-output
+texts-listed =
+    let a = lines-stated (answers-to lodge-of fresh-docket listed-texts) ∙ ap stated-lines listing-answers in
+    λ i. a i ++ report-text (listing-held i)
+
+pub input-listed : listing-text listed-input ≡ listed-output
+unfolding listing-text listed-problem schedule-text tree-text
+input-listed = ap listed input-pieces ∙ texts-listed

@@ -1,0 +1,61 @@
+-- never can be held: 60 are demanded of a unit that gives 50 at most, and a lone short=1 says so.
+use mathlib.Core.Path.{_≡_, refl, ap, _∙_}
+use mathlib.Core.Bool.{false}
+use mathlib.Core.List.{List, [], _∷_}
+use mathlib.Core.Option.{none, some}
+use Prim.Native.Nat.{ℕ}
+use Rattle.model.specs.Instance.{Instance}
+use Rattle.model.specs.Ranges.{ordered}
+use Rattle.model.specs.Leaf.{available, is-stuck}
+use Rattle.model.specs.Tree.{never}
+use Rattle.model.specs.declared.generator.Generator.{Generator}
+use Rattle.refusal.specs.Refusals.{refusalOf, carriesLine, carriesUnit, carriesPeriod}
+use Rattle.text.specs.Lines.{kindOf}
+use Rattle.text.specs.Course.{judged-from}
+use Rattle.text.specs.Forms.{malformed, wrongCount, outOfRange}
+use Rattle.problem.specs.Course as problem-course
+use Rattle.problem.specs.Units.{unit-of}
+use Rattle.tree.specs.NodeLines.{kind-of, split-again, too-deep, not-short, not-stuck}
+use Rattle.tree.specs.Due as tree-course
+use Rattle.docket.specs.declared.Docket.{Docket}
+use Rattle.docket.specs.declared.held.HeldBound.the-variants as held-bound
+use Rattle.docket.specs.Verdicts as verdict
+use Rattle.docket.specs.Verdicts.{Verdict, known-at-end}
+use Rattle.docket.specs.Texts.{Is, no-more, then}
+use Rattle.docket.specs.Lodging.{judged, admit}
+use Rattle.docket.specs.Promised.{after}
+use Rattle.docket.specs.Specimens as specimens
+use Rattle.docket.proofs.OneVerdict.{verdict-of}
+use Rattle.docket.proofs.ListVerdicts.{fine-after, are-verdicts}
+use Rattle.docket.proofs.Lists.{lodges}
+use Rattle.docket.proofs.Reached.{docket-of}
+use Rattle.docket.proofs.Specimens.{judged-as}
+
+unfoldable pub too-little : List ℕ
+too-little = specimens.lines ("kind=problem" ∷ "periods=1" ∷ "units=1" ∷ "demand=60" ∷ "spare=0" ∷ "unit=0,0,0,10,50,1,1,-2,50,50,20,60,1,0" ∷ "end=problem" ∷ [])
+
+abbrev pub short-tree : List ℕ
+short-tree = specimens.tree-text ("writer=9" ∷ "short=1" ∷ [])
+
+abbrev little : Instance
+little = record {
+  periods = 1;
+  demand = 60 ∷ [];
+  spare = 0 ∷ [];
+  units = record { a = 0; b = 0; c = 0; pL = 10; pU = 50; TU = 1; TD = 1; on = false; since = 2; DR = 50; UR = 50; Hsc = 20; Csc = 60; Tcold = 1; Dc = 0 } ∷ [];
+}
+
+gives : verdict-of none too-little ≡ verdict.problem little
+unfolding judged admit kindOf problem-course.problem-judged judged-from problem-course.judge malformed wrongCount outOfRange unit-of ordered too-little
+gives = refl
+
+gives-never : verdict-of (some little) short-tree ≡ verdict.tree (record { writer = 9; bound = never; splits = 0; leaves = 1 })
+unfolding judged admit kindOf tree-course.judged judged-from tree-course.judge tree-course.tests tree-course.next tree-course.after-node kind-of malformed wrongCount outOfRange split-again too-deep not-short not-stuck available is-stuck refusalOf carriesLine carriesUnit carriesPeriod specimens.tree-text
+gives-never = refl
+
+pub never-held : after (too-little ∷ short-tree ∷ []) .held .bound ≡ held-bound.Never (record { writer = 9 })
+never-held =
+    let i : Is none too-little (verdict.problem little) = judged-as none tt too-little (verdict.problem little) gives in
+    let are = then i (then (judged-as (some little) (fine-after none too-little (verdict.problem little) tt i) short-tree _ gives-never) no-more) in
+    ap (λ (d : Docket). d .held .bound) (lodges none [] (refl, refl) (too-little ∷ short-tree ∷ []) .docket-is)
+    ∙ ap (λ (vs : List Verdict). docket-of (known-at-end none vs) vs .held .bound) (are-verdicts none (too-little ∷ short-tree ∷ []) _ tt are)

@@ -1,0 +1,132 @@
+-- `lodge_pieces` meets its contract: at each turn one text more is lodged and the line of its answer written after those before it.
+use Prim.Native.Nat.{_-_, _≤_, _<_}
+use native.Mathlib.Omega.{arith}
+use borrow.Author.Needs.{needs}
+use mathlib.Core.Path.{_∙_}
+use lib.ListN.{length}
+use Rattle.docket.proofs.ListedSoFar.{SoFar, nothing-yet, before-end, Turn, turn, Done, done}
+use Rattle.docket.proofs.listing.lodge_pieces.Statement.{statement}
+use Rattle.docket.proofs.listing.lodge_pieces.Tie as tie
+
+abbrev Inv-loop : tie.InvT-loop
+Inv-loop input output₀ docket₀ n₀ at₀ output docket n at = SoFar input output₀ docket n at output
+
+abbrev μ-loop : tie.MeasureT-loop
+μ-loop input output₀ docket₀ n₀ at₀ output docket n at = length input - at
+
+fresh-requires : tie.Need-fresh-requires Inv-loop μ-loop
+fresh-requires c κs = search needs
+
+loop-holds : tie.Need-loop-holds Inv-loop μ-loop
+loop-holds c =
+    let a = c .before .before .before .args in
+    rw (c .fresh .ensures) (nothing-yet (a .input .now) (a .output .now))
+
+piece-end-requires : tie.Need-piece-end-requires Inv-loop μ-loop
+piece-end-requires c κs = search needs
+
+-- ---- the piece at the place
+
+module _ (c : tie.After-piece-end Inv-loop μ-loop) where
+  piece : (c .before .before .loop .at < c .piece-end .result) × (c .piece-end .result ≤ length (c .before .before .before .before .before .before .args .input .now))
+  piece =
+      let l = c .before .before in
+      let b = l .before .before .before .before in
+      before-end (b .args .input .now) (b .args .output .now) (b .pre .0) (b .pre .1) (l .loop .docket) (l .loop .n) (l .loop .at) (l .loop .output) (l .loop .inv)
+      (c .before .loop-test .taken) (c .piece-end .result) (c .piece-end .ensures)
+
+sub-lodge : tie.Need-sub-lodge Inv-loop μ-loop
+sub-lodge c = omega (arith, piece c)
+
+part-lodge-start : tie.Need-part-lodge-start Inv-loop μ-loop
+part-lodge-start c = omega (arith, piece c)
+
+part-lodge-end : tie.Need-part-lodge-end Inv-loop μ-loop
+part-lodge-end c = piece c .1
+
+lodge-requires : tie.Need-lodge-requires Inv-loop μ-loop
+lodge-requires c κs = search needs
+
+-- ---- the line of its answer
+
+module _ (c : tie.After-lodge Inv-loop μ-loop) where
+  turned : Turn (c .before .before .before .before .before .before .before .before .args .input .now)
+      (c .before .before .before .before .before .before .before .before .args .output .now)
+      (c .before .before .before .before .loop .n) (c .before .before .before .before .loop .output) (c .before .before .piece-end .result) (c .lodge .result)
+  turned =
+      let e = c .before .before in
+      let l = e .before .before in
+      let b = l .before .before .before .before in
+      turn (b .args .input .now) (b .args .output .now) (b .pre .0) (b .pre .1) (l .loop .docket) (l .loop .n) (l .loop .at) (l .loop .output) (l .loop .inv)
+      (e .before .loop-test .taken) (e .piece-end .result) (e .piece-end .ensures) (c .lodge .result) (c .lodge .ensures)
+
+sub-write-answer : tie.Need-sub-write-answer Inv-loop μ-loop
+sub-write-answer c = omega (arith, turned (c .before) .fits)
+
+part-write-answer-start : tie.Need-part-write-answer-start Inv-loop μ-loop
+part-write-answer-start c = omega (arith, turned (c .before) .fits)
+
+part-write-answer-end : tie.Need-part-write-answer-end Inv-loop μ-loop
+part-write-answer-end c = search needs
+
+write-answer-requires : tie.Need-write-answer-requires Inv-loop μ-loop
+write-answer-requires c κs = turned (c .before .before) .part
+
+add-n : tie.Need-add-n Inv-loop μ-loop
+add-n c = omega (arith, turned (c .before .before .before .before .before) .few, c .before .before .write-answer .ensures .0)
+
+loop-less : tie.Need-loop-less Inv-loop μ-loop
+loop-less c =
+    let e = c .before .before .before .before .before .before .before in
+    omega (arith, piece e, e .before .loop-test .taken)
+
+loop-again : tie.Need-loop-again Inv-loop μ-loop
+loop-again c =
+    let w = c .before .before .write-answer in
+    turned (c .before .before .before .before .before) .after (w .result) (w .last .0) (w .ensures .0) (w .ensures .1)
+
+-- ---- the report
+
+module _ (c : tie.After-loop Inv-loop μ-loop) where
+  all : Done (c .before .before .before .before .before .args .input .now) (c .before .before .before .before .before .args .output .now)
+      (c .before .loop .docket) (c .before .loop .n) (c .before .loop .output)
+  all =
+      let l = c .before in
+      let b = l .before .before .before .before in
+      done (b .args .input .now) (b .args .output .now) (b .pre .0) (b .pre .1) (l .loop .docket) (l .loop .n) (l .loop .at) (l .loop .output) (l .loop .inv) (c .loop-test .left)
+
+write-report-requires : tie.Need-write-report-requires Inv-loop μ-loop
+write-report-requires c κs = (all (c .before) .good, all (c .before) .fits)
+
+same-length : tie.Need-same-length Inv-loop μ-loop
+same-length c = c .before .before .write-report .kept .1 .0 ∙ all (c .before .before .before .before) .same
+
+returns : tie.Need-returns Inv-loop μ-loop
+returns c =
+    let r = c .before .before .write-report in
+    let d = all (c .before .before .before .before) in
+    (r .ensures .0 ∙ d .many, r .ensures .1 ∙ d .written)
+
+pub lodge-pieces-spec : {M : Type 1} → statement M
+lodge-pieces-spec =
+    tie.close
+    (tie.spec
+    Inv-loop
+    μ-loop
+    fresh-requires
+    loop-holds
+    piece-end-requires
+    sub-lodge
+    part-lodge-start
+    part-lodge-end
+    lodge-requires
+    sub-write-answer
+    part-write-answer-start
+    part-write-answer-end
+    write-answer-requires
+    add-n
+    loop-less
+    loop-again
+    write-report-requires
+    same-length
+    returns)

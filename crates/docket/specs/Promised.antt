@@ -1,0 +1,74 @@
+-- The words of the page of promises: what stands after a list of texts, and what a text can be there.
+use mathlib.Core.Path.{_≡_}
+use mathlib.Core.Bool.{Bool, true, false}
+use mathlib.Core.List.{List, [], _∷_, _++_}
+use mathlib.Core.Option.{Option, none, some}
+use Prim.Native.Nat.{ℕ}
+use lib.ListN.{length}
+use Rattle.model.specs.Instance.{Instance, Schedule}
+use Rattle.model.specs.Ranges.{WellFormed, GoodWriter, GoodRows}
+use Rattle.model.specs.Rules.{Meets}
+use Rattle.model.specs.Cost.{cost}
+use Rattle.model.specs.Held.{view}
+use Rattle.model.specs.Above.{root}
+use Rattle.model.specs.Tree.{Tree, Limits, Holds, bound, splits, leaves}
+use Rattle.problem.specs.Rendering as problem-text
+use Rattle.schedule.specs.Rendering as schedule-text
+use Rattle.tree.specs.Rendering as tree-text
+use Rattle.answer.specs.Answers.{Values, its-cost, its-bound, Stated, stated}
+use Rattle.answer.specs.AnswerLines.{answer-line}
+use Rattle.docket.specs.declared.Docket.{Docket}
+use Rattle.docket.specs.Verdicts.{Verdict, known-at-end}
+use Rattle.docket.specs.Texts.{Short}
+use Rattle.docket.specs.Lodging.{trusted, lodge-of}
+use Rattle.docket.specs.Demand3.{reached}
+
+-- ---- after a list of texts, lodged in turn in a fresh docket
+
+abbrev pub after : List (List ℕ) → Docket
+after texts = reached lodge-of texts
+
+-- the answer to one text more
+abbrev pub answer : List (List ℕ) → List ℕ → Stated
+answer texts text = stated (lodge-of (after texts) text .answer)
+
+-- the problem that texts with these verdicts gave: that of the first accepted problem
+abbrev pub given : List Verdict → Option Instance
+given vs = known-at-end none vs
+
+-- ---- texts that can be accepted
+
+-- the text of a well-formed problem
+abbrev pub ProblemText : List ℕ → Instance → Type 0
+ProblemText text P = Short text × ((text ≡ problem-text.render P) × WellFormed P)
+
+-- the text of a schedule that meets the rules, with its cost
+abbrev pub OfSchedule : Instance → List ℕ → Values → Type 0
+OfSchedule P text x = (w : ℕ) × (s : Schedule) × (text ≡ schedule-text.render w s) × GoodWriter w × GoodRows P s × Meets P s
+    × (x ≡ its-cost (cost P s))
+
+-- the text of a tree within the limits whose leaves meet their rules, with its bound and counts
+abbrev pub OfTree : Instance → List ℕ → Values → Type 0
+OfTree P text x = (w : ℕ) × (t : Tree) × (text ≡ tree-text.render w t) × GoodWriter w × Limits P root 0 t × Holds P root t
+    × (x ≡ its-bound (bound P root t) (splits t) (leaves t))
+
+-- ---- any value of the struct
+
+-- its arrays have the lengths that the struct gives them
+abbrev pub Long : Docket → Type 0
+Long d = (length (d .problem .demand) ≡ 48) × (length (d .problem .spare) ≡ 48) × (length (d .problem .generators) ≡ 32)
+
+abbrev pub if-known : Bool → Instance → Option Instance
+if-known true P = some P
+if-known false P = none
+
+-- the problem under which it judges a text: none, where it is not sound
+abbrev pub judged-under : Docket → Option Instance
+judged-under d = if-known (trusted d .known) (view (trusted d .problem))
+
+-- ---- the listing
+
+-- a line for each answer
+abbrev pub stated-lines : List Stated → List ℕ
+stated-lines [] = []
+stated-lines (s ∷ l) = answer-line s ++ stated-lines l

@@ -1,0 +1,129 @@
+-- Document 01, Specimens on that problem: the marked ones. Each is a pair of the texts that are lodged in turn from a fresh docket and the answer to
+-- the last of them.
+use mathlib.Core.Path.{_≡_}
+use mathlib.Core.List.{List, [], _∷_, _++_, map}
+use mathlib.Core.Option.{Option, none, some}
+use Prim.Native.Nat.{ℕ}
+use Prim.Native.Char.{code}
+use Prim.Native.String.{String, [] as no-more, _∷_ as _then_}
+use lib.IntN.{pos}
+use Rattle.model.specs.Tree.{number}
+use Rattle.docket.specs.declared.Docket.{Docket}
+use Rattle.docket.specs.declared.Lodged.{Lodged}
+use Rattle.docket.specs.Docket.{fresh-docket}
+use Rattle.answer.specs.Answers.{its-cost, its-bound, Stated, refused, held, passed, stated}
+use Rattle.docket.specs.Demand3.{answers-to}
+
+-- ---- texts written as their lines
+
+-- the codes of the characters, each of which is one byte in a text
+abbrev pub bytes : String → List ℕ
+bytes no-more = []
+bytes (c then s) = code c ∷ bytes s
+
+-- each line ended by byte 10
+abbrev pub lines : List String → List ℕ
+lines [] = []
+lines (l ∷ ls) = bytes l ++ (10 ∷ lines ls)
+
+-- ---- document 01, The listing program: the texts of its input
+
+unfoldable pub listed-problem : List ℕ
+listed-problem =
+    lines ("kind=problem" ∷ "periods=2" ∷ "units=2" ∷ "demand=60,100" ∷ "spare=10,10"
+    ∷ "unit=100,10,0,20,80,2,2,3,30,30,50,90,1,5" ∷ "unit=40,14,0,10,50,1,1,-2,50,50,20,60,0,0" ∷ "end=problem" ∷ [])
+
+-- a schedule by the writer 7, by its run lines
+unfoldable pub schedule-text : List String → List ℕ
+schedule-text runs = lines ("kind=schedule" ∷ "writer=7" ∷ (runs ++ ("end=schedule" ∷ [])))
+
+abbrev pub listed-schedule : List ℕ
+listed-schedule = schedule-text ("run=60,80" ∷ "run=0,20" ∷ [])
+
+-- a tree, by its writer line and its node lines
+unfoldable pub tree-text : List String → List ℕ
+tree-text after = lines ("kind=tree" ∷ (after ++ ("end=tree" ∷ [])))
+
+abbrev pub listed-tree : List ℕ
+listed-tree = tree-text ("writer=3" ∷ "split=2,2" ∷ "short=2" ∷ "price=10,14" ∷ "reserve=0,0" ∷ [])
+
+abbrev pub listed-texts : List (List ℕ)
+listed-texts = listed-problem ∷ listed-schedule ∷ listed-tree ∷ []
+
+-- the input is these one after the other, and gives this output
+abbrev pub listed-input : List ℕ
+listed-input = listed-problem ++ (listed-schedule ++ listed-tree)
+
+unfoldable pub listed-output : List ℕ
+listed-output =
+    lines ("answer=held" ∷ "answer=held,1980" ∷ "answer=held,1980,1,2"
+    ∷ "kind=report" ∷ "cost=1980" ∷ "costwriter=7" ∷ "bound=1980" ∷ "boundwriter=3" ∷ "gap=0" ∷ "end=report" ∷ [])
+
+-- ---- trees of one leaf
+
+abbrev pub lone-leaf : List ℕ
+lone-leaf = tree-text ("writer=4" ∷ "price=10,14" ∷ "reserve=0,2" ∷ [])
+
+abbrev pub lone-short : List ℕ
+lone-short = tree-text ("writer=3" ∷ "short=2" ∷ [])
+
+-- ---- problems of one unit, with nothing demanded and no cost but that of a start: Hsc is 20 and Csc 60
+
+-- one period, TD 1 and Tcold 1: Tini says how long the unit has been off
+unfoldable pub start-problem : String → List ℕ
+start-problem unit = lines ("kind=problem" ∷ "periods=1" ∷ "units=1" ∷ "demand=0" ∷ "spare=0" ∷ unit ∷ "end=problem" ∷ [])
+
+abbrev pub off-two : List ℕ
+off-two = start-problem "unit=0,0,0,10,50,1,1,-2,50,50,20,60,1,0"
+
+abbrev pub off-three : List ℕ
+off-three = start-problem "unit=0,0,0,10,50,1,1,-3,50,50,20,60,1,0"
+
+-- three periods, TD 3 and Tini -1
+unfoldable pub down-problem : List ℕ
+down-problem =
+    lines ("kind=problem" ∷ "periods=3" ∷ "units=1" ∷ "demand=0,0,0" ∷ "spare=0,0,0" ∷ "unit=0,0,0,10,50,1,3,-1,50,50,20,60,0,0" ∷ "end=problem" ∷ [])
+
+-- ---- the list
+
+unfoldable pub specimens : List (List (List ℕ) × Stated)
+specimens =
+    -- the empty text: 12, line 1
+    ([] ∷ [], refused 12 1 0 0)
+    -- the tree in a fresh docket: 42
+    ∷ (listed-tree ∷ [], refused 42 0 0 0)
+    -- two schedules that are accepted: their costs
+    ∷ (listed-problem ∷ listed-schedule ∷ [], held (its-cost 1980))
+    ∷ (listed-problem ∷ schedule-text ("run=50,80" ∷ "run=10,20" ∷ []) ∷ [], held (its-cost 2060))
+    -- a rise above UR: 25, unit 1, period 2
+    ∷ (listed-problem ∷ schedule-text ("run=49,80" ∷ "run=11,20" ∷ []) ∷ [], refused 25 0 1 2)
+    -- too little for the demand: 22, period 1
+    ∷ (listed-problem ∷ schedule-text ("run=59,80" ∷ "run=0,20" ∷ []) ∷ [], refused 22 0 0 1)
+    -- an output below pL: 21, unit 2, period 2
+    ∷ (listed-problem ∷ schedule-text ("run=60,80" ∷ "run=0,9" ∷ []) ∷ [], refused 21 0 2 2)
+    -- the tree: 1980, one split line, two leaves
+    ∷ (listed-problem ∷ listed-tree ∷ [], held (its-bound (number (pos 1980)) 1 2))
+    -- the lone price leaf: 1940, and passed after the tree
+    ∷ (listed-problem ∷ lone-leaf ∷ [], held (its-bound (number (pos 1940)) 0 1))
+    ∷ (listed-problem ∷ listed-tree ∷ lone-leaf ∷ [], passed (its-bound (number (pos 1940)) 0 1))
+    -- a lone short=2: 33, line 3
+    ∷ (listed-problem ∷ lone-short ∷ [], refused 33 3 0 0)
+    -- TD + Tcold is 2: on after two periods off costs Hsc, after three Csc
+    ∷ (off-two ∷ schedule-text ("run=10" ∷ []) ∷ [], held (its-cost 20))
+    ∷ (off-three ∷ schedule-text ("run=10" ∷ []) ∷ [], held (its-cost 60))
+    -- TD is 3, off for one period before: first on in period 2 breaks 24, in period 3 nothing
+    ∷ (down-problem ∷ schedule-text ("run=0,10,10" ∷ []) ∷ [], refused 24 0 1 2)
+    ∷ (down-problem ∷ schedule-text ("run=0,0,10" ∷ []) ∷ [], held (its-cost 20))
+    ∷ []
+
+-- ---- what is said of a pair
+
+abbrev pub last : {A : Type 0} → List A → Option A
+last [] = none
+last (x ∷ []) = some x
+last (x ∷ y ∷ l) = last (y ∷ l)
+
+-- lodged in turn from a fresh docket, the last of the texts gets this answer
+module _ (lodge : Docket → List ℕ → Lodged) where
+  abbrev pub Answered : List (List ℕ) × Stated → Type 0
+  Answered x = last (map stated (answers-to lodge fresh-docket (x .0))) ≡ some (x .1)

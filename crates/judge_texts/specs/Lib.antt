@@ -1,2 +1,0 @@
--- What the program's functions say of each other.
-pub mod Desk

@@ -1,0 +1,4 @@
+pub mod LineCuts
+pub mod TheCut
+pub mod Places
+pub mod Examples

@@ -1,0 +1,4 @@
+pub mod Lines
+pub mod Stages
+pub mod Places
+pub mod Examples

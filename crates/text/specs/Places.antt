@@ -1,0 +1,15 @@
+-- The reader of a text: the text that it keeps, and the next line's start.
+use Prim.Native.Nat.{ℕ}
+use mathlib.Core.List.{List}
+use lib.ListN.{drop}
+use denote.Ref.{RefT, now}
+use Rattle.text.specs.Lines.{Line, linesOf}
+use Rattle.text.specs.declared.reader.Reader.{Reader}
+
+-- the reader of this text whose next line starts at the place `at`
+abbrev pub placed : RefT (List ℕ) → ℕ → Reader
+placed text at = record { text = text; at = at }
+
+-- the lines that are left
+abbrev pub linesLeft : Reader → List Line
+linesLeft r = linesOf (drop (r .at) (now (r .text)))

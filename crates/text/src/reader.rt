@@ -1,0 +1,81 @@
+// The reader of a text, and what it asks of the text and the place.
+ghost use mathlib.Core.Path.{_≡_};
+ghost use mathlib.Core.Bool.{true};
+ghost use lib.ListN.{drop};
+ghost use Rattle.text.specs.Lines.{oneLine, linesOf, lineAt, kindOf, due};
+ghost use Rattle.text.specs.Ends.{endOf};
+ghost use Rattle.text.specs.Places.{placed, linesLeft};
+use crate::End;
+use crate::Kind;
+use crate::is_line;
+
+// A lent text, and the start of its next line.
+pub struct Reader<'a> {
+    text: &'a [u8],
+    at: usize,
+}
+
+impl<'a> Reader<'a> {
+    // The reader of a text, at its first line.
+    pub fn open(text: &'a [u8]) -> Reader<'a>
+        ensures { λ r. ⌜ r ≡ placed (text .entry) 0 ⌝ }
+    {
+        Reader { text, at: 0 }
+    }
+
+    // The reader of the same text, at the line that starts at `at`.
+    pub fn moved(self, at: usize) -> Reader<'a>
+        ensures { λ r. ⌜ r ≡ placed (self .entry .text) at ⌝ }
+    {
+        Reader {
+            text: self.text,
+            at,
+        }
+    }
+
+    // The kind of text that the next line says.
+    pub fn kind(self) -> Kind
+        ensures { λ r. ⌜ r ≡ kindOf (due (linesLeft (self .entry))) ⌝ }
+    {
+        kind_at(self.text, self.at)
+    }
+
+    // Whether the next line is the end line, this word, and the last.
+    pub fn end<'b>(self, word: &'b [u8]) -> End
+        requires { ⌜ oneLine (now word) ≡ true ⌝ }
+        ensures { λ r. ⌜ r ≡ endOf (now (word .entry)) (linesLeft (self .entry)) ⌝ }
+    {
+        end_at(self.text, self.at, word)
+    }
+}
+
+// The kind of text that the line says which starts at `at`.
+fn kind_at(s: &[u8], at: usize) -> Kind
+    ensures { λ r. ⌜ r ≡ kindOf (lineAt (now (s .entry)) at) ⌝ }
+{
+    if is_line(s, at, b"kind=problem") {
+        return Kind::Problem;
+    }
+    if is_line(s, at, b"kind=schedule") {
+        return Kind::Schedule;
+    }
+    if is_line(s, at, b"kind=tree") {
+        return Kind::Tree;
+    }
+    Kind::Unknown
+}
+
+// Whether the line that starts at `at` is the end line, this word, and the last.
+fn end_at(s: &[u8], at: usize, word: &[u8]) -> End
+    requires { ⌜ oneLine (now word) ≡ true ⌝ }
+    ensures { λ r. ⌜ r ≡ endOf (now (word .entry)) (linesOf (drop at (now (s .entry)))) ⌝ }
+{
+    if is_line(s, at, word) {
+        let next = at + word.len() + 1;
+        if next < s.len() {
+            return End::Followed;
+        }
+        return End::Last;
+    }
+    End::Missing
+}
