@@ -3,14 +3,14 @@
 use mathlib.Core.Path.{_≡_}
 use mathlib.Core.Bool.{Bool, true, false}
 use mathlib.Core.List.{List}
-use Prim.Native.Nat.{ℕ, _<_}
-use lib.ListN.{length}
+use Prim.Native.Nat.{ℕ, suc, _+_, _≤_, _<_}
+use lib.ListN.{length, getD}
 use Rattle.model.specs.declared.generator.Generator.{Generator}
 use Rattle.model.specs.Instance.{_at_}
 use Rattle.model.specs.Above.{Mark, allows}
-use Rattle.model.specs.Walk.{Values}
+use Rattle.model.specs.Walk.{lesser, Values}
 use Rattle.model.specs.Prices.{worth}
-use Rattle.model.specs.Table.{Tabled, leave, enter, Chained}
+use Rattle.model.specs.Table.{Tabled, kept, leave, enter, Chained}
 
 -- what a period costs on, and off
 abbrev pub by-status : ℕ → ℕ → Bool → ℕ
@@ -33,7 +33,26 @@ pub record Tables (g : Generator) (X : Values) (ons offs : List ℕ) : Type 0 wh
   pub of-on : Tabled g X true ons
   pub of-off : Tabled g X false offs
 
+-- a list begins with the values of the first r states of the status b
+abbrev pub Known : Values → Bool → ℕ → List ℕ → Type 0
+Known X b r l = (k : ℕ) → k < r → l at k ≡ X b (suc k)
+
 -- the lists after one period back, from those before
 pub record Back (g : Generator) (m : Mark) (on off : ℕ) (ons offs ons′ offs′ : List ℕ) : Type 0 where
   pub of-on : Chained ons ons′ (g .TU) (leave g m off offs) (leave g m off offs) (allows m true) on
   pub of-off : Chained offs offs′ (g .TD) (enter (g .Hsc) m on ons) (enter (g .Csc) m on ons) (allows m false) off
+
+-- a list in which the entries from `from` to `to` are now f k, and the others as they were
+pub record Written (old new : List ℕ) (from to : ℕ) (f : ℕ → ℕ) : Type 0 where
+  pub same : length new ≡ length old
+  pub inside : (k : ℕ) → from ≤ k → k < to → getD new k 0 ≡ f k
+  pub below : (k : ℕ) → k < from → getD new k 0 ≡ getD old k 0
+  pub above : (k : ℕ) → to ≤ k → getD new k 0 ≡ getD old k 0
+
+-- the states of one status one period back, in three runs: those below `from` cannot be left, those from there on for early, and
+-- the last for last
+pub record Backed (old new : List ℕ) (from early last : ℕ) (allowed : Bool) (v : ℕ) : Type 0 where
+  pub same : length new ≡ length old
+  pub low : (k : ℕ) → k < from → getD new k 0 ≡ kept allowed v (getD old (k + 1) 0)
+  pub high : (k : ℕ) → from ≤ k → k + 1 < length old → getD new k 0 ≡ lesser early (kept allowed v (getD old (k + 1) 0))
+  pub end : (k : ℕ) → k + 1 ≡ length old → getD new k 0 ≡ lesser last (kept allowed v (getD old k 0))

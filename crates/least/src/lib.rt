@@ -1,7 +1,8 @@
 // What a tree's leaves come to: one unit's least value at given prices, the value of a price leaf, stuck and short.
+mod chain;
 pub mod leaf;
-pub mod output;
+mod output;
 pub mod short;
 pub mod stuck;
-pub mod table;
+mod table;
 pub mod unit;

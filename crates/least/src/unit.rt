@@ -20,7 +20,7 @@ pub enum Least {
 }
 
 // Writes what each period costs on and off, with (q + s)·pU added.
-pub fn fill_costs(g: Generator, q: &[u64], s: &[u64], on: &mut [u64], off: &mut [u64])
+fn fill_costs(g: Generator, q: &[u64], s: &[u64], on: &mut [u64], off: &mut [u64])
     requires { ⌜ GoodUnit g ⌝ }
     requires { ⌜ GoodPrices (length (now q)) (now q) (now s) ⌝ }
     requires { ⌜ (length (now on) ≡ length (now q)) × (length (now off) ≡ length (now q)) ⌝ }

@@ -35,11 +35,11 @@ kept-value-requires-3 c κs =
     let s = c .before .before .before .before .before .before in
     omega (arith, s .pre .0 .in-range .Csc-in, s .pre .1 .0, s .pre .1 .1 .1 .0 0)
 
+on-back-requires : tie.Need-on-back-requires
+on-back-requires c κs = search needs
+
 chain-back-requires : tie.Need-chain-back-requires
 chain-back-requires c κs = search needs
-
-chain-back-requires-2 : tie.Need-chain-back-requires-2
-chain-back-requires-2 c κs = search needs
 
 same-length : tie.Need-same-length
 same-length c = search needs
@@ -49,14 +49,16 @@ same-length-2 c = search needs
 
 returns : tie.Need-returns
 returns c =
-    let chain = c .before .before .before .before .before .before in
-    let cold = chain .before .before .kept-value3 in
-    let hot = chain .before .before .before .kept-value2 in
-    let leave = chain .before .before .before .before .kept-value in
-    let x = chain .before .before .before .before .before .before .before .before .before .args .mark in
+    let chain = c .before .before in
+    let on = chain .before .before .before .before in
+    let cold = on .before .before .kept-value3 in
+    let hot = on .before .before .before .kept-value2 in
+    let leave = on .before .before .before .before .kept-value in
+    let s = on .before .before .before .before .before .before .before .before .before in
+    let x = s .args .mark in
     record {
-      of-on = rw (allows-on x, allows-off x, ← leave .ensures) (chain .chain-back .ensures);
-      of-off = rw (allows-on x, allows-off x, ← hot .ensures, ← cold .ensures) (c .before .before .chain-back2 .ensures);
+      of-on = rw (allows-on x, allows-off x, ← leave .ensures) (on .on-back .ensures (s .args .g .TU) (s .pre .1 .1 .0 .0 .1));
+      of-off = rw (allows-on x, allows-off x, ← hot .ensures, ← cold .ensures) (chain .chain-back .ensures);
     }
 
 pub step-back-spec : {M : Type 1} → statement M
@@ -71,8 +73,8 @@ step-back-spec =
     kept-value-requires-2
     add-kept-value-3
     kept-value-requires-3
+    on-back-requires
     chain-back-requires
-    chain-back-requires-2
     same-length
     same-length-2
     returns)

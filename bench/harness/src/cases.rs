@@ -1,0 +1,135 @@
+//! What is timed: each case is a list of texts and the code of its last answer.
+use crate::inputs::*;
+
+pub struct Case {
+    pub name: &'static str,
+    pub input: String,
+    pub last: u64,
+}
+
+const TREE_HELD: u64 = 4;
+const SCHEDULE_PASSED: u64 = 3;
+const REFUSED_BY_12: u64 = 12;
+const REFUSED_BY_13: u64 = 13;
+
+/// The afternoon peak: 60 price leaves on 32 units and 48 periods, with dear multipliers.
+fn peak(name: &'static str, times: Times, off: bool) -> Case {
+    let mut r = Random::new();
+    let problem = problem(&mut r, times, 100_000, 10_000, off);
+    let tree = tree("", 60, &mut || price_leaf(&mut r, 0, 999_999_999));
+    Case {
+        name,
+        input: problem + &tree,
+        last: TREE_HELD,
+    }
+}
+
+/// The bytes that are left to a tree after the problem: a whole text's, or what a listing's input has room for.
+fn left(limit: usize, problem: &str) -> usize {
+    if limit > LISTING_LIMIT {
+        limit
+    } else {
+        limit - problem.len()
+    }
+}
+
+/// A tree that fills its room with price leaves of one digit: the most walks for a byte.
+fn prices(name: &'static str, limit: usize, times: Times, off: bool) -> Case {
+    let mut r = Random::new();
+    let problem = problem(&mut r, times, 100_000, 10_000, off);
+    let tree = largest_tree("", left(limit, &problem), || price_leaf(&mut r, 0, 9));
+    Case {
+        name,
+        input: problem + &tree,
+        last: TREE_HELD,
+    }
+}
+
+/// A tree that fills its room with leaves of one line, under demands that no units can meet; unit 1 is stuck under its root.
+fn lines(name: &'static str, limit: usize, leaf: &'static str) -> Case {
+    let mut r = Random::new();
+    let problem = with_first_unit_stuck(problem(&mut r, MOST, 320_000, 320_000, false));
+    let tree = largest_tree("split=1,1\nshort=1\n", left(limit, &problem), || {
+        leaf.to_string()
+    });
+    Case {
+        name,
+        input: problem + &tree,
+        last: TREE_HELD,
+    }
+}
+
+/// Ten schedules of 32 rows of 48 outputs, all accepted: a unit is off for 12 periods of 48.
+fn schedules(name: &'static str) -> Case {
+    let mut r = Random::new();
+    let problem = problem(&mut r, USUAL, 1_000, 100, false);
+    let one = schedule(|u, t| {
+        if (t / 12 + u) % 4 == 0 {
+            0
+        } else {
+            1_000 + (u * t % 2) as u64
+        }
+    });
+    Case {
+        name,
+        input: problem + &one.repeat(10),
+        last: SCHEDULE_PASSED,
+    }
+}
+
+/// The same texts as those of a case, with the last end line damaged.
+fn damaged(name: &'static str, case: Case) -> Case {
+    let input = case.input.strip_suffix("end=tree\n").unwrap().to_string() + "end=trees\n";
+    Case {
+        name,
+        input,
+        last: REFUSED_BY_12,
+    }
+}
+
+/// A tree's text that is one numeral.
+fn numeral(name: &'static str) -> Case {
+    let mut r = Random::new();
+    let problem = problem(&mut r, MOST, 100_000, 10_000, false);
+    let room = TEXT_LIMIT - "kind=tree\nwriter=\n".len();
+    let tree = format!("kind=tree\nwriter={}\n", "1".repeat(room));
+    Case {
+        name,
+        input: problem + &tree,
+        last: REFUSED_BY_13,
+    }
+}
+
+/// The shortest pieces, each refused.
+fn pieces(name: &'static str) -> Case {
+    Case {
+        name,
+        input: "end=\n".repeat(LISTING_LIMIT / 5),
+        last: REFUSED_BY_12,
+    }
+}
+
+pub fn all() -> Vec<Case> {
+    vec![
+        peak("peak, 3 states", FEWEST, false),
+        peak("peak, 15 states", USUAL, false),
+        peak("peak, 145 states", MOST, false),
+        peak("peak, 145 states, off before", MOST, true),
+        peak("peak, 98 states, TD 1", MOST_STARTS, true),
+        prices("65,536: price leaves", LISTING_LIMIT, MOST, true),
+        prices("65,536: the same, TD 1", LISTING_LIMIT, MOST_STARTS, true),
+        lines("65,536: stuck leaves", LISTING_LIMIT, "stuck=1\n"),
+        lines("65,536: short leaves", LISTING_LIMIT, "short=1\n"),
+        pieces("65,536: nothing but end="),
+        prices("1,048,576: price leaves", TEXT_LIMIT, MOST, true),
+        prices("1,048,576: the same, TD 1", TEXT_LIMIT, MOST_STARTS, true),
+        lines("1,048,576: stuck leaves", TEXT_LIMIT, "stuck=1\n"),
+        lines("1,048,576: short leaves", TEXT_LIMIT, "short=1\n"),
+        damaged(
+            "1,048,576: TD 1, damaged end",
+            prices("", TEXT_LIMIT - 1, MOST_STARTS, true),
+        ),
+        numeral("1,048,576: one numeral"),
+        schedules("ten schedules of 32 x 48"),
+    ]
+}

@@ -1,0 +1,13 @@
+//! Lists the texts of standard input as document 01's listing program does.
+use std::io::{Read, Write};
+
+fn main() -> std::io::Result<()> {
+    let mut input = Vec::new();
+    std::io::stdin()
+        .lock()
+        .take(65_537)
+        .read_to_end(&mut input)?;
+    let mut out = Vec::new();
+    peer::listing(&input, &mut out)?;
+    std::io::stdout().write_all(&out)
+}
