@@ -1,0 +1,3 @@
+-- What a host may rely on.
+pub mod ListingSizes
+pub mod HostAnswers

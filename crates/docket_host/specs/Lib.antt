@@ -1,0 +1,2 @@
+-- What a host gets.
+pub mod HostAnswer
