@@ -1,5 +1,5 @@
 -- A run of entries written one after the other; and the three runs that a status's states fall into, one period back.
-use mathlib.Core.Path.{_≡_, refl, _∙_, ap}
+use mathlib.Core.Path.{_≡_, refl, sym, _∙_, ap}
 use mathlib.Core.Bool.{Bool, true, false, not, cond}
 use mathlib.Core.List.{List}
 use Prim.Native.Nat.{ℕ, _+_, _-_, _≤_, _<_, min}
@@ -9,8 +9,9 @@ use borrow.Author.Tests.{eq-eqb, ne-eqb}
 use lib.Dec.{T, leb, leb→le, nleb→lt}
 use lib.ListN.{length, getD, set, length-set}
 use lib.Seq.{getD-set-same, getD-set-other}
-use Rattle.model.specs.Walk.{lesser}
+use Rattle.model.specs.Walk.{plus, lesser}
 use Rattle.model.specs.Table.{kept, chain-at, Chained}
+use Rattle.model.proofs.Coded.{plus-some, lesser-some}
 use Rattle.least.specs.Steps.{Written, Backed}
 
 -- ---- a run that is written
@@ -76,3 +77,28 @@ backed-chained old new need from early last allowed v pos e B = record { same = 
             let j : min (k + 1) (length old - 1) ≡ k + 1 = omega arith in
             rw (ne-eqb (k + 1) (length old) (λ e. omega arith), j)
             (within k i (leb need (k + 1)) (λ t. leb→le need (k + 1) t) (λ t. nleb→lt need (k + 1) t))
+
+-- ---- where every state has a value
+
+-- a run that is written so is one of coded values
+pub written-within : (old new : List ℕ) (from to : ℕ) (f g : ℕ → ℕ) → ((k : ℕ) → from ≤ k → k < to → f k ≡ g k) → Written old new from to f
+    → Written old new from to g
+written-within old new from to f g h W =
+    record { same = W .same; inside = λ k i j. W .inside k i j ∙ h k i j; below = W .below; above = W .above }
+
+lesser-plus-some : (early cost v : ℕ) → 0 < early → 0 < v → lesser early (plus cost v) ≡ min early (cost + v)
+lesser-plus-some early cost v h i = rw (plus-some cost v i) (lesser-some early (cost + v) h (omega arith))
+
+module _ (old : List ℕ) (has : (k : ℕ) → k < length old → 0 < getD old k 0) (from end early last cost : ℕ) (h : from ≤ end) (e : length old ≡ end + 1)
+    (early-there : 0 < early) (last-there : 0 < last) where
+  -- the three runs one after the other
+  pub valued-is : (mid new : List ℕ) (x : ℕ) → Written old mid 0 from (λ k. cost + getD old (k + 1) 0)
+      → Written mid new from end (λ k. min early (cost + getD mid (k + 1) 0)) → x ≡ min last (cost + getD old end 0)
+      → Backed old (set new end x) from early last true cost
+  valued-is mid new x A B g =
+      let kept-low = written-within old mid 0 from _ (λ k. kept true cost (getD old (k + 1) 0))
+      (λ k i j. sym (plus-some cost (getD old (k + 1) 0) (has (k + 1) (omega arith)))) A in
+      let kept-high = written-within mid new from end _ (λ k. lesser early (kept true cost (getD mid (k + 1) 0)))
+      (λ k i j. sym (lesser-plus-some early cost (getD mid (k + 1) 0) early-there (rw (A .above (k + 1) (omega arith)) (has (k + 1) (omega arith))))) B in
+      backed-is old mid new from end early last true cost x h e kept-low kept-high
+      (g ∙ sym (lesser-plus-some last cost (getD old end 0) last-there (has end (omega arith))))

@@ -2,6 +2,7 @@
 pub mod Outputs
 pub mod StatusMarks
 pub mod Chains
+pub mod Rising
 pub mod Walks
 pub mod WholeTables
 pub mod Fronts

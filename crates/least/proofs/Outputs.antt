@@ -1,7 +1,7 @@
 -- A period on: the closed form of the best output by each of its cases, and the sizes of what such a period costs.
 use mathlib.Core.Path.{_≡_}
-use Prim.Native.Nat.{ℕ, _+_, _*_, _-_, _/_, _≤_, _<_, min}
-use native.Mathlib.Nat.{mul-le-mul}
+use Prim.Native.Nat.{ℕ, suc, _+_, _*_, _-_, _/_, _%_, _≤_, _<_, min}
+use native.Mathlib.Nat.{mul-le-mul, div-add-mod', mod-lt, lt-of-mul-lt-mul-right}
 use native.Mathlib.Omega.{arith}
 use borrow.Author.Tests.{le-leb, lt-leb, eq-eqb, ne-eqb}
 use Rattle.model.specs.declared.generator.Generator.{Generator}
@@ -27,17 +27,28 @@ module _ (g : Generator) (x y : ℕ) where
       abbrev quotient : ℕ
       quotient = (y - x - g .c + (2 * g .c - 1)) / (2 * g .c)
 
-      -- the quotient, rounded up, lies beyond pU
-      pub best-at-top : g .pU < quotient → g .pU ≡ best-at g x y
+      -- what it leaves
+      parts : quotient * (2 * g .c) + (y - x - g .c + (2 * g .c - 1)) % (2 * g .c) ≡ y - x - g .c + (2 * g .c - 1)
+      parts = div-add-mod' (y - x - g .c + (2 * g .c - 1)) (2 * g .c)
+
+      rest : (y - x - g .c + (2 * g .c - 1)) % (2 * g .c) < 2 * g .c
+      rest = mod-lt (y - x - g .c + (2 * g .c - 1)) (omega (arith, curved))
+
+      -- the last unit of output pays: the quotient, rounded up, is pU or lies beyond
+      pub best-at-top : x + 2 * g .c * g .pU < y + g .c → g .pU ≡ best-at g x y
       unfolding best-at
       best-at-top h =
+          let s : g .pU * (2 * g .c) < suc quotient * (2 * g .c) = omega (arith, parts, rest, pays) in
+          let l : g .pU < suc quotient = lt-of-mul-lt-mul-right (2 * g .c) s in
           let e : min (g .pU) quotient ≡ g .pU = omega arith in
           rw (lt-leb y (x + g .c * (2 * g .pL + 1)) pays, ne-eqb (g .c) 0 curved, e)
 
       -- or not
-      pub best-at-quotient : quotient ≤ g .pU → quotient ≡ best-at g x y
+      pub best-at-quotient : y + g .c ≤ x + 2 * g .c * g .pU → quotient ≡ best-at g x y
       unfolding best-at
       best-at-quotient h =
+          let s : quotient * (2 * g .c) < g .pU * (2 * g .c) = omega (arith, parts, curved, pays) in
+          let l : quotient < g .pU = lt-of-mul-lt-mul-right (2 * g .c) s in
           let e : min (g .pU) quotient ≡ quotient = omega arith in
           rw (lt-leb y (x + g .c * (2 * g .pL + 1)) pays, ne-eqb (g .c) 0 curved, e)
 
@@ -68,3 +79,9 @@ module _ (g : Generator) (good : GoodUnit g) where
   slope-fits =
       let l : 2 * g .pL + 1 ≤ 20001 = omega (arith, good .in-range .pL-in .1) in
       omega (arith, mul-le-mul (good .in-range .c-in .1) l)
+
+  -- the last one, at pU
+  pub top-fits : 2 * g .c * g .pU ≤ 200_000_000
+  top-fits =
+      let l : 2 * g .c ≤ 20000 = omega (arith, good .in-range .c-in .1) in
+      omega (arith, mul-le-mul l (good .in-range .pU-in .1))

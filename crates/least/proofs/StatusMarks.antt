@@ -28,6 +28,11 @@ allows-off x = go (eqb x 1) (eqb x 2) (λ a b. omega (arith, eqb→eq x 1 a, eqb
     go false true h = refl
     go false false h = refl
 
+-- a byte 0 allows both
+pub free-allows : (x : ℕ) → x ≡ 0 → (d : Bool) → allows (mark-of x) d ≡ true
+unfolding mark-of
+free-allows x e d = rw e
+
 -- what a unit has available: nothing where it is fixed off
 pub unless-off-one : (x v : ℕ) → x ≡ 1 → 0 ≡ unless-off (mark-of x) v
 unfolding mark-of

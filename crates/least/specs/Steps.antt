@@ -1,9 +1,10 @@
 -- How the code goes back over the periods: what a period costs by its status, and one period back over the table of states, in
 -- place (the model's Table).
 use mathlib.Core.Path.{_≡_}
-use mathlib.Core.Bool.{Bool, true, false}
+use mathlib.Core.Bool.{Bool, true, false, not, cond}
 use mathlib.Core.List.{List}
 use Prim.Native.Nat.{ℕ, suc, _+_, _≤_, _<_}
+use lib.Dec.{eqb}
 use lib.ListN.{length, getD}
 use Rattle.model.specs.declared.generator.Generator.{Generator}
 use Rattle.model.specs.Instance.{_at_}
@@ -56,3 +57,15 @@ pub record Backed (old new : List ℕ) (from early last : ℕ) (allowed : Bool) 
   pub low : (k : ℕ) → k < from → getD new k 0 ≡ kept allowed v (getD old (k + 1) 0)
   pub high : (k : ℕ) → from ≤ k → k + 1 < length old → getD new k 0 ≡ lesser early (kept allowed v (getD old (k + 1) 0))
   pub end : (k : ℕ) → k + 1 ≡ length old → getD new k 0 ≡ lesser last (kept allowed v (getD old k 0))
+
+-- every state of a list has a value
+abbrev pub Valued : List ℕ → Type 0
+Valued l = (k : ℕ) → k < length l → 0 < l at k
+
+-- every state has one if the first has: later states are permitted more
+abbrev pub Rising : List ℕ → Type 0
+Rising l = 0 < l at 0 → Valued l
+
+-- whether a mark's byte is 0 and two values are there
+abbrev pub is-open : ℕ → ℕ → ℕ → Bool
+is-open mark x y = cond (eqb mark 0) (cond (eqb x 0) false (not (eqb y 0))) false

@@ -1,6 +1,6 @@
 // The values of a run of states of one status, one period back.
 ghost use mathlib.Core.Path.{_≡_};
-ghost use Prim.Native.Nat.{ℕ, _+_, _≤_, _<_};
+ghost use Prim.Native.Nat.{ℕ, _+_, _-_, _≤_, _<_, min};
 ghost use lib.ListN.{length};
 ghost use Rattle.model.specs.Instance.{_at_};
 ghost use Rattle.model.specs.Walk.{plus, lesser};
@@ -31,6 +31,19 @@ fn lesser_plus(early: u64, k: u64, v: u64) -> u64
         return kept;
     }
     early
+}
+
+// The place of the first state that may be left after need periods, where the last one is at end.
+pub fn first_early(need: usize, end: usize) -> usize
+    ensures { λ r. ⌜ r ≡ min (need - 1) end ⌝ }
+{
+    if end < need {
+        return end;
+    }
+    if need == 0 {
+        return 0;
+    }
+    need - 1
 }
 
 // Gives the states from `from` to `to` the value v.

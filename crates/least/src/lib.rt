@@ -6,3 +6,4 @@ pub mod short;
 pub mod stuck;
 mod table;
 pub mod unit;
+mod valued;

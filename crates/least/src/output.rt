@@ -21,11 +21,10 @@ pub fn best_output(g: Generator, x: u64, y: u64) -> u64
     if c == 0 {
         return high;
     }
-    let p = (y - x - c + (2 * c - 1)) / (2 * c);
-    if high < p {
+    if x + 2 * c * high < y + c {
         return high;
     }
-    p
+    (y - x - c + (2 * c - 1)) / (2 * c)
 }
 
 // What a period on at the output p costs.

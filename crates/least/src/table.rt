@@ -10,10 +10,12 @@ ghost use Rattle.model.specs.Walk.{lesser, Values, back, walk};
 ghost use Rattle.model.specs.Table.{kept, Chained, values};
 ghost use Rattle.least.specs.Marks.{mark-of, marks-of};
 ghost use Rattle.least.specs.Limits.{GoodCost, GoodCosts, GoodValue};
-ghost use Rattle.least.specs.Steps.{by-status, costs-of, Tables, Back, Backed};
+ghost use Rattle.least.specs.Steps.{by-status, costs-of, Tables, Back, Backed, Rising, is-open};
 use crate::chain::fill_states;
+use crate::chain::first_early;
 use crate::chain::keep_states;
 use crate::chain::leave_or_keep_states;
+use crate::valued::free_back;
 use model::generator::Generator;
 
 // A coded value with k added, where it is allowed.
@@ -44,19 +46,6 @@ pub fn lesser_value(x: u64, y: u64) -> u64
         return x;
     }
     y
-}
-
-// The place of the first state that may be left after need periods, where the last one is at end.
-fn first_early(need: usize, end: usize) -> usize
-    ensures { λ r. ⌜ r ≡ min (need - 1) end ⌝ }
-{
-    if end < need {
-        return end;
-    }
-    if need == 0 {
-        return 0;
-    }
-    need - 1
 }
 
 // Takes the values of one status, allowed in the period, back over it; states from the place begin on may be left.
@@ -120,7 +109,7 @@ fn on_back(states: &mut [u64], leaving: u64, allowed: bool, cost: u64)
 }
 
 // Takes the values of all states back over a period that costs on or off by its status, mark being what is fixed in it.
-pub fn step_back(g: Generator, mark: u8, on: u64, off: u64, ons: &mut [u64], offs: &mut [u64])
+fn marked_back(g: Generator, mark: u8, on: u64, off: u64, ons: &mut [u64], offs: &mut [u64])
     requires { ⌜ GoodUnit g ⌝ }
     requires { ⌜ GoodCost on × GoodCost off ⌝ }
     requires { ⌜ Between 1 (length (now ons)) (g .TU) × (1 ≤ length (now offs)) ⌝ }
@@ -140,6 +129,35 @@ pub fn step_back(g: Generator, mark: u8, on: u64, off: u64, ons: &mut [u64], off
     let starting_cold = kept_value(may_on, cold + on, first_on);
     on_back(ons, leaving, may_on, on);
     chain_back(offs, down, starting, starting_cold, may_off, off);
+}
+
+// Whether nothing is fixed in a period and both values are there.
+fn is_open(mark: u8, x: u64, y: u64) -> bool
+    ensures { λ r. ⌜ r ≡ is-open mark x y ⌝ }
+{
+    if mark != 0 {
+        return false;
+    }
+    if x == 0 {
+        return false;
+    }
+    y != 0
+}
+
+// The same; where the first state of a status has a value all of them have, and if nothing is fixed either none is tested for.
+fn step_back(g: Generator, mark: u8, on: u64, off: u64, ons: &mut [u64], offs: &mut [u64])
+    requires { ⌜ GoodUnit g ⌝ }
+    requires { ⌜ GoodCost on × GoodCost off ⌝ }
+    requires { ⌜ Between 1 (length (now ons)) (g .TU) × (1 ≤ length (now offs)) ⌝ }
+    requires { ⌜ ((k : ℕ) → GoodValue ((now ons) at k)) × ((k : ℕ) → GoodValue ((now offs) at k)) ⌝ }
+    requires { ⌜ Rising (now ons) × Rising (now offs) ⌝ }
+    ensures { λ r. ⌜ Back g (mark-of mark) on off (now (ons .entry)) (now (offs .entry)) (now (ons .exit)) (now (offs .exit)) ⌝ }
+{
+    if is_open(mark, ons[0], offs[0]) {
+        free_back(g, on, off, ons, offs);
+        return;
+    }
+    marked_back(g, mark, on, off, ons, offs);
 }
 
 // Takes a table of ones from after the last period to before the first.

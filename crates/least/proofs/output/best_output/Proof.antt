@@ -1,7 +1,7 @@
 -- `best_output` meets its contract: each way through it is one case of the closed form, and the products fit.
 use native.Mathlib.Omega.{arith}
 use borrow.Author.Needs.{needs}
-use Rattle.least.proofs.Outputs.{best-at-low, best-at-flat, best-at-top, best-at-quotient, slope-fits}
+use Rattle.least.proofs.Outputs.{best-at-low, best-at-flat, best-at-top, best-at-quotient, slope-fits, top-fits}
 use Rattle.least.proofs.output.best_output.Statement.{statement}
 use Rattle.least.proofs.output.best_output.Tie as tie
 
@@ -27,31 +27,45 @@ returns-2 c =
     let s = c .before .before in
     best-at-flat (s .args .g) (s .args .x) (s .args .y) (c .before .if1 .left) (c .if2 .taken)
 
-sub-p : tie.Need-sub-p
-sub-p c = search needs
+mul-if3 : tie.Need-mul-if3
+mul-if3 c = search needs
 
-sub-p-2 : tie.Need-sub-p-2
-sub-p-2 c = search needs
+mul-if3-2 : tie.Need-mul-if3-2
+mul-if3-2 c = omega (arith, top-fits (c .before .before .args .g) (c .before .before .pre .0))
 
-mul-p : tie.Need-mul-p
-mul-p c = search needs
+add-if3 : tie.Need-add-if3
+add-if3 c =
+    let s = c .before .before in
+    omega (arith, top-fits (s .args .g) (s .pre .0), s .pre .1 .x-in)
 
-sub-p-3 : tie.Need-sub-p-3
-sub-p-3 c = search needs
-
-add-p : tie.Need-add-p
-add-p c = search needs
-
-mul-p-2 : tie.Need-mul-p-2
-mul-p-2 c = search needs
-
-div-p : tie.Need-div-p
-div-p c = search needs
+add-if3-2 : tie.Need-add-if3-2
+add-if3-2 c = search needs
 
 returns-3 : tie.Need-returns-3
 returns-3 c =
     let s = c .before .before .before in
     best-at-top (s .args .g) (s .args .x) (s .args .y) (c .before .before .if1 .left) (c .before .if2 .left) (c .if3 .taken)
+
+sub-result : tie.Need-sub-result
+sub-result c = search needs
+
+sub-result-2 : tie.Need-sub-result-2
+sub-result-2 c = search needs
+
+mul-result : tie.Need-mul-result
+mul-result c = search needs
+
+sub-result-3 : tie.Need-sub-result-3
+sub-result-3 c = search needs
+
+add-result : tie.Need-add-result
+add-result c = search needs
+
+mul-result-2 : tie.Need-mul-result-2
+mul-result-2 c = search needs
+
+div-result : tie.Need-div-result
+div-result c = search needs
 
 returns-4 : tie.Need-returns-4
 returns-4 c =
@@ -68,12 +82,16 @@ best-output-spec =
     add-if1-2
     returns
     returns-2
-    sub-p
-    sub-p-2
-    mul-p
-    sub-p-3
-    add-p
-    mul-p-2
-    div-p
+    mul-if3
+    mul-if3-2
+    add-if3
+    add-if3-2
     returns-3
+    sub-result
+    sub-result-2
+    mul-result
+    sub-result-3
+    add-result
+    mul-result-2
+    div-result
     returns-4)

@@ -1,45 +1,30 @@
--- `step_back` meets its contract: the values of leaving and starting are read from the old lists, before either changes.
-use native.Mathlib.Omega.{arith}
+-- `step_back` meets its contract: where the first state of a status has a value every state has.
+use mathlib.Core.Path.{sym, _∙_}
+use mathlib.Core.Bool.{true, false}
+use Rattle.least.specs.Marks.{mark-of}
+use Rattle.model.specs.Instance.{_at_}
+use Rattle.least.proofs.StatusMarks.{free-allows}
+use Rattle.least.proofs.Rising.{open-is}
 use borrow.Author.Needs.{needs}
-use Rattle.least.proofs.StatusMarks.{allows-on, allows-off}
 use Rattle.least.proofs.table.step_back.Statement.{statement}
 use Rattle.least.proofs.table.step_back.Tie as tie
 
-slice-read-first-on : tie.Need-slice-read-first-on
-slice-read-first-on c = search needs
+slice-read-is-open : tie.Need-slice-read-is-open
+slice-read-is-open c = search needs
 
-slice-read-first-off : tie.Need-slice-read-first-off
-slice-read-first-off c = search needs
+slice-read-is-open-2 : tie.Need-slice-read-is-open-2
+slice-read-is-open-2 c = search needs
 
-add-kept-value : tie.Need-add-kept-value
-add-kept-value c = search needs
+is-open-requires : tie.Need-is-open-requires
+is-open-requires c κs = search needs
 
-kept-value-requires : tie.Need-kept-value-requires
-kept-value-requires c κs =
-    let s = c .before .before .before .before in
-    omega (arith, s .pre .0 .in-range .Dc-in, s .pre .1 .0, s .pre .1 .1 .1 .1 0)
-
-add-kept-value-2 : tie.Need-add-kept-value-2
-add-kept-value-2 c = search needs
-
-kept-value-requires-2 : tie.Need-kept-value-requires-2
-kept-value-requires-2 c κs =
-    let s = c .before .before .before .before .before in
-    omega (arith, s .pre .0 .in-range .Hsc-in, s .pre .1 .0, s .pre .1 .1 .1 .0 0)
-
-add-kept-value-3 : tie.Need-add-kept-value-3
-add-kept-value-3 c = search needs
-
-kept-value-requires-3 : tie.Need-kept-value-requires-3
-kept-value-requires-3 c κs =
-    let s = c .before .before .before .before .before .before in
-    omega (arith, s .pre .0 .in-range .Csc-in, s .pre .1 .0, s .pre .1 .1 .1 .0 0)
-
-on-back-requires : tie.Need-on-back-requires
-on-back-requires c κs = search needs
-
-chain-back-requires : tie.Need-chain-back-requires
-chain-back-requires c κs = search needs
+free-back-requires : tie.Need-free-back-requires
+free-back-requires c κs =
+    let s = c .before .before .before .before .before .before .before .before in
+    let a = s .args in
+    let o = open-is (a .mark) (a .ons .now at 0) (a .offs .now at 0) (sym (c .before .before .before .is-open .ensures) ∙ c .before .before .if1 .taken) in
+    let p = s .pre .1 .1 .1 in
+    (s .pre .0, (s .pre .1 .0, (s .pre .1 .1 .0, (p .0, (p .1 .0 (o .1 .0), p .1 .1 (o .1 .1))))))
 
 same-length : tie.Need-same-length
 same-length c = search needs
@@ -49,32 +34,36 @@ same-length-2 c = search needs
 
 returns : tie.Need-returns
 returns c =
-    let chain = c .before .before in
-    let on = chain .before .before .before .before in
-    let cold = on .before .before .kept-value3 in
-    let hot = on .before .before .before .kept-value2 in
-    let leave = on .before .before .before .before .kept-value in
-    let s = on .before .before .before .before .before .before .before .before .before in
-    let x = s .args .mark in
-    record {
-      of-on = rw (allows-on x, allows-off x, ← leave .ensures) (on .on-back .ensures (s .args .g .TU) (s .pre .1 .1 .0 .0 .1));
-      of-off = rw (allows-on x, allows-off x, ← hot .ensures, ← cold .ensures) (chain .chain-back .ensures);
-    }
+    let back = c .before .before .before .before in
+    let test = back .before .before .before in
+    let a = test .before .before .before .before .before .before .args in
+    let o = open-is (a .mark) (a .ons .now at 0) (a .offs .now at 0) (sym (test .before .is-open .ensures) ∙ test .if1 .taken) in
+    back .free-back .ensures (mark-of (a .mark)) (free-allows (a .mark) (o .0) true) (free-allows (a .mark) (o .0) false)
+
+marked-back-requires : tie.Need-marked-back-requires
+marked-back-requires c κs = search needs
+
+same-length-3 : tie.Need-same-length-3
+same-length-3 c = search needs
+
+same-length-4 : tie.Need-same-length-4
+same-length-4 c = search needs
+
+returns-2 : tie.Need-returns-2
+returns-2 c = search needs
 
 pub step-back-spec : {M : Type 1} → statement M
 step-back-spec =
     tie.close
     (tie.spec
-    slice-read-first-on
-    slice-read-first-off
-    add-kept-value
-    kept-value-requires
-    add-kept-value-2
-    kept-value-requires-2
-    add-kept-value-3
-    kept-value-requires-3
-    on-back-requires
-    chain-back-requires
+    slice-read-is-open
+    slice-read-is-open-2
+    is-open-requires
+    free-back-requires
     same-length
     same-length-2
-    returns)
+    returns
+    marked-back-requires
+    same-length-3
+    same-length-4
+    returns-2)

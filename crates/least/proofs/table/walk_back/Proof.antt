@@ -8,6 +8,7 @@ use Rattle.model.specs.Table.{values}
 use Rattle.model.proofs.LeafSizes.{all-at}
 use Rattle.least.specs.Marks.{marks-of}
 use Rattle.least.specs.Steps.{costs-of, Tables}
+use Rattle.least.proofs.Rising.{tabled-rising}
 use Rattle.least.proofs.WholeTables.{tabled-good, tables-end, tables-back}
 use Rattle.least.proofs.table.walk_back.Statement.{statement}
 use Rattle.least.proofs.table.walk_back.Tie as tie
@@ -52,11 +53,12 @@ step-back-requires c κs =
     let A = loop .loop .inv .1 in
     let C = s .pre .1 .0 .0 in
     let TU-pos : 0 < a .g .TU = s .pre .0 .in-range .TU-in .0 in
-    let fits = tabled-good (a .g) (s .pre .0) (length (a .on .now)) (a .on .now) (a .off .now) (a .fixed .now) C t in (
+    let fits = tabled-good (a .g) (s .pre .0) (length (a .on .now)) (a .on .now) (a .off .now) (a .fixed .now) C t in
+    let rising = tabled-rising (length (a .on .now)) (a .g) (marks-of (a .fixed .now)) (costs-of (a .on .now) (a .off .now)) t in (
       s .pre .0,
       (
         (all-at 1_000_000_000_000_000 (a .on .now) (C .on-in) (t - 1), all-at 1_000_000_000_000_000 (a .off .now) (C .off-in) (t - 1)),
-        (((omega (arith, A .of-on .long, TU-pos), omega (arith, A .of-on .long)), omega (arith, A .of-off .long)), (fits _ _ (A .of-on), fits _ _ (A .of-off))),
+        (((omega (arith, A .of-on .long, TU-pos), omega (arith, A .of-on .long)), omega (arith, A .of-off .long)), ((fits _ _ (A .of-on), fits _ _ (A .of-off)), (rising _ _ (A .of-on), rising _ _ (A .of-off)))),
       ),
     )
 

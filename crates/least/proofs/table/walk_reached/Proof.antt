@@ -13,6 +13,7 @@ use Rattle.least.specs.Marks.{marks-of}
 use Rattle.least.specs.Steps.{costs-of, Known}
 use Rattle.model.proofs.LeafSizes.{all-at}
 use Rattle.model.proofs.WalkPeriods.{values-end}
+use Rattle.least.proofs.Rising.{front-rising}
 use Rattle.least.proofs.Walks.{values-good, ones-known, front-good, fronts-long, known-turn, own-turn, own-start}
 use Rattle.least.proofs.table.walk_reached.Statement.{statement}
 use Rattle.least.proofs.table.walk_reached.Tie as tie
@@ -139,6 +140,7 @@ step-back-requires c κs =
     let C = s .pre .1 .0 .0 in
     let inv = loop .loop .inv in
     let good = front-good (a .g) (s .pre .0) (length (a .on .now)) (a .on .now) (a .off .now) (a .fixed .now) C t in
+    let rising = front-rising (length (a .on .now)) (a .g) (marks-of (a .fixed .now)) (costs-of (a .on .now) (a .off .now)) t in
     let TU-pos : 0 < a .g .TU = s .pre .0 .in-range .TU-in .0 in
     let more : 0 < t = c .before .before .before .before .before .before .before .before .before .before .before .before .before .loop-test .taken in
     let up : c .before .before .before .before .before .before .before .before .before .before .before .before .smaller .result ≡ min t (a .g .TU) = c .before .before .before .before .before .before .before .before .before .before .before .before .smaller .ensures ∙ ap (min t) (s .pre .1 .1 .0 .0) in
@@ -151,7 +153,10 @@ step-back-requires c κs =
             rw (length-take-le (c .before .before .before .before .before .before .before .before .before .before .before .before .smaller .result) (loop .loop .ons) (omega arith)) (omega arith, omega arith),
             rw (length-take-le (c .before .before .before .before .before .before .before .before .before .before .before .smaller2 .result) (loop .loop .offs) (omega arith)) (omega arith),
           ),
-          (good true _ _ _ up (omega arith) (inv .1 .0 .0), good false _ _ _ down (omega arith) (inv .1 .0 .1)),
+          (
+            (good true _ _ _ up (omega arith) (inv .1 .0 .0), good false _ _ _ down (omega arith) (inv .1 .0 .1)),
+            (rising true _ _ _ up (omega arith) (inv .1 .0 .0), rising false _ _ _ down (omega arith) (inv .1 .0 .1)),
+          ),
         ),
       ),
     )
