@@ -7,7 +7,7 @@ use mathlib.Core.Path.{_≡_, refl, sym, ap, _∙_}
 use mathlib.Core.Bool.{Bool, true, false}
 use mathlib.Core.List.{List, [], _∷_}
 use lib.ListN.{length, take, drop, getD, drop-of-length-le, length-drop}
-use lib.Seq.{drop-cons, getD-drop, slice, slice-cons, slice-empty}
+use lib.Seq.{drop-cons, getD-drop}
 use borrow.Author.Tests.{eq-eqb, ne-eqb}
 use Rattle.decimal.specs.declared.Number.the-variants.{Malformed, Value}
 use Rattle.decimal.specs.Decimal.{isDigit, valueOf, canonical}
@@ -36,9 +36,16 @@ capped v (d ∷ ds) =
     sym (capped (min cap v * 10 + (d - 48)) ds) ∙ ap (λ (w : ℕ). min cap (valueOf w ds)) e ∙ capped (v * 10 + (d - 48)) ds
 
 -- one digit more
-pub value-on : (s : List ℕ) (v i to : ℕ) → i < to → to ≤ length s
-    → min cap (valueOf v (slice i to s)) ≡ min cap (valueOf (min cap (v * 10 + (getD s i 0 - 48))) (slice (i + 1) to s))
-value-on s v i to h k = rw (slice-cons i to s 0 h k, add-one) (sym (capped (v * 10 + (getD s i 0 - 48)) (slice (suc i) to s)))
+pub value-on : (s : List ℕ) (v i : ℕ) → i < length s → isDigit (getD s i 0) ≡ true
+    → min cap (valueOf (min cap (v * 10 + (getD s i 0 - 48))) (run (drop (i + 1) s))) ≡ min cap (valueOf v (run (drop i s)))
+value-on s v i h e = rw (run-at s i true h e, add-one) (capped (v * 10 + (getD s i 0 - 48)) (run (drop (suc i) s)))
+
+-- no digit is left
+pub value-off : (s : List ℕ) (v i : ℕ) → i < length s → isDigit (getD s i 0) ≡ false → v ≤ cap → v ≡ min cap (valueOf v (run (drop i s)))
+value-off s v i h e l = rw (run-at s i false h e) (omega arith)
+
+pub value-end : (s : List ℕ) (v i : ℕ) → length s ≤ i → v ≤ cap → v ≡ min cap (valueOf v (run (drop i s)))
+value-end s v i h l = rw (drop-of-length-le s h) (omega arith)
 
 pub run-take : (s : List ℕ) → take (length (run s)) s ≡ run s
 run-take [] = refl
@@ -48,11 +55,6 @@ run-take (b ∷ s) = go (isDigit b) (run-take s)
     go true h = ap (λ (l : List ℕ). b ∷ l) h
     go false h = refl
 
-pub run-slice : (s : List ℕ) (at : ℕ) → slice at (at + length (run (drop at s))) s ≡ run (drop at s)
-run-slice s zero = rw zero-add (run-take s)
-run-slice [] (suc at) = rw suc-add refl
-run-slice (b ∷ s) (suc at) = rw suc-add (run-slice s at)
-
 run-within : (s : List ℕ) → length (run s) ≤ length s
 run-within [] = omega arith
 run-within (b ∷ s) = go (isDigit b) (run-within s)
@@ -60,12 +62,6 @@ run-within (b ∷ s) = go (isDigit b) (run-within s)
     go : (t : Bool) → length (run s) ≤ length s → length (keepIf t b (run s)) ≤ suc (length s)
     go true h = omega arith
     go false h = omega arith
-
--- no digit is left
-pub value-done : (s : List ℕ) (v i to : ℕ) → i ≤ to → to ≤ i → v ≤ cap → v ≡ min cap (valueOf v (slice i to s))
-value-done s v i to h k l =
-    let e : i ≡ to = omega arith in
-    rw (e, slice-empty) (omega arith)
 
 -- the run lies within the text, where it has a digit
 pub run-fits : (s : List ℕ) (at : ℕ) → at < at + length (run (drop at s)) → at + length (run (drop at s)) ≤ length s
@@ -125,9 +121,9 @@ module _ (s : List ℕ) (at e : ℕ) (end : e ≡ at + length (run (drop at s)))
   unfolding numberAt
   answer-zero h k = sym (number-zero (run (drop at s)) at (omega arith) (run-first s at (omega arith) ∙ k))
 
-  module _ (v : ℕ) (val : v ≡ min cap (valueOf 0 (slice at e s))) where
+  module _ (v : ℕ) (val : v ≡ min cap (valueOf 0 (run (drop at s)))) where
     same : Value v e ≡ Value (min cap (valueOf 0 (run (drop at s)))) (at + length (run (drop at s)))
-    same = rw (val, end, run-slice s at) refl
+    same = rw (val, end) refl
 
     pub answer-many : at + 1 < e → (getD s at 0 ≡ 48 → ⊥) → Value v e ≡ numberAt s at
     unfolding numberAt

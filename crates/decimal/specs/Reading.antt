@@ -4,6 +4,7 @@ use mathlib.Core.Bool.{Bool, true, false}
 use mathlib.Core.List.{List, [], _∷_}
 use lib.ListN.{length, drop}
 use Rattle.decimal.specs.Decimal.{isDigit, canonical, valueOf}
+use Rattle.decimal.specs.declared.DigitsRead.{DigitsRead}
 use Rattle.decimal.specs.declared.Number.{Number}
 use Rattle.decimal.specs.declared.Number.the-variants.{Malformed, Value}
 
@@ -19,6 +20,10 @@ keepIf false b s = []
 abbrev pub run : List ℕ → List ℕ
 run [] = []
 run (b ∷ s) = keepIf (isDigit b) b (run s)
+
+-- the digits at the place `at` of the text s: their value or the cap, and the place after them
+abbrev pub digitsAt : List ℕ → ℕ → DigitsRead
+digitsAt s at = record { value = min cap (valueOf 0 (run (drop at s))); end = at + length (run (drop at s)) }
 
 abbrev pub pickNumber : Bool → Number → Number → Number
 pickNumber true a b = a

@@ -1,10 +1,8 @@
 // Decimal numbers in bytes: the number that starts at a place of a text.
 ghost use mathlib.Core.Path.{_≡_};
-ghost use Prim.Native.Nat.{ℕ, _+_, _-_, _*_, _≤_, _<_, min};
-ghost use lib.ListN.{length, drop};
-ghost use lib.Seq.{slice};
-ghost use Rattle.decimal.specs.Decimal.{isDigit, valueOf};
-ghost use Rattle.decimal.specs.Reading.{cap, run, numberAt};
+ghost use Prim.Native.Nat.{ℕ, _+_, _-_, _*_, _≤_, min};
+ghost use Rattle.decimal.specs.Decimal.{isDigit};
+ghost use Rattle.decimal.specs.Reading.{cap, digitsAt, numberAt};
 
 // Every value from this on reads as this.
 const CAP: u64 = 10_000_000_000;
@@ -13,6 +11,12 @@ const CAP: u64 = 10_000_000_000;
 pub enum Number {
     Malformed,
     Value { value: u64, next: usize },
+}
+
+// Digits at a place of a text: their value, or the cap, and the place after them.
+struct DigitsRead {
+    value: u64,
+    end: usize,
 }
 
 // Whether the byte b is a digit.
@@ -48,55 +52,39 @@ fn with_digit(v: u64, b: u8) -> u64
     CAP
 }
 
-// The place after the digits that stand at `at`.
-fn digits_end(s: &[u8], at: usize) -> usize
-    ensures { λ r. ⌜ r ≡ at + length (run (drop at (now (s .entry)))) ⌝ }
+// The digits that stand at the place `at` of a text.
+fn read_digits(s: &[u8], at: usize) -> DigitsRead
+    ensures { λ r. ⌜ r ≡ digitsAt (now (s .entry)) at ⌝ }
 {
+    let mut value: u64 = 0;
     let mut i = at;
     while i < s.len() {
-        if is_digit(s[i]) {
+        let b = s[i];
+        if is_digit(b) {
+            value = with_digit(value, b);
             i += 1;
         } else {
-            return i;
+            return DigitsRead { value, end: i };
         }
     }
-    i
-}
-
-// The value of the digits from `from` to `to`, or the cap.
-fn value_of(s: &[u8], from: usize, to: usize) -> u64
-    requires { ⌜ (from ≤ to) × (to ≤ length (now s)) ⌝ }
-    ensures { λ r. ⌜ r ≡ min cap (valueOf 0 (slice from to (now (s .entry)))) ⌝ }
-{
-    let mut v: u64 = 0;
-    let mut i = from;
-    while i < to {
-        v = with_digit(v, s[i]);
-        i += 1;
-    }
-    v
+    DigitsRead { value, end: i }
 }
 
 // The number that starts at the place `at` of a text.
 pub fn read_number(s: &[u8], at: usize) -> Number
     ensures { λ r. ⌜ r ≡ numberAt (now (s .entry)) at ⌝ }
 {
-    let end = digits_end(s, at);
+    let digits = read_digits(s, at);
+    let value = digits.value;
+    let end = digits.end;
     if end == at {
         return Number::Malformed;
     }
-    let v = value_of(s, at, end);
     if at + 1 < end {
         if s[at] == 48 {
             return Number::Malformed;
         }
-        return Number::Value {
-            value: v,
-            next: end,
-        };
+        return Number::Value { value, next: end };
     }
-    Number::Value {
-        value: v,
-        next: end,
-    }
+    Number::Value { value, next: end }
 }

@@ -3,7 +3,9 @@ pub mod Rows
 pub mod Units
 pub mod Shapes
 pub mod Search
+pub mod Counts
 pub mod Sums
+pub mod Capacities
 pub mod Shortage
 pub mod Tests
 pub mod Switch

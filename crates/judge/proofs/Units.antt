@@ -24,6 +24,10 @@ module _ (p : Problem) (l : List ℕ) (F : Fitting p l) where
   unfolding view
   periods-most = F .valid .well-formed .periods-in .1
 
+  pub periods-least : 1 ≤ p .periods
+  unfolding view
+  periods-least = F .valid .well-formed .periods-in .0
+
   pub units-most : p .units ≤ 32
   units-most = F .valid .units-fit
 

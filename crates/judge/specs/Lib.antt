@@ -3,3 +3,5 @@ pub mod Rows
 pub mod Before
 pub mod Walk
 pub mod Judgement
+pub mod Counts
+pub mod Capacities

@@ -1,9 +1,14 @@
 // 21: an output from pL to pU, by (4).
 ghost use mathlib.Core.Path.{_≡_};
-ghost use Prim.Native.Nat.{ℕ, _<_};
+ghost use mathlib.Core.Bool.{not, _&&_};
+ghost use Prim.Native.Nat.{ℕ, _<_, _≤_};
+ghost use lib.Dec.{leb};
 ghost use lib.ListN.{length};
 ghost use Rattle.model.specs.Held.{view};
+ghost use Rattle.model.specs.Ranges.{InRange};
+ghost use Rattle.model.specs.Rules.{on};
 ghost use Rattle.model.specs.Breach.{off-limits, place21};
+ghost use Rattle.judge.specs.Counts.{bit, breaches, all-breaches};
 ghost use Rattle.judge.specs.Judgement.{found};
 ghost use Rattle.judge.specs.Rows.{schedule-of, Fitting};
 use crate::place::Found;
@@ -28,8 +33,55 @@ fn is_off_limits(g: Generator, row: &[u16], t: usize) -> bool
     high < p
 }
 
-// The first period, and in it the first unit, with an output off its limits.
-pub fn find_off_limits(problem: Problem, rows: &[u16]) -> Found
+// 1 if the output is above 0 and not from low to high, else 0.
+fn count_off(low: u16, high: u16, output: u16) -> u16
+    ensures { λ r. ⌜ r ≡ bit (on output && not (leb low output && leb output high)) ⌝ }
+{
+    if output == 0 {
+        return 0;
+    }
+    if output < low {
+        return 1;
+    }
+    if high < output {
+        return 1;
+    }
+    0
+}
+
+// In how many periods the row's output is off its limits.
+fn count_off_limits(g: Generator, row: &[u16]) -> u16
+    requires { ⌜ InRange g × (length (now row) ≤ 48) ⌝ }
+    ensures { λ r. ⌜ r ≡ breaches off-limits g (now (row .entry)) (length (now (row .entry))) ⌝ }
+{
+    let low = g.pL as u16;
+    let high = g.pU as u16;
+    let mut n: u16 = 0;
+    for t in 0..row.len() {
+        n += count_off(low, high, row[t]);
+    }
+    n
+}
+
+// How many outputs of all units are off their limits.
+fn count_all_off_limits(problem: Problem, rows: &[u16]) -> u16
+    requires { ⌜ Fitting problem (now rows) ⌝ }
+    ensures { λ r. ⌜ r ≡ all-breaches off-limits problem (now (rows .entry)) (problem .units) ⌝ }
+{
+    let periods = problem.periods;
+    let units = problem.units;
+    let mut n: u16 = 0;
+    for u in 0..units {
+        let g = problem.generators[u];
+        let from = u * periods;
+        let to = from + periods;
+        n += count_off_limits(g, &rows[from..to]);
+    }
+    n
+}
+
+// The first period, and in it the first unit, with an output off its limits, sought place by place.
+fn search_off_limits(problem: Problem, rows: &[u16]) -> Found
     requires { ⌜ Fitting problem (now rows) ⌝ }
     ensures { λ r. ⌜ r ≡ found (place21 (view problem) (schedule-of problem (now (rows .entry)))) ⌝ }
 {
@@ -51,4 +103,15 @@ pub fn find_off_limits(problem: Problem, rows: &[u16]) -> Found
         }
     }
     first
+}
+
+// The first period, and in it the first unit, with an output off its limits.
+pub fn find_off_limits(problem: Problem, rows: &[u16]) -> Found
+    requires { ⌜ Fitting problem (now rows) ⌝ }
+    ensures { λ r. ⌜ r ≡ found (place21 (view problem) (schedule-of problem (now (rows .entry)))) ⌝ }
+{
+    if count_all_off_limits(problem, rows) == 0 {
+        return Found::Nothing;
+    }
+    search_off_limits(problem, rows)
 }

@@ -2,10 +2,11 @@
 ghost use mathlib.Core.Path.{_≡_};
 ghost use Prim.Native.Nat.{ℕ, _<_};
 ghost use Rattle.model.specs.Held.{view};
-ghost use Rattle.model.specs.Rules.{output, capacity, if-on, on};
+ghost use Rattle.model.specs.Rules.{output, if-on, on};
 ghost use Rattle.model.specs.Breach.{place22, place23};
 ghost use Rattle.judge.specs.Judgement.{found};
 ghost use Rattle.judge.specs.Rows.{schedule-of, Fitting};
+ghost use Rattle.judge.specs.Capacities.{capacities, Standing, capacity-in};
 use crate::place::Found;
 use crate::place::Place;
 use model::arrays::Problem;
@@ -36,19 +37,27 @@ fn count_if_on(capacity: u64, output: u16) -> u64
     capacity
 }
 
-// The pU of the units that are on in period t.
-fn sum_capacities(problem: Problem, rows: &[u16], t: usize) -> u64
-    requires { ⌜ Fitting problem (now rows) ⌝ }
-    requires { ⌜ t < problem .periods ⌝ }
-    ensures { λ r. ⌜ r ≡ capacity (view problem) (schedule-of problem (now (rows .entry))) t ⌝ }
+// The pU of every unit.
+fn list_capacities(problem: Problem) -> [u64; 32]
+    ensures { λ r. ⌜ r ≡ capacities problem ⌝ }
 {
-    let periods = problem.periods;
-    let units = problem.units;
-    let mut total = 0;
-    for u in 0..units {
+    let mut capacities = [0u64; 32];
+    for u in 0..32 {
         let g = problem.generators[u];
+        capacities[u] = g.pU;
+    }
+    capacities
+}
+
+// The pU of the units that are on in period t, in rows of so many periods.
+fn sum_capacities(capacities: &[u64], periods: usize, rows: &[u16], t: usize) -> u64
+    requires { ⌜ Standing (now capacities) periods (now rows) × (t < periods) ⌝ }
+    ensures { λ r. ⌜ r ≡ capacity-in (now (capacities .entry)) periods (now (rows .entry)) t ⌝ }
+{
+    let mut total = 0;
+    for u in 0..capacities.len() {
         let from = u * periods;
-        total += count_if_on(g.pU, rows[from + t]);
+        total += count_if_on(capacities[u], rows[from + t]);
     }
     total
 }
@@ -77,10 +86,12 @@ pub fn find_unmet_spare(problem: Problem, rows: &[u16]) -> Found
     ensures { λ r. ⌜ r ≡ found (place23 (view problem) (schedule-of problem (now (rows .entry)))) ⌝ }
 {
     let periods = problem.periods;
+    let units = problem.units;
+    let capacities = list_capacities(problem);
     for t in 0..periods {
         let demand = problem.demand[t];
         let spare = problem.spare[t];
-        if sum_capacities(problem, rows, t) < demand + spare {
+        if sum_capacities(&capacities[..units], periods, rows, t) < demand + spare {
             return Found::At(Place {
                 unit: 0,
                 period: t + 1,

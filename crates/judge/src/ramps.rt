@@ -1,10 +1,14 @@
 // 25: ramps, by (11) and (12).
 ghost use mathlib.Core.Path.{_≡_};
-ghost use Prim.Native.Nat.{ℕ, _<_};
+ghost use mathlib.Core.Bool.{not, _&&_};
+ghost use Prim.Native.Nat.{ℕ, _+_, _<_, _≤_};
+ghost use lib.Dec.{leb};
 ghost use lib.ListN.{length};
 ghost use Rattle.model.specs.Held.{view};
-ghost use Rattle.model.specs.Ranges.{InRange};
+ghost use Rattle.model.specs.Ranges.{InRange, All, GoodOutput};
+ghost use Rattle.model.specs.Rules.{on};
 ghost use Rattle.model.specs.Breach.{off-ramp, place25};
+ghost use Rattle.judge.specs.Counts.{bit, breaches, all-breaches};
 ghost use Rattle.judge.specs.Judgement.{found};
 ghost use Rattle.judge.specs.Rows.{schedule-of, Fitting};
 use crate::place::Found;
@@ -36,8 +40,59 @@ fn is_off_ramp(g: Generator, row: &[u16], t: usize) -> bool
     after + down < before
 }
 
-// The first period, and in it the first unit, whose output leaves its ramp.
-pub fn find_off_ramp(problem: Problem, rows: &[u16]) -> Found
+// 1 if the output and the one before it are above 0 and it rises by more than up or falls by more than down, else 0.
+fn count_steep(up: u16, down: u16, previous: u16, output: u16) -> u16
+    requires { ⌜ (up ≤ 10000) × ((down ≤ 10000) × ((previous ≤ 10000) × (output ≤ 10000))) ⌝ }
+    ensures { λ r. ⌜ r ≡ bit ((on previous && on output) && not (leb output (previous + up) && leb previous (output + down))) ⌝ }
+{
+    if previous == 0 {
+        return 0;
+    }
+    if output == 0 {
+        return 0;
+    }
+    if previous + up < output {
+        return 1;
+    }
+    if output + down < previous {
+        return 1;
+    }
+    0
+}
+
+// In how many periods the row's output leaves its ramp.
+fn count_off_ramp(g: Generator, row: &[u16]) -> u16
+    requires { ⌜ InRange g × (length (now row) ≤ 48) × (1 ≤ length (now row)) × All GoodOutput (now row) ⌝ }
+    ensures { λ r. ⌜ r ≡ breaches off-ramp g (now (row .entry)) (length (now (row .entry))) ⌝ }
+{
+    let up = g.UR as u16;
+    let down = g.DR as u16;
+    let mut n: u16 = 0;
+    for t in 1..row.len() {
+        n += count_steep(up, down, row[t - 1], row[t]);
+    }
+    n
+}
+
+// How many outputs of all units leave their ramps.
+fn count_all_off_ramp(problem: Problem, rows: &[u16]) -> u16
+    requires { ⌜ Fitting problem (now rows) ⌝ }
+    ensures { λ r. ⌜ r ≡ all-breaches off-ramp problem (now (rows .entry)) (problem .units) ⌝ }
+{
+    let periods = problem.periods;
+    let units = problem.units;
+    let mut n: u16 = 0;
+    for u in 0..units {
+        let g = problem.generators[u];
+        let from = u * periods;
+        let to = from + periods;
+        n += count_off_ramp(g, &rows[from..to]);
+    }
+    n
+}
+
+// The first period, and in it the first unit, whose output leaves its ramp, sought place by place.
+fn search_off_ramp(problem: Problem, rows: &[u16]) -> Found
     requires { ⌜ Fitting problem (now rows) ⌝ }
     ensures { λ r. ⌜ r ≡ found (place25 (view problem) (schedule-of problem (now (rows .entry)))) ⌝ }
 {
@@ -59,4 +114,15 @@ pub fn find_off_ramp(problem: Problem, rows: &[u16]) -> Found
         }
     }
     first
+}
+
+// The first period, and in it the first unit, whose output leaves its ramp.
+pub fn find_off_ramp(problem: Problem, rows: &[u16]) -> Found
+    requires { ⌜ Fitting problem (now rows) ⌝ }
+    ensures { λ r. ⌜ r ≡ found (place25 (view problem) (schedule-of problem (now (rows .entry)))) ⌝ }
+{
+    if count_all_off_ramp(problem, rows) == 0 {
+        return Found::Nothing;
+    }
+    search_off_ramp(problem, rows)
 }

@@ -83,8 +83,7 @@ fn read_from_runs(problem: Problem, text: &[u8], at: usize, writer: u64) -> Sche
             }
             Verdict::Good { next } => {
                 let values = row.values;
-                let filled = rows::store_row(rows, k * periods, periods, values);
-                rows = filled;
+                rows::store_row(&mut rows, k * periods, periods, values);
                 i = next;
                 k += 1;
             }

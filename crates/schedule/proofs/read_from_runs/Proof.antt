@@ -13,15 +13,16 @@ use Rattle.schedule.specs.Rendering.{run-key}
 use Rattle.schedule.specs.Course.{written, runs-due, run-form}
 use Rattle.schedule.specs.Storing.{read-from}
 use Rattle.schedule.proofs.Runs.{outputs-in, rows-fit, Reading, reading-none, reading-done, reading-filled, reading-stopped, reading-more}
+use Rattle.schedule.proofs.Filling.{filled-length}
 use Rattle.schedule.proofs.read_from_runs.Statement.{statement}
 use Rattle.schedule.proofs.read_from_runs.Tie as tie
 
 abbrev Inv-loop : tie.InvT-loop
-Inv-loop problem text at writer units periods rows₀ i₀ k₀ t16 rows i k =
+Inv-loop problem text at writer units periods rows₀ i₀ k₀ t15 rows i k =
     Reading (view problem) text periods writer units (read-from (view problem) text at 3 (runs-due units (written writer []))) rows i k
 
 abbrev μ-loop : tie.MeasureT-loop
-μ-loop problem text at writer units periods rows₀ i₀ k₀ t16 rows i k = units - k
+μ-loop problem text at writer units periods rows₀ i₀ k₀ t15 rows i k = units - k
 
 loop-holds : tie.Need-loop-holds Inv-loop μ-loop
 loop-holds c = reading-none refl
@@ -78,14 +79,21 @@ room c =
 
 mul-store-row : tie.Need-mul-store-row Inv-loop μ-loop
 mul-store-row c =
-    let s = c .before .before .before .before .before .before .before .before .before in
-    omega (arith, room c, s .pre .units-fit)
+    let s = c .before .before .before .before .before .before .before .before .before .before in
+    omega (arith, room (c .before), s .pre .units-fit)
 
 store-row-requires : tie.Need-store-row-requires Inv-loop μ-loop
 unfolding view
 store-row-requires c κs =
-    let s = c .before .before .before .before .before .before .before .before .before in
-    (s .pre .well-formed .periods-in .1, (omega (arith, room c, s .pre .units-fit, s .pre .well-formed .periods-in .1), outputs-in (good-row c)))
+    let s = c .before .before .before .before .before .before .before .before .before .before in
+    let l = c .before .before .before .before .before .before .before .before .loop in
+    let most = rows-fit (s .args .problem) (s .pre) (l .k) (l .inv .some-left) in (
+      s .pre .well-formed .periods-in .1,
+      (
+        omega (arith, room (c .before), s .pre .units-fit, s .pre .well-formed .periods-in .1),
+        (filled-length (l .k) _ _ (l .inv .filled) most, outputs-in (good-row (c .before))),
+      ),
+    )
 
 add-k : tie.Need-add-k Inv-loop μ-loop
 add-k c = search needs
@@ -96,11 +104,12 @@ loop-less c = omega arith
 loop-again : tie.Need-loop-again Inv-loop μ-loop
 unfolding view
 loop-again c =
-    let s = c .before .before .before .before .before .before .before .before .before .before in
-    let l = c .before .before .before .before .before .before .before .before .loop in
-    let row = c .before .before .before .before .before .read-row in
+    let v = c .before .before in
+    let s = v .before .before .before .before .before .before .before .before .before in
+    let l = v .before .before .before .before .before .before .before .loop in
+    let row = v .before .before .before .before .read-row in
     let values : length (row .result .values) ≡ 48 = search needs in
-    reading-more (l .inv) refl (c .before .before .before .before .before .before .before .loop-test .taken) (good-row (c .before)) (room (c .before))
+    reading-more (l .inv) refl (v .before .before .before .before .before .before .loop-test .taken) (good-row v) (room v)
     (omega (arith, s .pre .well-formed .periods-in .1)) (c .store-row .ensures)
 
 read-from-end-requires : tie.Need-read-from-end-requires Inv-loop μ-loop
