@@ -28,7 +28,7 @@ mkdir -p "$scratch/crates/bench_list"
   mkdir -p "$scratch/crates/bench_list/$(dirname "$file")"
   cp "bench/lodge_list/$file" "$scratch/crates/bench_list/${file%.in}"
 done
-echo 'bench_list: model decimal text refusal problem judge schedule tree answer docket' >>"$scratch/crates.txt"
+echo 'bench_list: model decimal text refusal problem judge schedule tree answer pieces docket' >>"$scratch/crates.txt"
 (cd "$scratch" && rt staticlib bench_list >"$root/target/bench/staticlib.log" 2>&1) || { tail "$root/target/bench/staticlib.log"; exit 1; }
 echo "the proved library is built"
 
