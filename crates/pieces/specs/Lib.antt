@@ -1,2 +1,3 @@
+pub mod Breaks
 pub mod Pieces
 pub mod Cut
