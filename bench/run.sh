@@ -2,8 +2,8 @@
 # run.sh [RUNS] [NAME..]: times the proved docket against its peer on the same inputs, in one process, and prints the best of RUNS
 # runs (20). With names, only the inputs whose name has one of them.
 #
-# The proved side is a static library around `Docket::lodge`: bench/lodge_list, proved and built in target/bench, apart from the
-# repository's own crates (rt allows no Rattle file outside crates/, so its files here end in .in).
+# The proved side is a static library around `docket::listing::list` and `Docket::lodge`: bench/lodge_list, proved and built in
+# target/bench, apart from the repository's own crates (rt allows no Rattle file outside crates/, so its files here end in .in).
 set -eu
 cd "$(dirname "$0")/.."
 root=$PWD

@@ -1,16 +1,17 @@
-//! What is timed: each case is a list of texts and the code of its last answer.
+//! The cases: each is a list of texts and its last answer.
 use crate::inputs::*;
 
 pub struct Case {
     pub name: &'static str,
     pub input: String,
-    pub last: u64,
+    pub last: Last,
 }
 
-const TREE_HELD: u64 = 4;
-const SCHEDULE_PASSED: u64 = 3;
-const REFUSED_BY_12: u64 = 12;
-const REFUSED_BY_13: u64 = 13;
+pub enum Last {
+    TreeHeld,
+    SchedulePassed,
+    Refused(u64),
+}
 
 /// The afternoon peak: 60 price leaves on 32 units and 48 periods, with dear multipliers.
 fn peak(name: &'static str, times: Times, off: bool) -> Case {
@@ -20,7 +21,7 @@ fn peak(name: &'static str, times: Times, off: bool) -> Case {
     Case {
         name,
         input: problem + &tree,
-        last: TREE_HELD,
+        last: Last::TreeHeld,
     }
 }
 
@@ -41,7 +42,7 @@ fn prices(name: &'static str, limit: usize, times: Times, off: bool) -> Case {
     Case {
         name,
         input: problem + &tree,
-        last: TREE_HELD,
+        last: Last::TreeHeld,
     }
 }
 
@@ -55,12 +56,12 @@ fn lines(name: &'static str, limit: usize, leaf: &'static str) -> Case {
     Case {
         name,
         input: problem + &tree,
-        last: TREE_HELD,
+        last: Last::TreeHeld,
     }
 }
 
-/// Ten schedules of 32 rows of 48 outputs, all accepted: a unit is off for 12 periods of 48.
-fn schedules(name: &'static str) -> Case {
+/// So many schedules of 32 rows of 48 outputs, all accepted: a unit is off for 12 periods of 48.
+fn schedules(name: &'static str, many: usize) -> Case {
     let mut r = Random::new();
     let problem = problem(&mut r, USUAL, 1_000, 100, false);
     let one = schedule(|u, t| {
@@ -72,8 +73,8 @@ fn schedules(name: &'static str) -> Case {
     });
     Case {
         name,
-        input: problem + &one.repeat(10),
-        last: SCHEDULE_PASSED,
+        input: problem + &one.repeat(many),
+        last: Last::SchedulePassed,
     }
 }
 
@@ -83,7 +84,7 @@ fn damaged(name: &'static str, case: Case) -> Case {
     Case {
         name,
         input,
-        last: REFUSED_BY_12,
+        last: Last::Refused(12),
     }
 }
 
@@ -96,7 +97,7 @@ fn numeral(name: &'static str) -> Case {
     Case {
         name,
         input: problem + &tree,
-        last: REFUSED_BY_13,
+        last: Last::Refused(13),
     }
 }
 
@@ -105,7 +106,7 @@ fn pieces(name: &'static str) -> Case {
     Case {
         name,
         input: "end=\n".repeat(LISTING_LIMIT / 5),
-        last: REFUSED_BY_12,
+        last: Last::Refused(12),
     }
 }
 
@@ -121,6 +122,7 @@ pub fn all() -> Vec<Case> {
         lines("65,536: stuck leaves", LISTING_LIMIT, "stuck=1\n"),
         lines("65,536: short leaves", LISTING_LIMIT, "short=1\n"),
         pieces("65,536: nothing but end="),
+        schedules("nine schedules of 32 x 48", 9),
         prices("1,048,576: price leaves", TEXT_LIMIT, MOST, true),
         prices("1,048,576: the same, TD 1", TEXT_LIMIT, MOST_STARTS, true),
         lines("1,048,576: stuck leaves", TEXT_LIMIT, "stuck=1\n"),
@@ -130,6 +132,6 @@ pub fn all() -> Vec<Case> {
             prices("", TEXT_LIMIT - 1, MOST_STARTS, true),
         ),
         numeral("1,048,576: one numeral"),
-        schedules("ten schedules of 32 x 48"),
+        schedules("ten schedules of 32 x 48", 10),
     ]
 }

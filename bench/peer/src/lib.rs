@@ -9,6 +9,7 @@ mod judge;
 mod least;
 mod lines;
 mod listing;
+mod page;
 mod problem;
 mod tree;
 

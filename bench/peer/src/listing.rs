@@ -1,11 +1,13 @@
 //! A list of texts: cut after each line that begins end=, and lodged in turn in one docket.
 use crate::docket::{Answer, Docket};
-use std::io::Write;
+use crate::page::Page;
+use crate::tree::Figures;
 
 /// What stands for the bound never in the numbers of a list's answers.
 pub const BOUND_OF_NEVER: i64 = 9_000_000_000_000_000_000;
 
 const MOST_INPUT: usize = 65_536;
+const LEAST_OUTPUT: usize = 1_048_576;
 
 /// The place after the line that starts at `at`.
 fn line_end(text: &[u8], at: usize) -> usize {
@@ -58,79 +60,100 @@ pub fn lodge_list<const ALL: bool>(input: &[u8], out: &mut [u64], bounds: &mut [
     k
 }
 
-/// Writes an answer line.
-fn write_answer(out: &mut Vec<u8>, answer: Answer) -> std::io::Result<()> {
-    match answer {
-        Answer::Refused(r) => writeln!(
-            out,
-            "answer=refused,{},{},{},{}",
-            r.number, r.line, r.unit, r.period
-        ),
-        Answer::ProblemHeld => writeln!(out, "answer=held"),
-        Answer::ScheduleHeld(cost) => writeln!(out, "answer=held,{cost}"),
-        Answer::SchedulePassed(cost) => writeln!(out, "answer=passed,{cost}"),
-        Answer::TreeHeld(f) => writeln!(
-            out,
-            "answer=held,{},{},{}",
-            shown(f.bound),
-            f.splits,
-            f.leaves
-        ),
-        Answer::TreePassed(f) => writeln!(
-            out,
-            "answer=passed,{},{},{}",
-            shown(f.bound),
-            f.splits,
-            f.leaves
-        ),
+/// The listing of an input, an answer for each piece and the report, at the front of the output: its length, 0 where the output is too
+/// small.
+pub fn listing<const ALL: bool>(input: &[u8], output: &mut [u8]) -> usize {
+    if output.len() < LEAST_OUTPUT {
+        return 0;
     }
-}
-
-fn shown(bound: Option<i64>) -> String {
-    bound.map_or("never".into(), |v| v.to_string())
-}
-
-/// The listing of an input: an answer for each piece, and the report.
-pub fn listing(input: &[u8], out: &mut Vec<u8>) -> std::io::Result<()> {
-    let mut docket: Docket = Docket::default();
+    let mut docket = Docket::<ALL>::default();
+    let mut page = Page::new(output);
     if input.len() > MOST_INPUT {
-        writeln!(out, "answer=refused,11,0,0,0")?;
-        return write_report(out, &docket);
+        page.put(b"answer=refused,11,0,0,0\n");
+        return put_report(page, &docket);
     }
     let mut at = 0;
     while at < input.len() {
         let end = piece_end(input, at);
-        write_answer(out, docket.lodge(&input[at..end]))?;
+        put_answer(&mut page, docket.lodge(&input[at..end]));
         at = end;
     }
-    write_report(out, &docket)
+    put_report(page, &docket)
 }
 
-fn write_report(out: &mut Vec<u8>, docket: &Docket) -> std::io::Result<()> {
-    let none = || "none".to_string();
-    let cost = docket.cost.map(|held| held.figure);
-    let bound = docket.bound.map(|held| held.figure);
-    let gap = match (cost, bound) {
-        (Some(cost), Some(Some(bound))) => (cost as i64 - bound).to_string(),
-        _ => none(),
-    };
-    writeln!(out, "kind=report")?;
-    writeln!(out, "cost={}", cost.map_or_else(none, |v| v.to_string()))?;
-    writeln!(
-        out,
-        "costwriter={}",
-        docket
-            .cost
-            .map_or_else(none, |held| held.writer.to_string())
-    )?;
-    writeln!(out, "bound={}", bound.map_or_else(none, shown))?;
-    writeln!(
-        out,
-        "boundwriter={}",
-        docket
-            .bound
-            .map_or_else(none, |held| held.writer.to_string())
-    )?;
-    writeln!(out, "gap={gap}")?;
-    writeln!(out, "end=report")
+fn put_answer(page: &mut Page, answer: Answer) {
+    match answer {
+        Answer::Refused(r) => {
+            page.put(b"answer=refused,");
+            page.put_number(r.number);
+            page.put(b",");
+            page.put_number(r.line as u64);
+            page.put(b",");
+            page.put_number(r.unit as u64);
+            page.put(b",");
+            page.put_number(r.period as u64);
+        }
+        Answer::ProblemHeld => page.put(b"answer=held"),
+        Answer::ScheduleHeld(cost) => {
+            page.put(b"answer=held,");
+            page.put_number(cost);
+        }
+        Answer::SchedulePassed(cost) => {
+            page.put(b"answer=passed,");
+            page.put_number(cost);
+        }
+        Answer::TreeHeld(figures) => {
+            page.put(b"answer=held,");
+            put_figures(page, figures);
+        }
+        Answer::TreePassed(figures) => {
+            page.put(b"answer=passed,");
+            put_figures(page, figures);
+        }
+    }
+    page.put(b"\n");
+}
+
+fn put_figures(page: &mut Page, figures: Figures) {
+    put_bound(page, figures.bound);
+    page.put(b",");
+    page.put_number(figures.splits);
+    page.put(b",");
+    page.put_number(figures.leaves);
+}
+
+fn put_bound(page: &mut Page, bound: Option<i64>) {
+    match bound {
+        None => page.put(b"never"),
+        Some(v) => page.put_signed(v),
+    }
+}
+
+/// Puts a report and gives how many bytes are put in all.
+fn put_report<const ALL: bool>(mut page: Page, docket: &Docket<ALL>) -> usize {
+    page.put(b"kind=report\ncost=");
+    match docket.cost {
+        None => page.put(b"none\ncostwriter=none"),
+        Some(held) => {
+            page.put_number(held.figure);
+            page.put(b"\ncostwriter=");
+            page.put_number(held.writer);
+        }
+    }
+    page.put(b"\nbound=");
+    match docket.bound {
+        None => page.put(b"none\nboundwriter=none"),
+        Some(held) => {
+            put_bound(&mut page, held.figure);
+            page.put(b"\nboundwriter=");
+            page.put_number(held.writer);
+        }
+    }
+    page.put(b"\ngap=");
+    match (docket.cost, docket.bound.and_then(|held| held.figure)) {
+        (Some(held), Some(bound)) => page.put_signed(held.figure as i64 - bound),
+        _ => page.put(b"none"),
+    }
+    page.put(b"\nend=report\n");
+    page.len()
 }

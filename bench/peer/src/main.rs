@@ -7,7 +7,7 @@ fn main() -> std::io::Result<()> {
         .lock()
         .take(65_537)
         .read_to_end(&mut input)?;
-    let mut out = Vec::new();
-    peer::listing(&input, &mut out)?;
-    std::io::stdout().write_all(&out)
+    let mut output = vec![0; 1_048_576];
+    let written = peer::listing::<false>(&input, &mut output);
+    std::io::stdout().write_all(&output[..written])
 }
