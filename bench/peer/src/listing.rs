@@ -9,10 +9,21 @@ pub const BOUND_OF_NEVER: i64 = 9_000_000_000_000_000_000;
 const MOST_INPUT: usize = 65_536;
 const LEAST_OUTPUT: usize = 1_048_576;
 
+/// How many bytes are compared at once.
+const PART: usize = 32;
+
 /// The place after the line that starts at `at`.
 fn line_end(text: &[u8], at: usize) -> usize {
-    match text[at..].iter().position(|b| *b == b'\n') {
-        Some(n) => at + n + 1,
+    let mut i = at;
+    for part in text[at..].chunks_exact(PART) {
+        let breaks: u8 = part.iter().map(|b| (*b == b'\n') as u8).sum();
+        if breaks != 0 {
+            break;
+        }
+        i += PART;
+    }
+    match text[i..].iter().position(|b| *b == b'\n') {
+        Some(n) => i + n + 1,
         None => text.len(),
     }
 }
