@@ -1,6 +1,6 @@
 -- Lodging, by what the readers give: an admitted text is of its kind, what lodging does with its verdict is what is done with its reader's answer, and
--- it is done over the docket where that is sound and else over a fresh one.
-use mathlib.Core.Path.{_≡_, refl, _∙_}
+-- a schedule or a tree is admitted only under a known problem, so that what is done with it is done over the docket itself.
+use mathlib.Core.Path.{_≡_, refl, sym, ap, _∙_}
 use mathlib.Core.Bool.{Bool, true, false, _&&_}
 use mathlib.Core.List.{List}
 use Prim.Native.Nat.{ℕ, _≤_, _<_}
@@ -29,9 +29,9 @@ use Rattle.docket.specs.declared.Docket.{Docket}
 use Rattle.docket.specs.declared.admission.Admission.{Admission}
 use Rattle.docket.specs.declared.admission.Admission.the-variants as admission
 use Rattle.answer.specs.declared.Answer.the-variants.{Refused}
-use Rattle.docket.specs.Docket.{fresh-docket, valid-problem, sound}
+use Rattle.docket.specs.Docket.{fresh-docket, valid-problem, sound-by, sound}
 use Rattle.docket.specs.Texts.{Short}
-use Rattle.docket.specs.Lodging.{pick, refuse-whole, admit-kind, admit, by-problem, by-schedule, by-tree, by-lines, judged, lodged, hold, lodge-of}
+use Rattle.docket.specs.Lodging.{pick, refuse-whole, admit-kind, admit, by-problem, by-schedule, by-tree, by-lines, judged, lodged, hold, trusted, lodge-of}
 use Rattle.docket.specs.Following.{hold-problem, hold-schedule, hold-tree}
 
 -- ---- admitted
@@ -104,21 +104,20 @@ module _ (known : Bool) (text : List ℕ) where
 
 -- ---- what is done with the answers
 
-module _ (was d : Docket) (text : List ℕ) where
-  pub problem-held : hold was d (by-problem (problem-judged text)) ≡ hold-problem was (problem-read text .answer) (problem-read text .problem)
+module _ (d : Docket) (text : List ℕ) where
+  pub problem-held : (e : Docket) → hold d e (by-problem (problem-judged text)) ≡ hold-problem d (problem-read text .answer) (problem-read text .problem)
   unfolding problem-read problems.read-as
-  problem-held = go (problem-judged text)
+  problem-held e = go (problem-judged text)
     where
-      go : (j : Judged Instance) → hold was d (by-problem j) ≡ hold-problem was (problems.read-as j .answer) (problems.read-as j .problem)
+      go : (j : Judged Instance) → hold d e (by-problem j) ≡ hold-problem d (problems.read-as j .answer) (problems.read-as j .problem)
       go (refused-at n l) = refl
       go (accepted P) = refl
 
-  pub schedule-held : (P : Instance)
-      → hold was d (by-schedule (schedule-outcome P text)) ≡ hold-schedule was d (schedule-read P text .answer) (schedule-read P text .rows)
+  pub schedule-held : (P : Instance) → hold d d (by-schedule (schedule-outcome P text)) ≡ hold-schedule d (schedule-read P text .answer) (schedule-read P text .rows)
   unfolding schedule-read in-arrays
   schedule-held P = go (schedule-outcome P text)
     where
-      go : (j : Outcome) → hold was d (by-schedule j) ≡ hold-schedule was d (in-arrays j .answer) (in-arrays j .rows)
+      go : (j : Outcome) → hold d d (by-schedule j) ≡ hold-schedule d (in-arrays j .answer) (in-arrays j .rows)
       go (refused-by r) = refl
       go (accepted-as w c s) = refl
 
@@ -126,34 +125,13 @@ module _ (was d : Docket) (text : List ℕ) where
   coded-back never = refl
   coded-back (number z) = refl
 
-  pub tree-held : (P : Instance) → hold was d (by-tree (trees.judged P text)) ≡ hold-tree was d (tree-read P text)
+  pub tree-held : (P : Instance) → hold d d (by-tree (trees.judged P text)) ≡ hold-tree d (tree-read P text)
   unfolding tree-read tree-reading.read-as
   tree-held P = go (trees.judged P text)
     where
-      go : (j : Judged Figures) → hold was d (by-tree j) ≡ hold-tree was d (tree-reading.read-as j)
+      go : (j : Judged Figures) → hold d d (by-tree j) ≡ hold-tree d (tree-reading.read-as j)
       go (refused-at n l) = refl
       go (accepted F) = rw (coded-back (F .bound)) refl
-
--- ---- by the admission
-
-module _ (was d : Docket) (known : Bool) (P : Instance) (text : List ℕ) where
-  by-admission : (a : Admission) → admit known text ≡ a → hold was d (judged known P text) ≡ hold was d (by-lines a P text)
-  unfolding judged
-  by-admission a e = rw e refl
-
-  pub refused-lodged : (r : Refusal) → admit known text ≡ admission.Refused r → hold was d (judged known P text) ≡ lodged was (Refused r)
-  refused-lodged r e = by-admission (admission.Refused r) e
-
-  pub problem-lodged : admit known text ≡ admission.Problem
-      → hold was d (judged known P text) ≡ hold-problem was (problem-read text .answer) (problem-read text .problem)
-  problem-lodged e = by-admission admission.Problem e ∙ problem-held was d text
-
-  pub schedule-lodged : admit known text ≡ admission.Schedule
-      → hold was d (judged known P text) ≡ hold-schedule was d (schedule-read P text .answer) (schedule-read P text .rows)
-  schedule-lodged e = by-admission admission.Schedule e ∙ schedule-held was d text P
-
-  pub tree-lodged : admit known text ≡ admission.Tree → hold was d (judged known P text) ≡ hold-tree was d (tree-read P text)
-  tree-lodged e = by-admission admission.Tree e ∙ tree-held was d text P
 
 -- ---- sound or not
 
@@ -179,3 +157,64 @@ pub lodge-unsound : (d : Docket) (text : List ℕ) → sound d ≡ false
     → lodge-of d text ≡ hold d fresh-docket (judged false (view (fresh-docket .problem)) text)
 unfolding lodge-of
 lodge-unsound d text e = rw e refl
+
+-- ---- what is known: a problem, by a docket that is sound and so is taken for itself
+
+module _ (d : Docket) where
+  pub knows-if : d .known ≡ true → trusted d .known ≡ sound-by true (d .problem) (d .held)
+  unfolding sound
+  knows-if k = go (sound d) ∙ ap (λ (b : Bool). sound-by b (d .problem) (d .held)) k
+    where
+      go : (s : Bool) → pick s d fresh-docket .known ≡ s
+      go true = k
+      go false = refl
+
+  pub knows-none : d .known ≡ false → trusted d .known ≡ false
+  knows-none k = go (sound d)
+    where
+      go : (s : Bool) → pick s d fresh-docket .known ≡ false
+      go true = k
+      go false = refl
+
+  pub knows-sound : trusted d .known ≡ true → sound d ≡ true
+  knows-sound = go (sound d)
+    where
+      go : (s : Bool) → pick s d fresh-docket .known ≡ true → s ≡ true
+      go true k = refl
+      go false k = k
+
+  pub itself : sound d ≡ true → trusted d ≡ d
+  itself e = rw e refl
+
+  pub knows-valid : trusted d .known ≡ true → valid-problem (d .problem) ≡ true
+  knows-valid k =
+      let e = knows-sound k in
+      sound-valid d e (ap (λ (x : Docket). x .known) (sym (itself e)) ∙ k)
+
+-- ---- by the admission
+
+module _ (d : Docket) (text : List ℕ) where
+  by-admission : (a : Admission) → admit (trusted d .known) text ≡ a → lodge-of d text ≡ hold d (trusted d) (by-lines a (view (trusted d .problem)) text)
+  unfolding lodge-of judged
+  by-admission a e = rw e refl
+
+  pub refused-lodged : (r : Refusal) → admit (trusted d .known) text ≡ admission.Refused r → lodge-of d text ≡ lodged d (Refused r)
+  refused-lodged r e = by-admission (admission.Refused r) e
+
+  pub problem-lodged : admit (trusted d .known) text ≡ admission.Problem → lodge-of d text ≡ hold-problem d (problem-read text .answer) (problem-read text .problem)
+  problem-lodged e = by-admission admission.Problem e ∙ problem-held d text (trusted d)
+
+  -- under a known problem
+  over-itself : (a : Admission) → admit (trusted d .known) text ≡ a → trusted d .known ≡ true → lodge-of d text ≡ hold d d (by-lines a (view (d .problem)) text)
+  over-itself a e k = by-admission a e ∙ ap (λ (x : Docket). hold d x (by-lines a (view (x .problem)) text)) (itself d (knows-sound d k))
+
+  pub schedule-lodged : admit (trusted d .known) text ≡ admission.Schedule
+      → lodge-of d text ≡ hold-schedule d (schedule-read (view (d .problem)) text .answer) (schedule-read (view (d .problem)) text .rows)
+  schedule-lodged e =
+      over-itself admission.Schedule e (admitted-schedule (trusted d .known) text e .known-is)
+      ∙ schedule-held d text (view (d .problem))
+
+  pub tree-lodged : admit (trusted d .known) text ≡ admission.Tree → lodge-of d text ≡ hold-tree d (tree-read (view (d .problem)) text)
+  tree-lodged e =
+      over-itself admission.Tree e (admitted-tree (trusted d .known) text e .known-is)
+      ∙ tree-held d text (view (d .problem))

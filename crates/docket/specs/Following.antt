@@ -23,23 +23,23 @@ hold-problem was (problem-answer.Refused r) p = lodged was (Refused r)
 hold-problem was problem-answer.Accepted p = lodged (with-problem p) ProblemHeld
 
 -- a schedule's, with its rows in an array
-abbrev pub hold-rows : Docket → Docket → Priced → List ℕ → Lodged
-hold-rows was d s rows =
+abbrev pub hold-rows : Docket → Priced → List ℕ → Lodged
+hold-rows d s rows =
     pick (is-less (s .cost) (d .held .cost))
     (lodged (with-held d (record { cost = cost.Number (record { cost = s .cost; writer = s .writer }); bound = d .held .bound }) rows) (ScheduleHeld (s .cost)))
-    (lodged was (SchedulePassed (s .cost)))
+    (lodged d (SchedulePassed (s .cost)))
 
-abbrev pub hold-schedule : Docket → Docket → ScheduleAnswer → List ℕ → Lodged
-hold-schedule was d (schedule-answer.Refused r) rows = lodged was (Refused r)
-hold-schedule was d (schedule-answer.Accepted s) rows = hold-rows was d s rows
+abbrev pub hold-schedule : Docket → ScheduleAnswer → List ℕ → Lodged
+hold-schedule d (schedule-answer.Refused r) rows = lodged d (Refused r)
+hold-schedule d (schedule-answer.Accepted s) rows = hold-rows d s rows
 
 -- a tree's, with its figures
-abbrev pub hold-figures : Docket → Docket → ℕ → TreeFigures → Lodged
-hold-figures was d w f =
+abbrev pub hold-figures : Docket → ℕ → TreeFigures → Lodged
+hold-figures d w f =
     pick (is-higher (bound-of (f .bound)) (d .held .bound))
     (lodged (with-held d (record { cost = d .held .cost; bound = bound-by (bound-of (f .bound)) w }) (d .rows)) (TreeHeld f))
-    (lodged was (TreePassed f))
+    (lodged d (TreePassed f))
 
-abbrev pub hold-tree : Docket → Docket → TreeRead → Lodged
-hold-tree was d (tree-answer.Refused r) = lodged was (Refused r)
-hold-tree was d (tree-answer.Accepted w b m n) = hold-figures was d w (record { bound = b; splits = m; leaves = n })
+abbrev pub hold-tree : Docket → TreeRead → Lodged
+hold-tree d (tree-answer.Refused r) = lodged d (Refused r)
+hold-tree d (tree-answer.Accepted w b m n) = hold-figures d w (record { bound = b; splits = m; leaves = n })

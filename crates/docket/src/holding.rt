@@ -82,9 +82,9 @@ pub fn hold_problem(was: Docket, answer: ProblemAnswer, problem: Problem) -> Lod
     }
 }
 
-// The docket after an accepted schedule: it is held if none is held in d or it costs less.
-fn hold_rows(was: Docket, d: Docket, priced: Priced, rows: [u16; 1536]) -> Lodged
-    ensures { λ r. ⌜ r ≡ hold-rows was d priced rows ⌝ }
+// The docket after an accepted schedule: it is held if none is held yet or it costs less.
+fn hold_rows(d: Docket, priced: Priced, rows: [u16; 1536]) -> Lodged
+    ensures { λ r. ⌜ r ≡ hold-rows d priced rows ⌝ }
 {
     let held = d.held;
     let old = held.cost;
@@ -107,27 +107,27 @@ fn hold_rows(was: Docket, d: Docket, priced: Priced, rows: [u16; 1536]) -> Lodge
         };
     }
     Lodged {
-        docket: was,
+        docket: d,
         answer: Answer::SchedulePassed(cost),
     }
 }
 
 // The docket after a schedule's text.
-pub fn hold_schedule(was: Docket, d: Docket, answer: ScheduleAnswer, rows: [u16; 1536]) -> Lodged
-    ensures { λ r. ⌜ r ≡ hold-schedule was d answer rows ⌝ }
+pub fn hold_schedule(d: Docket, answer: ScheduleAnswer, rows: [u16; 1536]) -> Lodged
+    ensures { λ r. ⌜ r ≡ hold-schedule d answer rows ⌝ }
 {
     match answer {
         ScheduleAnswer::Refused(refusal) => Lodged {
-            docket: was,
+            docket: d,
             answer: Answer::Refused(refusal),
         },
-        ScheduleAnswer::Accepted(priced) => hold_rows(was, d, priced, rows),
+        ScheduleAnswer::Accepted(priced) => hold_rows(d, priced, rows),
     }
 }
 
-// The docket after an accepted tree: its bound is held if none is held in d or it is higher.
-fn hold_figures(was: Docket, d: Docket, writer: u64, figures: TreeFigures) -> Lodged
-    ensures { λ r. ⌜ r ≡ hold-figures was d writer figures ⌝ }
+// The docket after an accepted tree: its bound is held if none is held yet or it is higher.
+fn hold_figures(d: Docket, writer: u64, figures: TreeFigures) -> Lodged
+    ensures { λ r. ⌜ r ≡ hold-figures d writer figures ⌝ }
 {
     let held = d.held;
     let old = held.bound;
@@ -147,18 +147,18 @@ fn hold_figures(was: Docket, d: Docket, writer: u64, figures: TreeFigures) -> Lo
         };
     }
     Lodged {
-        docket: was,
+        docket: d,
         answer: Answer::TreePassed(figures),
     }
 }
 
 // The docket after a tree's text.
-pub fn hold_tree(was: Docket, d: Docket, read: TreeRead) -> Lodged
-    ensures { λ r. ⌜ r ≡ hold-tree was d read ⌝ }
+pub fn hold_tree(d: Docket, read: TreeRead) -> Lodged
+    ensures { λ r. ⌜ r ≡ hold-tree d read ⌝ }
 {
     match read {
         TreeRead::Refused(refusal) => Lodged {
-            docket: was,
+            docket: d,
             answer: Answer::Refused(refusal),
         },
         TreeRead::Accepted {
@@ -172,7 +172,7 @@ pub fn hold_tree(was: Docket, d: Docket, read: TreeRead) -> Lodged
                 splits,
                 leaves,
             };
-            hold_figures(was, d, writer, figures)
+            hold_figures(d, writer, figures)
         }
     }
 }

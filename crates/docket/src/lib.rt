@@ -3,6 +3,7 @@ ghost use mathlib.Core.Path.{_≡_};
 ghost use Rattle.docket.specs.Docket.{fresh-docket};
 ghost use Rattle.docket.specs.Lodging.{lodge-of};
 ghost use Rattle.docket.specs.Report.{report-of, buffer-of};
+use crate::admission::Admission;
 use crate::held::Held;
 use crate::held::HeldBound;
 use crate::held::HeldCost;
@@ -56,15 +57,22 @@ impl Docket {
         }
     }
 
-    // The docket after the text was lodged, and the answer to it; a docket that is not sound is taken for a fresh one.
+    // The docket after the text was lodged, and the answer to it; a docket that is not sound is taken for a fresh one, which knows no
+    // problem.
     pub fn lodge(self, text: &[u8]) -> Lodged
         ensures { λ r. ⌜ r ≡ lodge-of self (now (text .entry)) ⌝ }
     {
-        if sound::is_sound(self) {
-            return lodging::lodge_over(self, self, text);
+        let known = sound::knows(self);
+        let admission = admission::admit(known, text);
+        match admission {
+            Admission::Refused(refusal) => Lodged {
+                docket: self,
+                answer: Answer::Refused(refusal),
+            },
+            Admission::Problem => lodging::lodge_problem(self, text),
+            Admission::Schedule => lodging::lodge_schedule(self, text),
+            Admission::Tree => lodging::lodge_tree(self, text),
         }
-        let fresh = Docket::fresh();
-        lodging::lodge_over(self, fresh, text)
     }
 
     // The docket as it was, with how many bytes of the buffer from `at` on now hold the report; or with 43, and the buffer as it was. Of a

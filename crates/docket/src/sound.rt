@@ -1,10 +1,13 @@
 // A test of a docket, which carries no promise of its own: every docket that lodging makes passes.
 ghost use mathlib.Core.Path.{_≡_};
-ghost use Prim.Native.Nat.{ℕ, _≤_};
+ghost use mathlib.Core.Bool.{true};
+ghost use Prim.Native.Nat.{_≤_};
 ghost use lib.ListN.{take};
 ghost use Rattle.model.specs.Ranges.{between};
-ghost use Rattle.docket.specs.Docket.{every, load-in-range, good-generator, valid-problem, small-number, small-cost, small-bound, no-cost, no-bound, sound};
+ghost use Rattle.docket.specs.Docket.{every, load-in-range, good-generator, valid-problem, small-number, small-cost, small-bound, no-cost, no-bound, sound-by, sound};
+ghost use Rattle.docket.specs.Lodging.{trusted};
 use crate::Docket;
+use crate::held::Held;
 use crate::held::HeldBound;
 use crate::held::HeldCost;
 use model::arrays::Problem;
@@ -145,24 +148,45 @@ fn is_valid(problem: Problem) -> bool
     false
 }
 
+// Whether the problem is valid and the figures held under it are small.
+fn is_sound_under(problem: Problem, held: Held) -> bool
+    ensures { λ r. ⌜ r ≡ sound-by true problem held ⌝ }
+{
+    let cost = held.cost;
+    let bound = held.bound;
+    if is_valid(problem) {
+        if is_small_cost(cost) {
+            return is_small_bound(bound);
+        }
+    }
+    false
+}
+
 // Whether the docket is sound: under a known problem, which is valid, small figures, and under none nothing.
 pub fn is_sound(docket: Docket) -> bool
     ensures { λ r. ⌜ r ≡ sound docket ⌝ }
 {
     let held = docket.held;
-    let cost = held.cost;
-    let bound = held.bound;
     if docket.known {
         let problem = docket.problem;
-        if is_valid(problem) {
-            if is_small_cost(cost) {
-                return is_small_bound(bound);
-            }
-        }
-        return false;
+        return is_sound_under(problem, held);
     }
+    let cost = held.cost;
+    let bound = held.bound;
     if is_no_cost(cost) {
         return is_no_bound(bound);
+    }
+    false
+}
+
+// Whether the docket is sound and knows a problem; under none there is nothing to test.
+pub fn knows(docket: Docket) -> bool
+    ensures { λ r. ⌜ r ≡ trusted docket .known ⌝ }
+{
+    if docket.known {
+        let problem = docket.problem;
+        let held = docket.held;
+        return is_sound_under(problem, held);
     }
     false
 }
