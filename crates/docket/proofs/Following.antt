@@ -28,11 +28,12 @@ use Rattle.tree.specs.Reading.{coded, tree-read}
 use Rattle.docket.specs.declared.Docket.{Docket}
 use Rattle.docket.specs.declared.admission.Admission.{Admission}
 use Rattle.docket.specs.declared.admission.Admission.the-variants as admission
+use Rattle.docket.specs.declared.admission.Screened.the-variants as screened
 use Rattle.answer.specs.declared.Answer.the-variants.{Refused}
 use Rattle.docket.specs.Docket.{fresh-docket, valid-problem, sound-by, sound}
 use Rattle.docket.specs.Texts.{Short}
 use Rattle.docket.specs.Lodging.{pick, refuse-whole, admit-kind, admit, by-problem, by-schedule, by-tree, by-lines, judged, lodged, hold, trusted, lodge-of}
-use Rattle.docket.specs.Following.{hold-problem, hold-schedule, hold-tree}
+use Rattle.docket.specs.Following.{screen, hold-problem, hold-schedule, hold-tree}
 
 -- ---- admitted
 
@@ -200,6 +201,16 @@ module _ (d : Docket) (text : List ℕ) where
 
   pub refused-lodged : (r : Refusal) → admit (trusted d .known) text ≡ admission.Refused r → lodge-of d text ≡ lodged d (Refused r)
   refused-lodged r e = by-admission (admission.Refused r) e
+
+  -- so a text that is refused before its lines need not be lodged in a sound docket
+  pub screened-lodged : sound d ≡ true → (r : Refusal) → screen (admit (d .known) text) ≡ screened.Refused r → lodge-of d text ≡ lodged d (Refused r)
+  screened-lodged s r e = refused-lodged r (ap (λ (x : Docket). admit (x .known) text) (itself d s) ∙ go (admit (d .known) text) e)
+    where
+      go : (a : Admission) → screen a ≡ screened.Refused r → a ≡ admission.Refused r
+      go (admission.Refused q) h = ap admission.Refused (cc)
+      go admission.Problem h = absurd (let z : _≡_ {A = ℕ} 0 1 = cc in omega arith)
+      go admission.Schedule h = absurd (let z : _≡_ {A = ℕ} 0 1 = cc in omega arith)
+      go admission.Tree h = absurd (let z : _≡_ {A = ℕ} 0 1 = cc in omega arith)
 
   pub problem-lodged : admit (trusted d .known) text ≡ admission.Problem → lodge-of d text ≡ hold-problem d (problem-read text .answer) (problem-read text .problem)
   problem-lodged e = by-admission admission.Problem e ∙ problem-held d text (trusted d)

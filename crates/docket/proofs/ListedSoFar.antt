@@ -87,6 +87,9 @@ nothing-yet input room = record {
   fits-last = omega arith;
 }
 
+pub good-so-far : {input room : List ℕ} {d : Docket} {n place : ℕ} {output : List ℕ} → SoFar input room d n place output → sound d ≡ true
+good-so-far s = ap sound (s .docket-is) ∙ reached-sound (s .past)
+
 -- the text that stands at the place
 abbrev pub text-at : List ℕ → ℕ → List ℕ
 text-at input place = take (piece-after input place - place) (drop place input)
@@ -194,7 +197,7 @@ module _ (input room : List ℕ) (limit : length input ≤ 65536) (large : 10485
       let r = ap (λ (x : Docket). length (report-text (x .held))) (s .docket-is) in
       let k = kept room output lines n (s .written) (s .many) (omega (arith, s .fits-last, s .within, s .many)) in
       record {
-        good = ap sound (s .docket-is) ∙ reached-sound (s .past);
+        good = good-so-far s;
         same = k;
         fits = omega (arith, r, ap length (shown-reached (s .past)), reached-most (s .past), s .fits-last, s .within, k);
         many = omega (arith, s .many, ap length listed-is, length-append lines report);

@@ -1,4 +1,4 @@
--- What the code of lodging follows: what is done with the answers of the readers of problems, schedules and trees.
+-- What the code of lodging follows: which texts need not be lodged, and what is done with the answers of the readers of problems, schedules and trees.
 use mathlib.Core.List.{List}
 use Prim.Native.Nat.{ℕ}
 use Rattle.problem.specs.declared.ProblemAnswer.{ProblemAnswer}
@@ -13,9 +13,20 @@ use Rattle.tree.specs.Coded.{bound-of}
 use Rattle.docket.specs.declared.Docket.{Docket}
 use Rattle.docket.specs.declared.Lodged.{Lodged}
 use Rattle.docket.specs.declared.held.HeldCost.the-variants as cost
+use Rattle.docket.specs.declared.admission.Admission.{Admission}
+use Rattle.docket.specs.declared.admission.Admission.the-variants as admission
+use Rattle.docket.specs.declared.admission.Screened.{Screened}
+use Rattle.docket.specs.declared.admission.Screened.the-variants as screened
 use Rattle.answer.specs.declared.Answer.the-variants.{Refused, ProblemHeld, ScheduleHeld, SchedulePassed, TreeHeld, TreePassed}
 use Rattle.answer.specs.declared.TreeFigures.{TreeFigures}
 use Rattle.docket.specs.Lodging.{pick, lodged, with-held, with-problem, is-less, is-higher, bound-by}
+
+-- a text refused before its lines leaves a docket as it is; any other is lodged, whatever its kind
+abbrev pub screen : Admission → Screened
+screen (admission.Refused r) = screened.Refused r
+screen admission.Problem = screened.Admitted
+screen admission.Schedule = screened.Admitted
+screen admission.Tree = screened.Admitted
 
 -- a problem's text, read
 abbrev pub hold-problem : Docket → ProblemAnswer → Problem → Lodged

@@ -1,6 +1,7 @@
 // Whether a text comes to be judged by its lines.
 ghost use mathlib.Core.Path.{_≡_};
 ghost use Rattle.docket.specs.Lodging.{refuse-whole, admit-kind, admit};
+ghost use Rattle.docket.specs.Following.{screen};
 use refusal::Refusal;
 use text::Kind;
 
@@ -10,6 +11,12 @@ pub enum Admission {
     Problem,
     Schedule,
     Tree,
+}
+
+// Refused before its lines, or left to be judged by them, whatever its kind.
+pub enum Screened {
+    Refused(Refusal),
+    Admitted,
 }
 
 // A text has at most so many bytes.
@@ -59,4 +66,17 @@ pub fn admit(known: bool, text: &[u8]) -> Admission
     }
     let kind = text::read_kind(text);
     admit_kind(kind, known)
+}
+
+// Whether the text is refused before its lines.
+pub fn screen(known: bool, text: &[u8]) -> Screened
+    ensures { λ r. ⌜ r ≡ screen (admit known (now (text .entry))) ⌝ }
+{
+    let admission = admit(known, text);
+    match admission {
+        Admission::Refused(refusal) => Screened::Refused(refusal),
+        Admission::Problem => Screened::Admitted,
+        Admission::Schedule => Screened::Admitted,
+        Admission::Tree => Screened::Admitted,
+    }
 }

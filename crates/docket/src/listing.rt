@@ -10,6 +10,8 @@ ghost use Rattle.docket.specs.Docket.{sound};
 ghost use Rattle.docket.specs.Report.{report-text};
 ghost use Rattle.docket.specs.Listing.{listed, too-much, listed-of, output-of};
 use crate::Docket;
+use crate::admission;
+use crate::admission::Screened;
 use answer::Answer;
 use report::ReportAnswer;
 
@@ -58,10 +60,18 @@ fn lodge_pieces(input: &[u8], output: &mut [u8]) -> usize
     let mut at = 0;
     while at < input.len() {
         let end = pieces::piece_end(input, at);
-        let lodged = docket.lodge(&input[at..end]);
-        let next = lodged.docket;
-        let answer = lodged.answer;
-        docket = next;
+        let known = docket.known;
+        let screened = admission::screen(known, &input[at..end]);
+        // Not a function: it would copy the docket, which a text refused here leaves as it is.
+        let answer = match screened {
+            Screened::Refused(refusal) => Answer::Refused(refusal),
+            Screened::Admitted => {
+                let lodged = docket.lodge(&input[at..end]);
+                let next = lodged.docket;
+                docket = next;
+                lodged.answer
+            }
+        };
         at = end;
         n += answer::write_answer(&mut output[n..], answer);
     }

@@ -1,10 +1,14 @@
--- `lodge_pieces` meets its contract: at each turn one text more is lodged and the line of its answer written after those before it.
+-- `lodge_pieces` meets its contract: at each turn one text more is lodged, or refused as it would be, and the line of its answer written after those
+-- before it.
 use Prim.Native.Nat.{_-_, _≤_, _<_}
 use native.Mathlib.Omega.{arith}
 use borrow.Author.Needs.{needs}
-use mathlib.Core.Path.{_∙_}
-use lib.ListN.{length}
-use Rattle.docket.proofs.ListedSoFar.{SoFar, nothing-yet, before-end, Turn, turn, Done, done}
+use mathlib.Core.Path.{_≡_, sym, _∙_}
+use mathlib.Core.Logic.{⊎-elim}
+use lib.ListN.{length, take, drop}
+use Rattle.docket.specs.Lodging.{lodged, lodge-of}
+use Rattle.docket.proofs.Following.{screened-lodged}
+use Rattle.docket.proofs.ListedSoFar.{SoFar, nothing-yet, good-so-far, before-end, Turn, turn, Done, done}
 use Rattle.docket.proofs.listing.lodge_pieces.Statement.{statement}
 use Rattle.docket.proofs.listing.lodge_pieces.Tie as tie
 
@@ -35,45 +39,75 @@ module _ (c : tie.After-piece-end Inv-loop μ-loop) where
       before-end (b .args .input .now) (b .args .output .now) (b .pre .0) (b .pre .1) (l .loop .docket) (l .loop .n) (l .loop .at) (l .loop .output) (l .loop .inv)
       (c .before .loop-test .taken) (c .piece-end .result) (c .piece-end .ensures)
 
+sub-screen : tie.Need-sub-screen Inv-loop μ-loop
+sub-screen c = omega (arith, piece c)
+
+part-screen-start : tie.Need-part-screen-start Inv-loop μ-loop
+part-screen-start c = omega (arith, piece c)
+
+part-screen-end : tie.Need-part-screen-end Inv-loop μ-loop
+part-screen-end c = piece c .1
+
+screen-requires : tie.Need-screen-requires Inv-loop μ-loop
+screen-requires c κs = search needs
+
+enum-known-screened : tie.Need-enum-known-screened Inv-loop μ-loop
+enum-known-screened c = search needs
+
+enum-told : tie.Need-enum-told Inv-loop μ-loop
+enum-told c = search needs
+
 sub-lodge : tie.Need-sub-lodge Inv-loop μ-loop
-sub-lodge c = omega (arith, piece c)
+sub-lodge c = omega (arith, piece (c .before .before .before .before))
 
 part-lodge-start : tie.Need-part-lodge-start Inv-loop μ-loop
-part-lodge-start c = omega (arith, piece c)
+part-lodge-start c = omega (arith, piece (c .before .before .before .before))
 
 part-lodge-end : tie.Need-part-lodge-end Inv-loop μ-loop
-part-lodge-end c = piece c .1
+part-lodge-end c = piece (c .before .before .before .before) .1
 
 lodge-requires : tie.Need-lodge-requires Inv-loop μ-loop
 lodge-requires c κs = search needs
 
 -- ---- the line of its answer
 
-module _ (c : tie.After-lodge Inv-loop μ-loop) where
-  turned : Turn (c .before .before .before .before .before .before .before .before .args .input .now)
-      (c .before .before .before .before .before .before .before .before .args .output .now)
-      (c .before .before .before .before .loop .n) (c .before .before .before .before .loop .output) (c .before .before .piece-end .result) (c .lodge .result)
+module _ (c : tie.At-match-came Inv-loop μ-loop) where
+  -- lodged, or refused as it would be if it were lodged
+  as-lodged : let e = c .before .before .before in
+      let l = e .before .before in
+      let place = l .loop .at in
+      lodged (c .match .docket) (c .match .answer)
+      ≡ lodge-of (l .loop .docket) (take (e .piece-end .result - place) (drop place (l .before .before .before .before .args .input .now)))
+  as-lodged =
+      let good = good-so-far (c .before .before .before .before .before .loop .inv) in
+      ⊎-elim (λ w. (λ i. lodged (w .3 i) (w .4 i)) ∙ sym (screened-lodged _ _ good _ (sym (c .before .screen .ensures) ∙ w .1 .given .1)))
+      (λ w. (λ i. lodged (w .5 i) (w .6 i)) ∙ w .3 .ensures) (c .match .came)
+
+  turned : let e = c .before .before .before in
+      let l = e .before .before in
+      let a = l .before .before .before .before .args in
+      Turn (a .input .now) (a .output .now) (l .loop .n) (l .loop .output) (e .piece-end .result) (lodged (c .match .docket) (c .match .answer))
   turned =
-      let e = c .before .before in
+      let e = c .before .before .before in
       let l = e .before .before in
       let b = l .before .before .before .before in
       turn (b .args .input .now) (b .args .output .now) (b .pre .0) (b .pre .1) (l .loop .docket) (l .loop .n) (l .loop .at) (l .loop .output) (l .loop .inv)
-      (e .before .loop-test .taken) (e .piece-end .result) (e .piece-end .ensures) (c .lodge .result) (c .lodge .ensures)
+      (e .before .loop-test .taken) (e .piece-end .result) (e .piece-end .ensures) (lodged (c .match .docket) (c .match .answer)) as-lodged
 
 sub-write-answer : tie.Need-sub-write-answer Inv-loop μ-loop
-sub-write-answer c = omega (arith, turned (c .before) .fits)
+sub-write-answer c = omega (arith, turned c .fits)
 
 part-write-answer-start : tie.Need-part-write-answer-start Inv-loop μ-loop
-part-write-answer-start c = omega (arith, turned (c .before) .fits)
+part-write-answer-start c = omega (arith, turned c .fits)
 
 part-write-answer-end : tie.Need-part-write-answer-end Inv-loop μ-loop
 part-write-answer-end c = search needs
 
 write-answer-requires : tie.Need-write-answer-requires Inv-loop μ-loop
-write-answer-requires c κs = turned (c .before .before) .part
+write-answer-requires c κs = turned (c .before) .part
 
 add-n : tie.Need-add-n Inv-loop μ-loop
-add-n c = omega (arith, turned (c .before .before .before .before .before) .few, c .before .before .write-answer .ensures .0)
+add-n c = omega (arith, turned (c .before .before .before .before) .few, c .before .before .write-answer .ensures .0)
 
 loop-less : tie.Need-loop-less Inv-loop μ-loop
 loop-less c =
@@ -83,7 +117,7 @@ loop-less c =
 loop-again : tie.Need-loop-again Inv-loop μ-loop
 loop-again c =
     let w = c .before .before .write-answer in
-    turned (c .before .before .before .before .before) .after (w .result) (w .last .0) (w .ensures .0) (w .ensures .1)
+    turned (c .before .before .before .before) .after (w .result) (w .last .0) (w .ensures .0) (w .ensures .1)
 
 -- ---- the report
 
@@ -116,6 +150,12 @@ lodge-pieces-spec =
     fresh-requires
     loop-holds
     piece-end-requires
+    sub-screen
+    part-screen-start
+    part-screen-end
+    screen-requires
+    enum-known-screened
+    enum-told
     sub-lodge
     part-lodge-start
     part-lodge-end
