@@ -15,6 +15,7 @@ pub mod Bytes
 pub mod Accepted
 pub mod Plain
 pub mod PlainRows
+pub mod Fills
 pub mod Examples
 pub mod Courses
 pub mod Steps

@@ -1,12 +1,12 @@
 -- Lines without a minus, whose values have one range: good exactly where they render as many values as are due, each in the
 -- range. And what the row of 48 numbers then holds.
-use Prim.Native.Nat.{ℕ, zero, suc, _-_, _≤_, _<_}
+use Prim.Native.Nat.{ℕ, zero, suc, _+_, _-_, _≤_, _<_}
 use native.Mathlib.Omega.{arith}
 use mathlib.Core.Path.{_≡_, refl, sym, ap, _∙_}
 use mathlib.Core.Bool.{Bool, true, false, _&&_}
-use mathlib.Core.List.{List, [], _∷_}
-use lib.ListN.{length, take, getD, replicate, length-replicate, List·getD-append}
-use lib.Seq.{take-at}
+use mathlib.Core.List.{List, [], _∷_, _++_}
+use lib.ListN.{length, take, drop, getD, replicate, length-replicate, replicate-append-replicate, List·getD-append}
+use lib.Seq.{take-at, drop-at}
 use lib.Dec.{leb}
 use borrow.Author.Tests.{leb-true, le-leb}
 use Rattle.text.specs.Lines.{Line, ended}
@@ -60,6 +60,7 @@ module _ (key : List ℕ) (n lo hi : ℕ) where
   -- a good line is the rendering of its numbers, n of them in range
   pub record IsPlain (l : Line) : Type 0 where
     pub line : l ≡ ended (plain-line key (numbers-of (plain key n lo hi) l))
+    pub unsigned : anyMinus (valuesOf (plain key n lo hi) l) ≡ false
     pub count : length (numbers-of (plain key n lo hi) l) ≡ n
     pub range : Between lo hi (numbers-of (plain key n lo hi) l)
 
@@ -71,6 +72,7 @@ module _ (key : List ℕ) (n lo hi : ℕ) where
       let c : length vs ≡ n = a .fits .count ∙ length-replicate n lo in
       record {
         line = a .line ∙ ap (λ (t : Bool). ended (rendered key 0 t vs)) u;
+        unsigned = u;
         count = c;
         range = within-between lo hi vs (ap (λ (k : ℕ). withinAll vs (replicate k lo) (replicate k hi)) c ∙ a .fits .range);
       }
@@ -100,3 +102,15 @@ padded-take vs n e = take-at vs (replicate (48 - length vs) 0) n e
 
 pub padded-at : (vs : List ℕ) (i : ℕ) → i < length vs → getD (padded vs) i 0 ≡ getD vs i 0
 padded-at vs i h = List·getD-append vs (replicate (48 - length vs) 0) 0 i h
+
+zeros : ℕ → List ℕ
+zeros n = replicate n 0
+
+-- zeros stand after them
+pub padded-is : (vs : List ℕ) (n : ℕ) → length vs ≡ n → n ≤ 48 → vs ++ drop n (replicate 48 0) ≡ padded vs
+unfolding zeros
+padded-is vs n e h =
+    let m : n + (48 - n) ≡ 48 = omega arith in
+    ap (λ (l : List ℕ). vs ++ l)
+    (ap (drop n) (ap zeros (sym m) ∙ sym (replicate-append-replicate {A = ℕ} n (48 - n) 0)) ∙ drop-at (zeros n) (zeros (48 - n)) n (length-replicate {A = ℕ} n 0))
+    ∙ ap (λ (k : ℕ). vs ++ zeros (48 - k)) (sym e)

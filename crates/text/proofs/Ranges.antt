@@ -1,15 +1,17 @@
--- Numbers within their ranges, one by one.
+-- Numbers within their ranges, one by one; and numbers of one range, by the count of those outside it.
 use Prim.Native.Nat.{ℕ, suc, _+_, _≤_, _<_}
+use native.Mathlib.Nat.{zero-add}
 use native.Mathlib.Numerals.{add-one}
 use native.Mathlib.Omega.{arith}
-use mathlib.Core.Path.{_≡_, ap, _∙_}
-use mathlib.Core.Bool.{true, false, _&&_}
-use mathlib.Core.List.{List, _∷_}
-use lib.ListN.{length, drop, getD, drop-of-length-le}
+use mathlib.Core.Path.{_≡_, refl, ap, _∙_}
+use mathlib.Core.Bool.{Bool, true, false, _&&_}
+use mathlib.Core.List.{List, [], _∷_}
+use lib.ListN.{length, drop, getD, replicate, drop-of-length-le}
 use lib.Seq.{drop-cons}
-use lib.Dec.{leb}
-use borrow.Author.Tests.{le-leb, lt-leb}
+use lib.Dec.{leb, eqb}
+use borrow.Author.Tests.{le-leb, lt-leb, ne-eqb}
 use Rattle.text.specs.Forms.{withinAll}
+use Rattle.text.specs.Scan.{pickCount, outsideBy, countOutside}
 
 module _ (v ls hs : List ℕ) (i : ℕ) where
   module _ (h : i < length v) (h₁ : length v ≤ length ls) (h₂ : length v ≤ length hs) where
@@ -32,3 +34,40 @@ module _ (v ls hs : List ℕ) (i : ℕ) where
 
   pub all-past : length v ≤ i → withinAll (drop i v) (drop i ls) (drop i hs) ≡ true
   all-past h = ap (λ (x : List ℕ). withinAll x (drop i ls) (drop i hs)) (drop-of-length-le v h)
+
+-- ---- one range
+
+module _ (lo hi : ℕ) where
+  pub below : (x : ℕ) → x < lo → 1 ≡ outsideBy lo hi x
+  below x h = simp (lt-leb lo x h)
+
+  pub above : (x : ℕ) → lo ≤ x → hi < x → 1 ≡ outsideBy lo hi x
+  above x h k = simp (le-leb lo x h, lt-leb x hi k)
+
+  pub between : (x : ℕ) → lo ≤ x → x ≤ hi → 0 ≡ outsideBy lo hi x
+  between x h k = simp (le-leb lo x h, le-leb x hi k)
+
+  pub outside-most : (x : ℕ) → outsideBy lo hi x ≤ 1
+  outside-most x = go (leb lo x && leb x hi)
+    where
+      go : (t : Bool) → pickCount t ≤ 1
+      go true = omega arith
+      go false = omega arith
+
+  module _ (v : List ℕ) (i : ℕ) where
+    pub count-at : i < length v → countOutside lo hi (drop i v) ≡ outsideBy lo hi (getD v i 0) + countOutside lo hi (drop (i + 1) v)
+    count-at h = ap (countOutside lo hi) (drop-cons v i 0 h) ∙ simp add-one
+
+    pub count-past : length v ≤ i → countOutside lo hi (drop i v) ≡ 0
+    count-past h = ap (countOutside lo hi) (drop-of-length-le v h)
+
+  -- none is outside where each is in the range
+  pub none-outside : (v : List ℕ) → eqb (countOutside lo hi v) 0 ≡ withinAll v (replicate (length v) lo) (replicate (length v) hi)
+  none-outside [] = refl
+  none-outside (x ∷ v) = go (leb lo x) (leb x hi) (none-outside v)
+    where
+      go : (a b : Bool) → eqb (countOutside lo hi v) 0 ≡ withinAll v (replicate (length v) lo) (replicate (length v) hi)
+          → eqb (pickCount (a && b) + countOutside lo hi v) 0 ≡ (a && (b && withinAll v (replicate (length v) lo) (replicate (length v) hi)))
+      go true true e = rw zero-add e
+      go true false e = ne-eqb (1 + countOutside lo hi v) 0 (λ z. omega arith)
+      go false b e = ne-eqb (1 + countOutside lo hi v) 0 (λ z. omega arith)

@@ -1,22 +1,23 @@
--- What the reader of a line answers at each return, by the tests of the line.
-use Prim.Native.Nat.{ℕ, zero, suc, _+_, _-_, _≤_, _<_, min}
+-- What the readers of a line answer is what the tests say of the line; and of a good line the row begins with its numbers.
+use Prim.Native.Nat.{ℕ, zero, suc, _≤_, _<_, min}
 use native.Mathlib.Nat.{zero-add}
 use native.Mathlib.Omega.{arith}
 use mathlib.Core.Path.{_≡_, refl, sym, ap, _∙_}
 use mathlib.Core.Bool.{Bool, true, false, not, _&&_}
 use mathlib.Core.List.{List, [], _∷_, _++_}
-use lib.ListN.{length, take, drop, replicate, length-replicate, replicate-append-replicate}
-use lib.Seq.{sets, sets-eq, take-at, drop-at}
-use lib.Dec.{leb, ltb}
-use borrow.Author.Tests.{ltb-true, lt-ltb, leb-true, leb-false, le-leb, lt-leb, eq-eqb, ne-eqb}
+use lib.ListN.{length, take, drop, replicate}
+use lib.Seq.{sets-eq, take-at}
+use lib.Dec.{leb, ltb, eqb}
+use borrow.Author.Tests.{ltb-true, lt-ltb, leb-true, leb-false, le-leb, lt-leb, eqb-true, eq-eqb, not-false}
 use Rattle.decimal.specs.Reading.{cap}
-use Rattle.text.specs.Lines.{Line}
-use Rattle.text.specs.Forms.{size, sizes, Form, valuesOf, withinAll, malformed, wrongCount, outOfRange, refusedBy, good, after, padded, noRow, rowOf, belowAll, anyMinus}
-use Rattle.text.specs.Scan.{magnitude}
-use Rattle.text.specs.declared.Verdict.the-variants.{Good}
-use Rattle.text.specs.declared.Row.{Row}
+use Rattle.text.specs.Lines.{Line, lineAt, oneLine}
+use Rattle.text.specs.Forms.{size, sizes, Form, valuesOf, numbers-of, withinAll, malformed, wrongCount, outOfRange, refusedBy, good, after, rowOf, belowAll, anyMinus}
+use Rattle.text.specs.Scan.{magnitude, Outcome, keyedAt, minusOf, pickVerdict, verdictOf}
+use Rattle.text.specs.declared.Values.{Values}
+use Rattle.text.specs.declared.Verdict.the-variants.{Refused, Good}
 use Rattle.text.proofs.Cuts.{and-both}
-use Rattle.text.proofs.Scanned.{magnitudes, WasRead}
+use Rattle.text.proofs.Scanned.{magnitudes, WasRead, Met, unread, read, met}
+use Rattle.text.proofs.Verdicts.{form-passes}
 
 -- ---- the cap cuts nothing that is in range
 
@@ -65,90 +66,99 @@ uncapped (f ∷ fs) (l ∷ ls) (h ∷ hs) e w =
     let c : magnitude f ≡ size f = omega arith in
     λ i. c i ∷ uncapped fs ls hs (p .1) (r .1) i
 
--- ---- what the row holds
-
-zeros : ℕ → List ℕ
-zeros n = replicate n 0
-
-zeros-after : (n : ℕ) → n ≤ 48 → drop n (zeros 48) ≡ zeros (48 - n)
-unfolding zeros
-zeros-after n h =
-    let e : n + (48 - n) ≡ 48 = omega arith in
-    ap (drop n) (ap zeros (sym e) ∙ sym (replicate-append-replicate {A = ℕ} n (48 - n) 0))
-    ∙ drop-at (zeros n) (zeros (48 - n)) n (length-replicate {A = ℕ} n 0)
-
-pub stored-padded : (xs : List ℕ) → length xs ≤ 48 → sets (replicate 48 0) 0 xs ≡ padded xs
-unfolding zeros
-stored-padded xs h =
-    sets-eq xs (zeros 48) 0 (omega (arith, length-replicate {A = ℕ} 48 0))
-    ∙ ap (λ (n : ℕ). xs ++ drop n (zeros 48)) (zero-add (length xs))
-    ∙ ap (λ (l : List ℕ). xs ++ l) (zeros-after (length xs) h)
-
--- ---- the four answers
+-- ---- the verdict by the tests
 
 module _ (f : Form) (l : Line) (at : ℕ) where
-  pub row-malformed : malformed f l ≡ true → noRow 12 ≡ rowOf f l at
+  ruled-malformed : malformed f l ≡ true → Refused 12 ≡ rowOf f l at .verdict
   unfolding rowOf good refusedBy
-  row-malformed e = simp e
+  ruled-malformed e = simp e
 
   module _ (m : malformed f l ≡ false) where
-    pub row-count : wrongCount f l ≡ true → noRow 14 ≡ rowOf f l at
+    ruled-count : wrongCount f l ≡ true → Refused 14 ≡ rowOf f l at .verdict
     unfolding rowOf good refusedBy
-    row-count e = simp (m, e)
+    ruled-count e = simp (m, e)
 
     module _ (c : wrongCount f l ≡ false) where
-      pub row-range : outOfRange f l ≡ true → noRow 13 ≡ rowOf f l at
+      ruled-range : outOfRange f l ≡ true → Refused 13 ≡ rowOf f l at .verdict
       unfolding rowOf good refusedBy
-      row-range e = simp (m, c, e)
+      ruled-range e = simp (m, c, e)
 
-      pub row-good : outOfRange f l ≡ false
-          → record { verdict = Good (after l at); minus = anyMinus (valuesOf f l); values = padded (sizes (valuesOf f l)) } ≡ rowOf f l at
+      ruled-in : outOfRange f l ≡ false → Good (after l at) ≡ rowOf f l at .verdict
       unfolding rowOf good refusedBy
-      row-good e = simp (m, c, e)
+      ruled-in e = simp (m, c, e)
 
--- ---- the returns of `read_line`
+-- ---- a line that is read into a row with room for the values due
 
-module _ (f : Form) (l : Line) (at : ℕ) (c e : ℕ) (neg : Bool) (out : List ℕ) (w : WasRead f l at (replicate 48 0) c e neg out) where
-  pub answer-count : (c ≡ length (f .lows) → ⊥) → noRow 14 ≡ rowOf f l at
-  unfolding wrongCount
-  answer-count h = row-count f l at (w .formed) (simp (ne-eqb (length (valuesOf f l)) (length (f .lows)) (λ q. h (w .count ∙ q))))
+-- of a good line: the row, which held o, begins with the line's numbers, and the minus answered is theirs
+pub record Held (f : Form) (l : Line) (o : List ℕ) (v : Values) (out : List ℕ) : Type 0 where
+  pub values : out ≡ numbers-of f l ++ drop (length (f .lows)) o
+  pub minus : minusOf v ≡ anyMinus (valuesOf f l)
 
-  module _ (row : List ℕ) (same : row ≡ out) (many : c ≡ length (f .lows)) (few : length (f .lows) ≤ 48) (low : belowAll (f .highs) ≡ true) where
-    counted : wrongCount f l ≡ false
-    unfolding wrongCount
-    counted = simp (eq-eqb (length (valuesOf f l)) (length (f .lows)) (sym (w .count) ∙ many))
+module _ (f : Form) (s o : List ℕ) (at : ℕ) (one : oneLine (f .key) ≡ true) (low : belowAll (f .highs) ≡ true) (room : length (f .lows) ≤ length o) where
+  abbrev here : Line
+  here = lineAt s at
 
-    whole : length (magnitudes (valuesOf f l)) ≡ length (f .lows)
-    whole = length-magnitudes (valuesOf f l) ∙ sym (w .count) ∙ many
+  abbrev due : ℕ
+  due = length (f .lows)
 
-    held : row ≡ padded (magnitudes (valuesOf f l))
-    held = same ∙ w .stored ∙ stored-padded (magnitudes (valuesOf f l)) (omega (arith, whole))
+  -- as many values as are due stand first
+  module _ {c e : ℕ} {neg : Bool} {out : List ℕ} (w : WasRead f here at o c e neg out) (many : c ≡ due) where
+    whole : length (magnitudes (valuesOf f here)) ≡ due
+    whole = length-magnitudes (valuesOf f here) ∙ sym (w .count) ∙ many
 
-    -- the part of the row that is tested
-    tested : withinAll (take (length (f .lows)) row) (f .lows) (f .highs) ≡ withinAll (sizes (valuesOf f l)) (f .lows) (f .highs)
+    held : out ≡ magnitudes (valuesOf f here) ++ drop due o
+    held =
+        w .stored
+        ∙ sets-eq (magnitudes (valuesOf f here)) o 0 (omega (arith, whole))
+        ∙ ap (λ (n : ℕ). magnitudes (valuesOf f here) ++ drop n o) (zero-add (length (magnitudes (valuesOf f here))) ∙ whole)
+
+    -- they are tested by their ranges as the line's numbers are
+    tested : withinAll (take due out) (f .lows) (f .highs) ≡ withinAll (numbers-of f here) (f .lows) (f .highs)
     tested =
-        ap (λ (x : List ℕ). withinAll x (f .lows) (f .highs))
-        (ap (take (length (f .lows))) held ∙ take-at (magnitudes (valuesOf f l)) (replicate (48 - length (magnitudes (valuesOf f l))) 0) (length (f .lows)) whole)
-        ∙ within-capped (valuesOf f l) (f .lows) (f .highs) low
+        ap (λ (x : List ℕ). withinAll x (f .lows) (f .highs)) (ap (take due) held ∙ take-at (magnitudes (valuesOf f here)) (drop due o) due whole)
+        ∙ within-capped (valuesOf f here) (f .lows) (f .highs) low
 
-    pub answer-range : withinAll (take (length (f .lows)) row) (f .lows) (f .highs) ≡ false → noRow 13 ≡ rowOf f l at
-    unfolding outOfRange
-    answer-range h = row-range f l at (w .formed) counted (ap not (sym tested ∙ h))
+    counted : wrongCount f here ≡ false
+    unfolding wrongCount
+    counted = simp (eq-eqb (length (valuesOf f here)) due (sym (w .count) ∙ many))
 
-    pub answer-good : withinAll (take (length (f .lows)) row) (f .lows) (f .highs) ≡ true → _≡_ {A = Row} (record { verdict = Good e; minus = neg; values = row }) (rowOf f l at)
-    unfolding outOfRange
-    answer-good h =
-        let r : withinAll (sizes (valuesOf f l)) (f .lows) (f .highs) ≡ true = sym tested ∙ h in
-        let o : row ≡ padded (sizes (valuesOf f l)) = held ∙ ap padded (uncapped (valuesOf f l) (f .lows) (f .highs) low r) in
-        (λ i. record { verdict = Good (w .end i); minus = w .sign i; values = o i }) ∙ row-good f l at (w .formed) counted (ap not r)
+  ranged : {c e : ℕ} {neg : Bool} {out : List ℕ} (w : WasRead f here at o c e neg out) → c ≡ due → (t : Bool) → withinAll (take due out) (f .lows) (f .highs) ≡ t
+      → pickVerdict t (Good e) (Refused 13) ≡ rowOf f here at .verdict
+  unfolding outOfRange
+  ranged w many true e = ap Good (w .end) ∙ ruled-in f here at (w .formed) (counted w many) (ap not (sym (tested w many) ∙ e))
+  ranged w many false e = ruled-range f here at (w .formed) (counted w many) (ap not (sym (tested w many) ∙ e))
+
+  ruled : {c e : ℕ} {neg : Bool} {out : List ℕ} (w : WasRead f here at o c e neg out) (t : Bool) → eqb c due ≡ t
+      → pickVerdict t (pickVerdict (withinAll (take due out) (f .lows) (f .highs)) (Good e) (Refused 13)) (Refused 14) ≡ rowOf f here at .verdict
+  unfolding wrongCount
+  ruled {c} {out = out} w true q = ranged w (eqb-true c due q) (withinAll (take due out) (f .lows) (f .highs)) refl
+  ruled {c} w false q = ruled-count f here at (w .formed) (ap (λ (n : ℕ). not (eqb n due)) (sym (w .count)) ∙ ap not q)
+
+  by-tests : (r : Outcome) → Met f here at o r → verdictOf (r .answer) due (withinAll (take due (r .out)) (f .lows) (f .highs)) ≡ rowOf f here at .verdict
+  by-tests r (unread a m) = rw a (ruled-malformed f here at m)
+  by-tests r (read c e neg a w) = rw a (ruled w (eqb c due) refl)
+
+  by-good : (r : Outcome) → Met f here at o r → good f here ≡ true → Held f here o (r .answer) (r .out)
+  unfolding outOfRange wrongCount
+  by-good r (unread a m) g = absurd (let p = form-passes f here [] .1 (g, tt) .0 in let z : _≡_ {A = ℕ} 0 1 = cc in omega arith)
+  by-good r (read c e neg a w) g =
+      let p = form-passes f here [] .1 (g, tt) in
+      let many : c ≡ due = w .count ∙ eqb-true (length (valuesOf f here)) due (not-false (eqb (length (valuesOf f here)) due) (p .1 .0)) in
+      let in-range = not-false (withinAll (numbers-of f here) (f .lows) (f .highs)) (p .1 .1 .0) in
+      record {
+        values = held w many ∙ ap (λ (x : List ℕ). x ++ drop due o) (uncapped (valuesOf f here) (f .lows) (f .highs) low in-range);
+        minus = rw a (w .sign);
+      }
+
+  module _ {v : Values} {out : List ℕ} (answered : v ≡ keyedAt (f .key) s at (f .minus) o .answer) (stored : out ≡ keyedAt (f .key) s at (f .minus) o .out) where
+    -- the verdict, by the values answered and the row
+    pub verdict-is : {within : Bool} → within ≡ withinAll (take due out) (f .lows) (f .highs) → verdictOf v due within ≡ rowOf f here at .verdict
+    verdict-is t = rw (t, answered, stored) (by-tests (keyedAt (f .key) s at (f .minus) o) (met f s o at one))
+
+    pub good-held : good f here ≡ true → Held f here o v out
+    good-held g = rw (answered, stored) (by-good (keyedAt (f .key) s at (f .minus) o) (met f s o at one) g)
 
 -- ---- rows whose numbers all have one range
-
-pub part-same : (n x : ℕ) → n ≤ 48 → take n (replicate 48 x) ≡ replicate n x
-part-same n x h =
-    let e : n + (48 - n) ≡ 48 = omega arith in
-    ap (take n) (ap (λ (k : ℕ). replicate k x) (sym e) ∙ sym (replicate-append-replicate n (48 - n) x))
-    ∙ take-at (replicate n x) (replicate (48 - n) x) n (length-replicate n x)
 
 pub below-same : (n h : ℕ) → h < cap → belowAll (replicate n h) ≡ true
 below-same zero h k = refl

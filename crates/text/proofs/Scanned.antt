@@ -12,7 +12,7 @@ use lib.Dec.{eqb}
 use Rattle.text.specs.Lines.{Line, missing, unended, ended, bytesOf, due, longer, cutAt, linesOf, lineAt, oneLine, begins}
 use Rattle.text.specs.Forms.{byComma, cutValues, hasMinus, formed, allFormed, anyMinus, Form, valuesOf, malformed}
 use Rattle.text.specs.Rendering.{joined}
-use Rattle.text.specs.Scan.{Scan, cut, last, more, wider, byByte, scan, magnitude, Outcome, wrong, pickOutcome, reading, valuesAt}
+use Rattle.text.specs.Scan.{Scan, cut, last, more, wider, byByte, scan, magnitude, Outcome, wrong, pickOutcome, reading, valuesAt, keyedAt}
 use Rattle.text.specs.declared.Values.{Values}
 use Rattle.text.specs.declared.Values.the-variants.{Wrong, Read}
 use Rattle.text.proofs.Cuts.{prepend, prepend-ended, prepend-unended, prepend-missing, line-append, text-ended}
@@ -139,7 +139,7 @@ pub record WasRead (f : Form) (l : Line) (at : ℕ) (o : List ℕ) (c e : ℕ) (
   pub stored : out ≡ sets o 0 (magnitudes (valuesOf f l))
 
 -- the key is not there
-pub key-off : (f : Form) (s : List ℕ) (at : ℕ) → begins (f .key) (drop at s) ≡ false → malformed f (lineAt s at) ≡ true
+key-off : (f : Form) (s : List ℕ) (at : ℕ) → begins (f .key) (drop at s) ≡ false → malformed f (lineAt s at) ≡ true
 unfolding malformed
 key-off f s at e = go (lineAt s at) refl
   where
@@ -180,7 +180,7 @@ module _ (f : Form) (s o : List ℕ) (at : ℕ) (one : oneLine (f .key) ≡ true
   never c e neg a p q = let z : _≡_ {A = ℕ} 0 1 = cc in omega arith
 
   -- by the line after the key
-  pub answer-wrong : valuesAt s place (f .minus) o .answer ≡ Wrong → malformed f (lineAt s at) ≡ true
+  answer-wrong : valuesAt s place (f .minus) o .answer ≡ Wrong → malformed f (lineAt s at) ≡ true
   unfolding malformed
   answer-wrong q = go (lineAt s place) refl
     where
@@ -204,7 +204,7 @@ module _ (f : Form) (s o : List ℕ) (at : ℕ) (one : oneLine (f .key) ≡ true
       go (ended b) e =
           ap (malformed f) (line-is ∙ ap (prepend (f .key)) e ∙ prepend-ended (f .key) b) ∙ formed-is b ∙ all b e (allFormed (f .minus) 1 (cutValues b)) refl
 
-  pub answer-read : (c e : ℕ) (neg : Bool) → valuesAt s place (f .minus) o .answer ≡ Read c e neg
+  answer-read : (c e : ℕ) (neg : Bool) → valuesAt s place (f .minus) o .answer ≡ Read c e neg
       → WasRead f (lineAt s at) at o c e neg (valuesAt s place (f .minus) o .out)
   answer-read c e neg q = go (lineAt s place) refl
     where
@@ -241,3 +241,23 @@ module _ (f : Form) (s o : List ℕ) (at : ℕ) (one : oneLine (f .key) ≡ true
       go (ended b) l =
           subst (λ (x : Line). WasRead f x at o c e neg (valuesAt s place (f .minus) o .out)) (sym (line-is ∙ ap (prepend (f .key)) l ∙ prepend-ended (f .key) b))
           (all b l (allFormed (f .minus) 1 (cutValues b)) refl)
+
+-- ---- with its key
+
+-- the line is malformed and no values are answered, or those answered are the line's
+pub data Met (f : Form) (l : Line) (at : ℕ) (o : List ℕ) (r : Outcome) : Type 0 where
+  unread : r .answer ≡ Wrong → malformed f l ≡ true → Met f l at o r
+  read : (c e : ℕ) (neg : Bool) → r .answer ≡ Read c e neg → WasRead f l at o c e neg (r .out) → Met f l at o r
+
+pub met : (f : Form) (s o : List ℕ) (at : ℕ) → oneLine (f .key) ≡ true → Met f (lineAt s at) at o (keyedAt (f .key) s at (f .minus) o)
+unfolding keyedAt
+met f s o at one = keyed (begins (f .key) (drop at s)) refl
+  where
+    answered : begins (f .key) (drop at s) ≡ true → (a : Values) → valuesAt s (at + length (f .key)) (f .minus) o .answer ≡ a
+        → Met f (lineAt s at) at o (valuesAt s (at + length (f .key)) (f .minus) o)
+    answered on Wrong q = unread q (answer-wrong f s o at one on q)
+    answered on (Read c e neg) q = read c e neg q (answer-read f s o at one on c e neg q)
+
+    keyed : (t : Bool) → begins (f .key) (drop at s) ≡ t → Met f (lineAt s at) at o (pickOutcome t (valuesAt s (at + length (f .key)) (f .minus) o) (wrong o))
+    keyed true on = answered on (valuesAt s (at + length (f .key)) (f .minus) o .answer) refl
+    keyed false off = unread refl (key-off f s at off)

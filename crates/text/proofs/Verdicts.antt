@@ -12,8 +12,9 @@ use borrow.Author.Tests.{eqb-true, eq-eqb}
 use Rattle.text.specs.Lines.{Line, missing, unended, ended, bytesOf, later, linesOf, lineAt, isLine}
 use Rattle.text.specs.Course as course
 use Rattle.text.specs.Tests.{Test, _if_, First, None, number, found}
-use Rattle.text.specs.Forms.{Form, malformed, wrongCount, outOfRange, form-tests, refusedBy, good, after, pickRow, noRow, rowOf, anyMinus, valuesOf, sizes, padded}
+use Rattle.text.specs.Forms.{Form, malformed, wrongCount, outOfRange, form-tests, refusedBy, good, after, pickRow, noRow, rowOf, anyMinus, valuesOf, numbers-of, sizes, padded}
 use Rattle.text.specs.declared.Row.{Row}
+use Rattle.text.specs.declared.Verdict.{Verdict}
 use Rattle.text.specs.declared.Verdict.the-variants.{Refused, Good}
 use Rattle.text.proofs.Cuts.{next-lines}
 use Rattle.text.proofs.Words.{word-is}
@@ -75,25 +76,40 @@ module _ (f : Form) (l : Line) (at : ℕ) where
   unfolding rowOf
   row-read e = simp e
 
-  -- of a row that was read
-  module _ (r : Row) (read : r ≡ rowOf f l at) where
+  -- of what the line is found to be
+  module _ (v : Verdict) (is : v ≡ rowOf f l at .verdict) where
     -- refused: the line is not good, and this is its number
-    pub verdict-refused : (n : ℕ) → r .verdict ≡ Refused n → (good f l ≡ false) × (refusedBy f l ≡ n)
+    pub ruled-refused : (n : ℕ) → v ≡ Refused n → (good f l ≡ false) × (refusedBy f l ≡ n)
     unfolding rowOf
-    verdict-refused n e = go (good f l) (sym (ap (λ (x : Row). x .verdict) read) ∙ e)
+    ruled-refused n e = go (good f l) (sym is ∙ e)
       where
         go : (t : Bool) → pickRow t (record { verdict = Good (after l at); minus = anyMinus (valuesOf f l); values = padded (sizes (valuesOf f l)) }) (noRow (refusedBy f l)) .verdict ≡ Refused n → (t ≡ false) × (refusedBy f l ≡ n)
         go true q = absurd (let z : _≡_ {A = ℕ} 0 1 = cc in omega arith)
         go false q = (refl, cc)
 
+    pub refused-row : (n : ℕ) → v ≡ Refused n → noRow n ≡ rowOf f l at
+    refused-row n e = let r = ruled-refused n e in ap noRow (sym (r .1)) ∙ sym (row-refused (r .0))
+
     -- good: the line is good, and this is where the next one starts
-    pub verdict-good : (next : ℕ) → r .verdict ≡ Good next → (good f l ≡ true) × (next ≡ after l at)
+    pub ruled-good : (next : ℕ) → v ≡ Good next → (good f l ≡ true) × (next ≡ after l at)
     unfolding rowOf
-    verdict-good next e = go (good f l) (sym (ap (λ (x : Row). x .verdict) read) ∙ e)
+    ruled-good next e = go (good f l) (sym is ∙ e)
       where
         go : (t : Bool) → pickRow t (record { verdict = Good (after l at); minus = anyMinus (valuesOf f l); values = padded (sizes (valuesOf f l)) }) (noRow (refusedBy f l)) .verdict ≡ Good next → (t ≡ true) × (next ≡ after l at)
         go true q = (refl, cc)
         go false q = absurd (let z : _≡_ {A = ℕ} 0 1 = cc in omega arith)
+
+    pub good-row : (next : ℕ) → v ≡ Good next → (neg : Bool) → neg ≡ anyMinus (valuesOf f l) → (vs : List ℕ) → vs ≡ padded (numbers-of f l)
+        → _≡_ {A = Row} (record { verdict = Good next; minus = neg; values = vs }) (rowOf f l at)
+    good-row next e neg m vs h = let g = ruled-good next e in (λ i. record { verdict = Good (g .1 i); minus = m i; values = h i }) ∙ sym (row-read (g .0))
+
+  -- of a row that was read
+  module _ (r : Row) (read : r ≡ rowOf f l at) where
+    pub verdict-refused : (n : ℕ) → r .verdict ≡ Refused n → (good f l ≡ false) × (refusedBy f l ≡ n)
+    verdict-refused n e = ruled-refused (r .verdict) (ap (λ (x : Row). x .verdict) read) n e
+
+    pub verdict-good : (next : ℕ) → r .verdict ≡ Good next → (good f l ≡ true) × (next ≡ after l at)
+    verdict-good next e = ruled-good (r .verdict) (ap (λ (x : Row). x .verdict) read) next e
 
     pub values-good : good f l ≡ true → r .values ≡ padded (sizes (valuesOf f l))
     values-good g = ap (λ (x : Row). x .values) (read ∙ row-read g)

@@ -1,16 +1,19 @@
 -- What the reader of a line follows: the values from a place on, up to the first byte 10.
 use Prim.Native.Nat.{ℕ, _+_, min}
-use mathlib.Core.Bool.{Bool, true, false, _||_}
+use mathlib.Core.Bool.{Bool, true, false, _&&_, _||_}
 use mathlib.Core.List.{List, [], _∷_}
 use lib.ListN.{length, drop, set}
-use lib.Dec.{eqb}
+use lib.Dec.{leb, eqb}
 use Rattle.decimal.specs.Decimal.{valueOf, numeral}
 use Rattle.decimal.specs.Reading.{cap}
+use Rattle.text.specs.Lines.{begins}
 use Rattle.text.specs.Forms.{hasMinus, formed, size}
 use Rattle.text.specs.declared.Field.{Field}
 use Rattle.text.specs.declared.Field.the-variants.{Broken, Ended}
 use Rattle.text.specs.declared.Values.{Values}
 use Rattle.text.specs.declared.Values.the-variants.{Wrong, Read}
+use Rattle.text.specs.declared.Verdict.{Verdict}
+use Rattle.text.specs.declared.Verdict.the-variants.{Refused, Good}
 
 -- what a text begins with, cut at the commas up to the first byte 10: a value that ends the line, a value with more behind
 -- it, or no byte 10 at all
@@ -87,3 +90,38 @@ reading m (more f g) at k minus o =
 
 unfoldable pub valuesAt : List ℕ → ℕ → ℕ → List ℕ → Outcome
 valuesAt s at m o = reading m (scan (drop at s)) at 0 false o
+
+-- the values of the line that starts at the place `at` with the key; where the key does not stand there, none is read
+unfoldable pub keyedAt : List ℕ → List ℕ → ℕ → ℕ → List ℕ → Outcome
+keyedAt key s at m o = pickOutcome (begins key (drop at s)) (valuesAt s (at + length key) m o) (wrong o)
+
+-- what a row that holds o holds once the line that starts at the place `at` with the key is read into it, no value with a
+-- minus: of a good line its numbers, of one that is refused those that came before the fault and fit
+abbrev pub storedAt : List ℕ → List ℕ → ℕ → List ℕ → List ℕ
+storedAt key s at o = keyedAt key s at 0 o .out
+
+-- whether one of the values read has a minus
+abbrev pub minusOf : Values → Bool
+minusOf Wrong = false
+minusOf (Read c next minus) = minus
+
+abbrev pub pickVerdict : Bool → Verdict → Verdict → Verdict
+pickVerdict true a b = a
+pickVerdict false a b = b
+
+-- 12, 14, 13 in this order, by the values read: n are due, and `within` says whether those stored are in range
+abbrev pub verdictOf : Values → ℕ → Bool → Verdict
+verdictOf Wrong n within = Refused 12
+verdictOf (Read c next minus) n within = pickVerdict (eqb c n) (pickVerdict within (Good next) (Refused 13)) (Refused 14)
+
+abbrev pub pickCount : Bool → ℕ
+pickCount true = 0
+pickCount false = 1
+
+-- how many of the numbers are not from lo to hi
+abbrev pub outsideBy : ℕ → ℕ → ℕ → ℕ
+outsideBy lo hi x = pickCount (leb lo x && leb x hi)
+
+abbrev pub countOutside : ℕ → ℕ → List ℕ → ℕ
+countOutside lo hi [] = 0
+countOutside lo hi (x ∷ xs) = outsideBy lo hi x + countOutside lo hi xs

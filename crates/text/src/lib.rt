@@ -7,7 +7,7 @@ ghost use Rattle.decimal.specs.Reading.{cap};
 ghost use Rattle.text.specs.Lines.{oneLine, begins, linesOf, lineAt, isLine, kindOf};
 ghost use Rattle.text.specs.Ends.{endOf};
 ghost use Rattle.text.specs.Forms.{byteIs, withinAll, belowAll, noRow, rowOf, form, plain};
-ghost use Rattle.text.specs.Scan.{endedAt, fieldAt, valuesAt};
+ghost use Rattle.text.specs.Scan.{endedAt, fieldAt, valuesAt, keyedAt, storedAt, verdictOf, minusOf, outsideBy, countOutside};
 use crate::reader::Reader;
 use decimal::Number;
 
@@ -247,6 +247,112 @@ fn all_within(v: &[u64], lows: &[u64], highs: &[u64]) -> bool
     true
 }
 
+// 1 where x is not from lo to hi, or 0.
+fn outside(x: u64, lo: u64, hi: u64) -> u64
+    ensures { λ r. ⌜ r ≡ outsideBy lo hi x ⌝ }
+{
+    if x < lo {
+        return 1;
+    }
+    if hi < x {
+        return 1;
+    }
+    0
+}
+
+// How many numbers of v are not from lo to hi.
+fn count_outside(v: &[u64], lo: u64, hi: u64) -> u64
+    ensures { λ r. ⌜ r ≡ countOutside lo hi (now (v .entry)) ⌝ }
+{
+    let mut n: u64 = 0;
+    let mut i = 0;
+    while i < v.len() {
+        n += outside(v[i], lo, hi);
+        i += 1;
+    }
+    n
+}
+
+// The values of the line that starts at `at` with key, of which number `signed` may carry a minus. Those that fit are stored
+// in out.
+fn read_keyed(s: &[u8], at: usize, key: &[u8], signed: usize, out: &mut [u64]) -> Values
+    ensures answer { λ r. ⌜ r ≡ keyedAt (now (key .entry)) (now (s .entry)) at signed (now (out .entry)) .answer ⌝ }
+    ensures stored { λ _. ⌜ now (out .exit) ≡ keyedAt (now (key .entry)) (now (s .entry)) at signed (now (out .entry)) .out ⌝ }
+{
+    if starts(s, at, key) {
+        let from = at + key.len();
+        return read_values(s, from, signed, out);
+    }
+    Values::Wrong
+}
+
+// What a line is whose values are these, where n are due and `within` says whether those stored are in range.
+fn judge_values(v: Values, n: usize, within: bool) -> Verdict
+    ensures { λ r. ⌜ r ≡ verdictOf v n within ⌝ }
+{
+    match v {
+        Values::Wrong => Verdict::Refused { number: 12 },
+        Values::Read {
+            count,
+            next,
+            minus: _,
+        } => {
+            if count != n {
+                return Verdict::Refused { number: 14 };
+            }
+            if within {
+                return Verdict::Good { next };
+            }
+            Verdict::Refused { number: 13 }
+        }
+    }
+}
+
+// Whether one of these values has a minus.
+fn has_minus(v: Values) -> bool
+    ensures { λ r. ⌜ r ≡ minusOf v ⌝ }
+{
+    match v {
+        Values::Wrong => false,
+        Values::Read {
+            count: _,
+            next: _,
+            minus,
+        } => minus,
+    }
+}
+
+// What the line is that starts at `at` with key and has a value for each of lows, none with a minus. The values are stored
+// in out.
+pub fn fill_line(
+    s: &[u8],
+    at: usize,
+    key: &[u8],
+    lows: &[u64],
+    highs: &[u64],
+    out: &mut [u64],
+) -> Verdict
+    requires { ⌜ (oneLine (now key) ≡ true) × ((length (now lows) ≤ 48) × ((length (now highs) ≡ length (now lows)) × ((belowAll (now highs) ≡ true) × (length (now out) ≡ length (now lows))))) ⌝ }
+    ensures answer { λ r. ⌜ r ≡ rowOf (form (now (key .entry)) 0 (now (lows .entry)) (now (highs .entry))) (lineAt (now (s .entry)) at) at .verdict ⌝ }
+    ensures stored { λ _. ⌜ now (out .exit) ≡ storedAt (now (key .entry)) (now (s .entry)) at (now (out .entry)) ⌝ }
+{
+    let v = read_keyed(s, at, key, 0, out);
+    let within = all_within(out, lows, highs);
+    judge_values(v, out.len(), within)
+}
+
+// What the line is that starts at `at` with key and has a value for each place of out, each from lo to hi. The values are
+// stored in out.
+pub fn fill_row(s: &[u8], at: usize, key: &[u8], lo: u64, hi: u64, out: &mut [u64]) -> Verdict
+    requires { ⌜ (oneLine (now key) ≡ true) × ((length (now out) ≤ 48) × (hi < cap)) ⌝ }
+    ensures answer { λ r. ⌜ r ≡ rowOf (plain (now (key .entry)) (length (now (out .entry))) lo hi) (lineAt (now (s .entry)) at) at .verdict ⌝ }
+    ensures stored { λ _. ⌜ now (out .exit) ≡ storedAt (now (key .entry)) (now (s .entry)) at (now (out .entry)) ⌝ }
+{
+    let v = read_keyed(s, at, key, 0, out);
+    let many = count_outside(out, lo, hi);
+    judge_values(v, out.len(), many == 0)
+}
+
 // The row of a line that a number refuses.
 fn refused(number: u64) -> Row
     ensures { λ r. ⌜ r ≡ noRow number ⌝ }
@@ -265,29 +371,20 @@ pub fn read_line(s: &[u8], at: usize, key: &[u8], signed: usize, lows: &[u64], h
 {
     let mut values = [0u64; 48];
     let n = lows.len();
-    if starts(s, at, key) {
-        let from = at + key.len();
-        let v = read_values(s, from, signed, &mut values);
-        match v {
-            Values::Wrong => {
-                return refused(12);
-            }
-            Values::Read { count, next, minus } => {
-                if count != n {
-                    return refused(14);
-                }
-                if all_within(&values[..n], lows, highs) {
-                    return Row {
-                        verdict: Verdict::Good { next },
-                        minus,
-                        values,
-                    };
-                }
-                return refused(13);
+    let v = read_keyed(s, at, key, signed, &mut values);
+    let within = all_within(&values[..n], lows, highs);
+    let verdict = judge_values(v, n, within);
+    match verdict {
+        Verdict::Refused { number } => refused(number),
+        Verdict::Good { next } => {
+            let minus = has_minus(v);
+            Row {
+                verdict: Verdict::Good { next },
+                minus,
+                values,
             }
         }
     }
-    refused(12)
 }
 
 // The line that starts at `at` with key and has n values, each from lo to hi.
@@ -295,7 +392,14 @@ pub fn read_row(s: &[u8], at: usize, key: &[u8], n: usize, lo: u64, hi: u64) -> 
     requires { ⌜ (oneLine (now key) ≡ true) × ((n ≤ 48) × (hi < cap)) ⌝ }
     ensures { λ r. ⌜ r ≡ rowOf (plain (now (key .entry)) n lo hi) (lineAt (now (s .entry)) at) at ⌝ }
 {
-    let lows = [lo; 48];
-    let highs = [hi; 48];
-    read_line(s, at, key, 0, &lows[..n], &highs[..n])
+    let mut values = [0u64; 48];
+    let verdict = fill_row(s, at, key, lo, hi, &mut values[..n]);
+    match verdict {
+        Verdict::Refused { number } => refused(number),
+        Verdict::Good { next } => Row {
+            verdict: Verdict::Good { next },
+            minus: false,
+            values,
+        },
+    }
 }

@@ -1,131 +1,104 @@
-use native.Mathlib.Omega.{arith}
-use mathlib.Core.Path.{sym, _∙_}
-use lib.ListN.{length, replicate, length-take}
-use lib.Seq.{length-take-le}
-use Rattle.text.specs.Lines.{lineAt}
-use Rattle.text.specs.Forms.{form}
-use Rattle.text.proofs.Keys.{key-fits}
-use Rattle.text.proofs.Scanned.{key-off, answer-wrong, answer-read}
-use Rattle.text.proofs.Rows.{row-malformed, answer-count, answer-range, answer-good}
 use borrow.Author.Needs.{needs}
+use native.Mathlib.Omega.{arith}
+use mathlib.Core.Path.{_≡_, sym, _∙_}
+use lib.ListN.{length, replicate, length-replicate, length-take}
+use lib.Seq.{length-take-le}
+use Prim.Native.Nat.{ℕ, _≤_}
+use Rattle.text.specs.Lines.{lineAt}
+use Rattle.text.specs.Forms.{Form, form, numbers-of, rowOf}
+use Rattle.text.proofs.Rows.{verdict-is, good-held}
+use Rattle.text.proofs.Verdicts.{refused-row, ruled-good, good-row}
+use Rattle.text.proofs.Accepted.{good-rendered}
+use Rattle.text.proofs.Plain.{padded-is}
 use Rattle.text.proofs.read_line.Statement.{statement}
 use Rattle.text.proofs.read_line.Tie as tie
 
-starts-requires : tie.Need-starts-requires
-starts-requires c κs = search needs
+slice-aggregate-read-keyed : tie.Need-slice-aggregate-read-keyed
+slice-aggregate-read-keyed c = search needs
 
-add-from : tie.Need-add-from
-add-from c =
-    let st = c .before .before .before .before .before .before in
-    let a = st .args in
-    omega (arith, key-fits (a .s .now) (a .key .now) (a .at) (sym (c .before .starts .ensures) ∙ c .if1 .taken), st .good, st .fits)
-
-slice-aggregate-read-values : tie.Need-slice-aggregate-read-values
-slice-aggregate-read-values c = search needs
-
-read-values-requires : tie.Need-read-values-requires
-read-values-requires c κs = search needs
-
-enum-told : tie.Need-enum-told
-enum-told c = search needs
-
-refused-requires : tie.Need-refused-requires
-refused-requires c κs = search needs
-
-returns : tie.Need-returns
-returns c =
-    let st = c .before .before .before .before .before .before .before .before .before .before .before .before in
-    let a = st .args in
-    let f = form (a .key .now) (a .signed) (a .lows .now) (a .highs .now) in
-    let on = sym (c .before .before .before .before .before .before .before .starts .ensures) ∙ c .before .before .before .before .before .before .if1 .taken in
-    let v = c .before .before .before .before .read-values in
-    c .refused .ensures ∙ row-malformed f (lineAt (a .s .now) (a .at)) (a .at) (answer-wrong f (a .s .now) (replicate 48 0) (a .at) (st .pre .0) on (sym (v .ensures .0) ∙ c .before .enum-told .given .1))
-
-enum-known-v : tie.Need-enum-known-v
-enum-known-v c = search needs
-
-refused-requires-2 : tie.Need-refused-requires-2
-refused-requires-2 c κs = search needs
-
-returns-2 : tie.Need-returns-2
-returns-2 c =
-    let st = c .before .before .before .before .before .before .before .before .before .before .before .before .before .before in
-    let a = st .args in
-    let f = form (a .key .now) (a .signed) (a .lows .now) (a .highs .now) in
-    let on = sym (c .before .before .before .before .before .before .before .before .before .starts .ensures) ∙ c .before .before .before .before .before .before .before .before .if1 .taken in
-    let v = c .before .before .before .before .before .before .read-values in
-    let w = answer-read f (a .s .now) (replicate 48 0) (a .at) (st .pre .0) on _ _ _ (sym (v .ensures .0) ∙ c .before .before .before .v .given .1) in
-    c .refused2 .ensures ∙ answer-count f (lineAt (a .s .now) (a .at)) (a .at) _ _ _ _ w (c .before .if2 .taken)
+read-keyed-requires : tie.Need-read-keyed-requires
+read-keyed-requires c κs = search needs
 
 array-share-prefix-values : tie.Need-array-share-prefix-values
 array-share-prefix-values c = search needs
 
 slice-aggregate-all-within : tie.Need-slice-aggregate-all-within
 slice-aggregate-all-within c =
-    let st = c .before .before .before .before .before .before .before .before .before .before .before .before .before .before in
-    sym (length-take-le (length (st .args .lows .now)) (c .before .before .before .before .before .before .read-values .last .1 .1 .1 .0) (omega (arith, c .before .before .before .before .before .before .read-values .kept, st .pre .1 .0)))
+    let st = c .before .before .before .before .before .before .before .before in
+    let v = c .before .before .read-keyed in
+    sym (length-take-le (length (st .args .lows .now)) (v .last .1 .1 .1 .1 .0) (omega (arith, v .kept, st .pre .1 .0)))
 
 all-within-requires : tie.Need-all-within-requires
 all-within-requires c κs =
-    let st = c .before .before .before .before .before .before .before .before .before .before .before .before .before .before in
-    let e = length-take (length (st .args .lows .now)) (c .before .before .before .before .before .before .read-values .last .1 .1 .1 .0) in
+    let st = c .before .before .before .before .before .before .before .before in
+    let e = length-take (length (st .args .lows .now)) (c .before .before .read-keyed .last .1 .1 .1 .1 .0) in
     (omega (arith, e), omega (arith, e, st .pre .1 .1 .0))
 
-returns-3 : tie.Need-returns-3
-returns-3 c =
-    let st = c .before .before .before .before .before .before .before .before .before .before .before .before .before .before .before .before in
+judge-values-requires : tie.Need-judge-values-requires
+judge-values-requires c κs = search needs
+
+-- the form of the line
+abbrev due : (c : tie.Start) → Form
+due c = form (c .args .key .now) (c .args .signed) (c .args .lows .now) (c .args .highs .now)
+
+room : (c : tie.Start) → length (c .args .lows .now) ≤ length (replicate {A = ℕ} 48 0)
+room c = omega (arith, length-replicate {A = ℕ} 48 0, c .pre .1 .0)
+
+-- the verdict is that of the line
+verdict : (c : tie.After-judge-values) →
+    let st = c .before .before .before .before .before .before .before .before .before .before in
+    c .judge-values .result ≡ rowOf (due st) (lineAt (st .args .s .now) (st .args .at)) (st .args .at) .verdict
+verdict c =
+    let st = c .before .before .before .before .before .before .before .before .before .before in
     let a = st .args in
-    let f = form (a .key .now) (a .signed) (a .lows .now) (a .highs .now) in
-    let on = sym (c .before .before .before .before .before .before .before .before .before .before .before .starts .ensures) ∙ c .before .before .before .before .before .before .before .before .before .before .if1 .taken in
-    let v = c .before .before .before .before .before .before .before .before .read-values in
-    let w = answer-read f (a .s .now) (replicate 48 0) (a .at) (st .pre .0) on _ _ _ (sym (v .ensures .0) ∙ c .before .before .before .before .before .v .given .1) in
-    answer-good f (lineAt (a .s .now) (a .at)) (a .at) _ _ _ _ w (v .last .1 .1 .1 .0) (v .ensures .1) (c .before .before .before .if2 .left) (st .pre .1 .0) (st .pre .1 .1 .1)
-    (sym (c .before .all-within .ensures) ∙ c .if3 .taken)
+    let v = c .before .before .before .before .read-keyed .ensures in
+    c .judge-values .ensures ∙ verdict-is (due st) (a .s .now) (replicate 48 0) (a .at) (st .pre .0) (st .pre .1 .1 .1) (room st) (v .0) (v .1) (c .before .all-within .ensures)
 
-refused-requires-3 : tie.Need-refused-requires-3
-refused-requires-3 c κs = search needs
+enum-known-verdict : tie.Need-enum-known-verdict
+enum-known-verdict c = search needs
 
-returns-4 : tie.Need-returns-4
-returns-4 c =
-    let st = c .before .before .before .before .before .before .before .before .before .before .before .before .before .before .before .before .before in
+refused-requires : tie.Need-refused-requires
+refused-requires c κs = search needs
+
+enum-known-verdict-2 : tie.Need-enum-known-verdict-2
+enum-known-verdict-2 c = search needs
+
+has-minus-requires : tie.Need-has-minus-requires
+has-minus-requires c κs = search needs
+
+returns : tie.Need-returns
+returns c =
+    let st = c .before .before .before .before .before .before .before .before .before .before .before .before .before .before in
     let a = st .args in
-    let f = form (a .key .now) (a .signed) (a .lows .now) (a .highs .now) in
-    let on = sym (c .before .before .before .before .before .before .before .before .before .before .before .before .starts .ensures) ∙ c .before .before .before .before .before .before .before .before .before .before .before .if1 .taken in
-    let v = c .before .before .before .before .before .before .before .before .before .read-values in
-    let w = answer-read f (a .s .now) (replicate 48 0) (a .at) (st .pre .0) on _ _ _ (sym (v .ensures .0) ∙ c .before .before .before .before .before .before .v .given .1) in
-    c .refused3 .ensures
-    ∙ answer-range f (lineAt (a .s .now) (a .at)) (a .at) _ _ _ _ w (v .last .1 .1 .1 .0) (v .ensures .1) (c .before .before .before .before .if2 .left) (st .pre .1 .0) (st .pre .1 .1 .1)
-    (sym (c .before .before .all-within .ensures) ∙ c .before .if3 .left)
+    let j = c .before .before .before .before in
+    c .refused .ensures ∙ refused-row (due st) (lineAt (a .s .now) (a .at)) (a .at) (j .judge-values .result) (verdict j) _ (c .before .before .verdict .given .1)
 
-refused-requires-4 : tie.Need-refused-requires-4
-refused-requires-4 c κs = search needs
-
-returns-5 : tie.Need-returns-5
-returns-5 c =
-    let st = c .before .before .before .before .before .before .before in
+returns-2 : tie.Need-returns-2
+returns-2 c =
+    let st = c .before .before .before .before .before .before .before .before .before .before .before .before .before .before in
     let a = st .args in
-    let f = form (a .key .now) (a .signed) (a .lows .now) (a .highs .now) in
-    c .refused4 .ensures ∙ row-malformed f (lineAt (a .s .now) (a .at)) (a .at) (key-off f (a .s .now) (a .at) (sym (c .before .before .starts .ensures) ∙ c .before .if1 .left))
+    let l = lineAt (a .s .now) (a .at) in
+    let j = c .before .before .before .before in
+    let v = c .before .before .before .before .before .before .before .before .read-keyed .ensures in
+    let said = c .before .before .verdict2 .given in
+    let g = ruled-good (due st) l (a .at) (j .judge-values .result) (verdict j) (said .0 .0) (said .1) .0 in
+    let h = good-held (due st) (a .s .now) (replicate 48 0) (a .at) (st .pre .0) (st .pre .1 .1 .1) (room st) (v .0) (v .1) g in
+    good-row (due st) l (a .at) (j .judge-values .result) (verdict j) (said .0 .0) (said .1) _ (c .has-minus .ensures ∙ h .minus) _
+    (h .values ∙ padded-is (numbers-of (due st) l) (length (a .lows .now)) (good-rendered (due st) l g .fits .count) (st .pre .1 .0))
 
 pub read-line-spec : {M : Type 1} → statement M
 read-line-spec =
     tie.close
     (tie.spec
-    starts-requires
-    add-from
-    slice-aggregate-read-values
-    read-values-requires
-    enum-told
-    refused-requires
-    returns
-    enum-known-v
-    refused-requires-2
-    returns-2
+    slice-aggregate-read-keyed
+    read-keyed-requires
     array-share-prefix-values
     slice-aggregate-all-within
     all-within-requires
-    returns-3
-    refused-requires-3
-    returns-4
-    refused-requires-4
-    returns-5)
+    judge-values-requires
+    enum-known-verdict
+    refused-requires
+    enum-known-verdict-2
+    has-minus-requires
+    returns
+    returns-2)

@@ -1,62 +1,81 @@
-use native.Mathlib.Omega.{arith}
-use mathlib.Core.Path.{sym, ap, _∙_}
-use lib.ListN.{length, replicate, length-replicate, take}
-use Prim.Native.Nat.{ℕ}
-use mathlib.Core.List.{List}
-use Rattle.text.specs.Lines.{lineAt}
-use Rattle.text.specs.Forms.{form, rowOf, belowAll}
-use Rattle.text.proofs.Rows.{part-same, below-same}
 use borrow.Author.Needs.{needs}
+use native.Mathlib.Omega.{arith}
+use mathlib.Core.Path.{_≡_, sym, ap, _∙_}
+use mathlib.Core.List.{List, _++_}
+use lib.ListN.{length, take, drop, replicate, length-replicate}
+use lib.Seq.{length-take-le}
+use Prim.Native.Nat.{ℕ}
+use Rattle.text.specs.Lines.{lineAt}
+use Rattle.text.specs.Forms.{plain, numbers-of, rowOf}
+use Rattle.text.proofs.Verdicts.{refused-row, good-row}
+use Rattle.text.proofs.Plain.{plain-was, padded-is}
+use Rattle.text.proofs.Fills.{plain-filled}
 use Rattle.text.proofs.read_row.Statement.{statement}
 use Rattle.text.proofs.read_row.Tie as tie
 
-array-share-prefix-lows : tie.Need-array-share-prefix-lows
-array-share-prefix-lows c = search needs
+-- the part that is lent
+long : (c : tie.Start) → length (take (c .args .n) (replicate {A = ℕ} 48 0)) ≡ c .args .n
+long c = length-take-le (c .args .n) (replicate {A = ℕ} 48 0) (omega (arith, length-replicate {A = ℕ} 48 0, c .pre .1 .0))
 
-slice-aggregate-read-line : tie.Need-slice-aggregate-read-line
-slice-aggregate-read-line c =
+array-borrow-prefix-values : tie.Need-array-borrow-prefix-values
+array-borrow-prefix-values c = search needs
+
+slice-aggregate-fill-row : tie.Need-slice-aggregate-fill-row
+slice-aggregate-fill-row c = sym (long (c .before .before .before))
+
+fill-row-requires : tie.Need-fill-row-requires
+fill-row-requires c κs =
     let st = c .before .before .before in
-    sym (length-replicate {A = ℕ} (st .args .n) (st .args .lo)) ∙ ap length (sym (part-same (st .args .n) (st .args .lo) (st .pre .1 .0)))
+    (st .pre .0, (omega (arith, long st, st .pre .1 .0), st .pre .1 .1))
 
-array-share-prefix-highs : tie.Need-array-share-prefix-highs
-array-share-prefix-highs c = search needs
-
-slice-aggregate-read-line-2 : tie.Need-slice-aggregate-read-line-2
-slice-aggregate-read-line-2 c =
-    let st = c .before .before .before .before in
-    sym (length-replicate {A = ℕ} (st .args .n) (st .args .hi)) ∙ ap length (sym (part-same (st .args .n) (st .args .hi) (st .pre .1 .0)))
-
-read-line-requires : tie.Need-read-line-requires
-read-line-requires c κs =
+-- the verdict is that of the line
+verdict : (c : tie.After-fill-row) →
     let st = c .before .before .before .before in
     let a = st .args in
-    let l = part-same (a .n) (a .lo) (st .pre .1 .0) in
-    let h = part-same (a .n) (a .hi) (st .pre .1 .0) in (
-      st .pre .0,
-      (
-        omega (arith, ap length l, length-replicate {A = ℕ} (a .n) (a .lo), st .pre .1 .0),
-        (
-          ap length h ∙ length-replicate {A = ℕ} (a .n) (a .hi) ∙ sym (ap length l ∙ length-replicate {A = ℕ} (a .n) (a .lo)),
-          ap belowAll h ∙ below-same (a .n) (a .hi) (st .pre .1 .1),
-        ),
-      ),
-    )
+    c .fill-row .result ≡ rowOf (plain (a .key .now) (a .n) (a .lo) (a .hi)) (lineAt (a .s .now) (a .at)) (a .at) .verdict
+verdict c =
+    let st = c .before .before .before .before in
+    let a = st .args in
+    c .fill-row .ensures .0 ∙ ap (λ (n : ℕ). rowOf (plain (a .key .now) n (a .lo) (a .hi)) (lineAt (a .s .now) (a .at)) (a .at) .verdict) (long st)
+
+enum-known-verdict : tie.Need-enum-known-verdict
+enum-known-verdict c = search needs
+
+refused-requires : tie.Need-refused-requires
+refused-requires c κs = search needs
+
+enum-known-verdict-2 : tie.Need-enum-known-verdict-2
+enum-known-verdict-2 c = search needs
 
 returns : tie.Need-returns
 returns c =
-    let st = c .before .before .before .before .before in
+    let a = c .before .before .before .before .before .before .before .before .before .args in
+    let r = c .before .before .before .before .before in
+    c .refused .ensures
+    ∙ refused-row (plain (a .key .now) (a .n) (a .lo) (a .hi)) (lineAt (a .s .now) (a .at)) (a .at) (r .fill-row .result) (verdict r) _ (c .before .before .verdict .given .1)
+
+returns-2 : tie.Need-returns-2
+returns-2 c =
+    let st = c .before .before .before .before .before .before .before .before in
     let a = st .args in
-    c .read-line .ensures
-    ∙ ap (λ (l : List ℕ). rowOf (form (a .key .now) 0 l (take (a .n) (replicate 48 (a .hi)))) (lineAt (a .s .now) (a .at)) (a .at)) (part-same (a .n) (a .lo) (st .pre .1 .0))
-    ∙ ap (λ (h : List ℕ). rowOf (form (a .key .now) 0 (replicate (a .n) (a .lo)) h) (lineAt (a .s .now) (a .at)) (a .at)) (part-same (a .n) (a .hi) (st .pre .1 .0))
+    let f = plain (a .key .now) (a .n) (a .lo) (a .hi) in
+    let l = lineAt (a .s .now) (a .at) in
+    let r = c .before .before .before .before in
+    let said = c .before .verdict2 .given in
+    let g = plain-filled (a .key .now) (a .lo) (a .hi) (a .s .now) (take (a .n) (replicate 48 0)) (a .at) (st .pre .0) (st .pre .1 .1) (r .fill-row .ensures .1) (long st) (verdict r) (said .1) in
+    let p = plain-was (a .key .now) (a .n) (a .lo) (a .hi) l (g .line-good) in
+    good-row f l (a .at) (r .fill-row .result) (verdict r) (said .0 .0) (said .1) _ (sym (p .unsigned)) _
+    (ap (λ (x : List ℕ). x ++ drop (a .n) (replicate 48 0)) (g .values) ∙ padded-is (numbers-of f l) (a .n) (p .count) (st .pre .1 .0))
 
 pub read-row-spec : {M : Type 1} → statement M
 read-row-spec =
     tie.close
     (tie.spec
-    array-share-prefix-lows
-    slice-aggregate-read-line
-    array-share-prefix-highs
-    slice-aggregate-read-line-2
-    read-line-requires
-    returns)
+    array-borrow-prefix-values
+    slice-aggregate-fill-row
+    fill-row-requires
+    enum-known-verdict
+    refused-requires
+    enum-known-verdict-2
+    returns
+    returns-2)
