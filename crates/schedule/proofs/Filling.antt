@@ -1,30 +1,20 @@
 -- An array that fills up row by row: the rows that are cut out of it are those that were stored, one after the other.
-use Prim.Native.Nat.{ℕ, zero, suc, _+_, _-_, _*_, _≤_, _<_}
-use native.Mathlib.Nat.{zero-mul, sub-zero, zero-sub, suc-sub-suc}
+use Prim.Native.Nat.{ℕ, suc, _+_, _-_, _*_, _≤_}
+use native.Mathlib.Nat.{zero-mul}
 use native.Mathlib.Omega.{arith}
 use mathlib.Core.Path.{_≡_, refl, sym, ap, _∙_}
 use mathlib.Core.List.{List, [], _∷_, _++_, append-assoc}
-use lib.ListN.{length, take, drop, getD, replicate, length-append}
-use lib.Seq.{drop-drop, take-at, drop-at, length-take-le, getD-take, paste, take-paste}
+use lib.ListN.{length, take, drop, replicate, length-append}
+use lib.Seq.{drop-drop, take-at, drop-at, length-take-le, paste, take-paste}
 use Rattle.model.specs.Instance.{Instance, Schedule}
 use Rattle.model.specs.Ranges.{All, GoodOutput, Shaped}
 use Rattle.model.specs.Held.{pad}
 use Rattle.model.proofs.Held.{length-pad}
+use Rattle.text.proofs.Plain.{drop-replicate}
 use Rattle.judge.specs.Rows.{cut-rows, joined}
-use Rattle.judge.proofs.Rows.{row, all-at, all-append}
+use Rattle.judge.proofs.Rows.{row, all-append}
 use Rattle.schedule.specs.Storing.{Filled}
 use Rattle.schedule.proofs.CutRows.{cut-take, joined-front, cut-last, cut-front}
-
-pub drop-replicate : {A : Type 0} (z : A) (n i : ℕ) → drop i (replicate n z) ≡ replicate (n - i) z
-drop-replicate z n zero = rw sub-zero
-drop-replicate z zero (suc i) = rw zero-sub
-drop-replicate z (suc n) (suc i) = rw suc-sub-suc (drop-replicate z n i)
-
--- an output of a row
-pub output-at : (n : ℕ) (values : List ℕ) → n ≤ length values → All GoodOutput (take n values) → (t : ℕ) → t < n → getD values t 0 ≤ 10000
-output-at n values h good t k =
-    let e = length-take-le n values h in
-    rw (getD-take n values t 0 k) at (all-at GoodOutput (take n values) 0 good t (omega arith) .1)
 
 -- ---- storing a row
 

@@ -7,7 +7,7 @@ use mathlib.Core.Path.{_≡_, refl, ap, subst, _∙_}
 use mathlib.Core.Bool.{true, false}
 use mathlib.Core.List.{List, [], _∷_, _++_}
 use lib.ListN.{length, take, replicate}
-use lib.Seq.{paste, length-take-le}
+use lib.Seq.{paste, take-all, length-take-le}
 use Rattle.model.specs.declared.arrays.Problem.{Problem}
 use Rattle.model.specs.Instance.{Instance}
 use Rattle.model.specs.Held.{view, Valid}
@@ -15,8 +15,7 @@ use Rattle.model.specs.Ranges.{All, GoodOutput}
 use Rattle.text.specs.Lines.{Line, lineAt}
 use Rattle.text.specs.Forms.{Form, numbers-of, refusedBy, after}
 use Rattle.text.specs.Forms as forms
-use Rattle.text.specs.declared.Row.{Row}
-use Rattle.text.proofs.PlainRows.{PlainRow}
+use Rattle.text.proofs.Fills.{PlainFilled}
 use Rattle.judge.specs.Rows.{cut-rows}
 use Rattle.schedule.specs.Rendering.{run-key}
 use Rattle.schedule.specs.Course.{Written, written, run-due, end-due, runs-due, with-row, run-form}
@@ -63,8 +62,8 @@ module _ (P : Instance) (text : List ℕ) (i k units : ℕ) (v : Written) (left 
       rw (one-due, ← e) (row-passed P text i (k + 3) (run-due (units - suc k) v) refl run refl g)
 
 -- the outputs of a good run line are in range
-pub outputs-in : {T : ℕ} {l : Line} {at next : ℕ} {row : Row} → PlainRow run-key T 0 10000 l at next row → All GoodOutput (take T (row .values))
-outputs-in {T} {row = row} g = all-from GoodOutput (take T (row .values)) (g .range)
+pub outputs-in : {T : ℕ} {l : Line} {at next : ℕ} {out : List ℕ} → PlainFilled run-key T 0 10000 l at next out → All GoodOutput out
+outputs-in {out = out} g = all-from GoodOutput out (g .range)
 
 -- ---- line by line
 
@@ -99,16 +98,17 @@ module _ {P : Instance} {text : List ℕ} {T w units : ℕ} {whole : ScheduleRea
           ∙ run-stopped P text i k units (written w (cut-rows k T rows)) left (rw long (g .0))
           ∙ ap (λ (n : ℕ). refused-read n (k + 3)) (rw long (g .1))
 
-      -- past a good line, whose row is stored
-      pub reading-more : {row : Row} {next : ℕ} → PlainRow run-key T 0 10000 (lineAt text i) i next row
-          → suc k * T ≤ 1536 → T ≤ length (row .values) → {stored : List ℕ} → stored ≡ paste rows (k * T) (row .values) T
-          → Reading P text T w units whole stored next (k + 1)
-      reading-more {row} g fits values e =
+      -- past a good line, whose numbers are stored
+      pub reading-more : {out : List ℕ} {next : ℕ} → PlainFilled run-key T 0 10000 (lineAt text i) i next out
+          → suc k * T ≤ 1536 → {stored : List ℕ} → stored ≡ paste rows (k * T) out (length out) → Reading P text T w units whole stored next (k + 1)
+      reading-more {out} g fits e =
           let room : suc k * T ≤ length rows = omega (arith, filled-length k T rows (reading .filled) (omega arith)) in
+          let all : take T out ≡ out = take-all T out (omega (arith, g .count)) in
+          let enough : T ≤ length out = omega (arith, g .count) in
           let v = written w (cut-rows k T rows) in
-          let f = filled-more k T rows (row .values) (reading .filled) room values (outputs-in g) in
-          let c = cut-more k T rows (row .values) (reading .filled) room values ∙ ap (λ (r : List ℕ). cut-rows k T rows ++ (r ∷ [])) (g .values) in
-          rw (e, add-one, g .next-is) record {
+          let f = filled-more k T rows out (reading .filled) room enough (rw all (outputs-in g)) in
+          let c = cut-more k T rows out (reading .filled) room enough ∙ ap (λ (r : List ℕ). cut-rows k T rows ++ (r ∷ [])) (all ∙ g .values) in
+          rw (e, g .count, add-one, g .next-is) record {
             some-left = left;
             filled = f;
             same = reading .same ∙ run-passed P text i k units v left (rw long (g .line-good)) ∙ rw (long, c) refl;

@@ -72,18 +72,24 @@ fn read_from_runs(problem: Problem, text: &[u8], at: usize, writer: u64) -> Sche
     let units = problem.units;
     let periods = problem.periods;
     let mut rows = [0u16; 1536];
+    let mut values = [0u64; 48];
     let mut i = at;
     let mut k: usize = 0;
     while k < units {
-        let row = text::read_row(text, i, b"run=", periods, Output::LEAST, Output::MOST);
-        let verdict = row.verdict;
+        let verdict = text::fill_row(
+            text,
+            i,
+            b"run=",
+            Output::LEAST,
+            Output::MOST,
+            &mut values[..periods],
+        );
         match verdict {
             Verdict::Refused { number } => {
                 return refuse_text(number, k + 3, 0, 0);
             }
             Verdict::Good { next } => {
-                let values = row.values;
-                rows::store_row(&mut rows, k * periods, periods, values);
+                rows::store_row(&mut rows, k * periods, &values[..periods]);
                 i = next;
                 k += 1;
             }

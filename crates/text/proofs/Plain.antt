@@ -1,12 +1,13 @@
 -- Lines without a minus, whose values have one range: good exactly where they render as many values as are due, each in the
 -- range. And what the row of 48 numbers then holds.
-use Prim.Native.Nat.{ℕ, zero, suc, _+_, _-_, _≤_, _<_}
+use Prim.Native.Nat.{ℕ, zero, suc, _-_, _≤_, _<_}
+use native.Mathlib.Nat.{sub-zero, zero-sub, suc-sub-suc}
 use native.Mathlib.Omega.{arith}
 use mathlib.Core.Path.{_≡_, refl, sym, ap, _∙_}
 use mathlib.Core.Bool.{Bool, true, false, _&&_}
 use mathlib.Core.List.{List, [], _∷_, _++_}
-use lib.ListN.{length, take, drop, getD, replicate, length-replicate, replicate-append-replicate, List·getD-append}
-use lib.Seq.{take-at, drop-at}
+use lib.ListN.{length, take, drop, getD, replicate, length-replicate, List·getD-append}
+use lib.Seq.{take-at}
 use lib.Dec.{leb}
 use borrow.Author.Tests.{leb-true, le-leb}
 use Rattle.text.specs.Lines.{Line, ended}
@@ -103,14 +104,11 @@ padded-take vs n e = take-at vs (replicate (48 - length vs) 0) n e
 pub padded-at : (vs : List ℕ) (i : ℕ) → i < length vs → getD (padded vs) i 0 ≡ getD vs i 0
 padded-at vs i h = List·getD-append vs (replicate (48 - length vs) 0) 0 i h
 
-zeros : ℕ → List ℕ
-zeros n = replicate n 0
+pub drop-replicate : {A : Type 0} (z : A) (n i : ℕ) → drop i (replicate n z) ≡ replicate (n - i) z
+drop-replicate z n zero = rw sub-zero
+drop-replicate z zero (suc i) = rw zero-sub
+drop-replicate z (suc n) (suc i) = rw suc-sub-suc (drop-replicate z n i)
 
 -- zeros stand after them
-pub padded-is : (vs : List ℕ) (n : ℕ) → length vs ≡ n → n ≤ 48 → vs ++ drop n (replicate 48 0) ≡ padded vs
-unfolding zeros
-padded-is vs n e h =
-    let m : n + (48 - n) ≡ 48 = omega arith in
-    ap (λ (l : List ℕ). vs ++ l)
-    (ap (drop n) (ap zeros (sym m) ∙ sym (replicate-append-replicate {A = ℕ} n (48 - n) 0)) ∙ drop-at (zeros n) (zeros (48 - n)) n (length-replicate {A = ℕ} n 0))
-    ∙ ap (λ (k : ℕ). vs ++ zeros (48 - k)) (sym e)
+pub padded-is : (vs : List ℕ) (n : ℕ) → length vs ≡ n → vs ++ drop n (replicate 48 0) ≡ padded vs
+padded-is vs n e = ap (λ (l : List ℕ). vs ++ l) (drop-replicate 0 48 n ∙ ap (λ (k : ℕ). replicate (48 - k) 0) (sym e))

@@ -1,7 +1,7 @@
 -- What the row of a good line of numbers of one range says: where the next line starts, and which numbers stand on the line.
 use Prim.Native.Nat.{ℕ, _≤_, _<_}
 use native.Mathlib.Omega.{arith}
-use mathlib.Core.Path.{_≡_, sym, ap, subst, _∙_}
+use mathlib.Core.Path.{_≡_, sym, ap, _∙_}
 use mathlib.Core.Bool.{true}
 use mathlib.Core.List.{List}
 use lib.ListN.{take, getD}
@@ -10,15 +10,14 @@ use Rattle.text.specs.Forms.{plain, numbers-of, good, after, padded, row
 use Rattle.text.specs.declared.Row.{Row}
 use Rattle.text.specs.declared.Verdict.the-variants.{Good}
 use Rattle.text.proofs.Verdicts.{verdict-good, values-good}
-use Rattle.text.proofs.Plain.{Between, plain-was, padded-take, padded-at}
+use Rattle.text.proofs.Plain.{plain-was, padded-take, padded-at}
 
--- it begins with the n numbers of the line, which are in range, and has zeros after them
+-- it begins with the n numbers of the line, and has zeros after them
 pub record PlainRow (key : List ℕ) (n lo hi : ℕ) (l : Line) (at next : ℕ) (row : Row) : Type 0 where
   pub line-good : good (plain key n lo hi) l ≡ true
   pub next-is : next ≡ after l at
   pub values : take n (row .values) ≡ numbers-of (plain key n lo hi) l
   pub holds : padded (take n (row .values)) ≡ row .values
-  pub range : Between lo hi (take n (row .values))
   pub first : 0 < n → getD (row .values) 0 0 ≡ getD (numbers-of (plain key n lo hi) l) 0 0
   pub first-in : 0 < n → (lo ≤ getD (row .values) 0 0) × (getD (row .values) 0 0 ≤ hi)
 
@@ -37,7 +36,6 @@ plain-row key n lo hi l at next row is v =
       next-is = g .1;
       values = t;
       holds = ap padded t ∙ sym e;
-      range = subst (Between lo hi) (sym t) (p .range);
       first = first;
       first-in = λ h. let b = p .range 0 (omega arith) in let q = first h in (omega arith, omega arith);
     }

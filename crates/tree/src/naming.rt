@@ -17,12 +17,11 @@ pub fn read_named(text: &[u8], at: usize, key: &[u8], most: usize) -> NamedLine
     requires { ⌜ (oneLine (now key) ≡ true) × (most ≤ 48) ⌝ }
     ensures { λ r. ⌜ NamedRead (now (key .entry)) most (now (text .entry)) at r ⌝ }
 {
-    let row = text::read_row(text, at, key, 1, 1, most as u64);
-    let verdict = row.verdict;
+    let mut values = [0u64; 1];
+    let verdict = text::fill_row(text, at, key, 1, most as u64, &mut values);
     match verdict {
         Verdict::Refused { number } => NamedLine::Refused { number },
         Verdict::Good { next } => {
-            let values = row.values;
             let index = (values[0] - 1) as usize;
             NamedLine::Names { index, next }
         }

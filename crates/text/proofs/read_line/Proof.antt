@@ -84,7 +84,7 @@ returns-2 c =
     let g = ruled-good (due st) l (a .at) (j .judge-values .result) (verdict j) (said .0 .0) (said .1) .0 in
     let h = good-held (due st) (a .s .now) (replicate 48 0) (a .at) (st .pre .0) (st .pre .1 .1 .1) (room st) (v .0) (v .1) g in
     good-row (due st) l (a .at) (j .judge-values .result) (verdict j) (said .0 .0) (said .1) _ (c .has-minus .ensures ∙ h .minus) _
-    (h .values ∙ padded-is (numbers-of (due st) l) (length (a .lows .now)) (good-rendered (due st) l g .fits .count) (st .pre .1 .0))
+    (h .values ∙ padded-is (numbers-of (due st) l) (length (a .lows .now)) (good-rendered (due st) l g .fits .count))
 
 pub read-line-spec : {M : Type 1} → statement M
 read-line-spec =

@@ -65,7 +65,7 @@ returns-2 c =
     let g = plain-filled (a .key .now) (a .lo) (a .hi) (a .s .now) (take (a .n) (replicate 48 0)) (a .at) (st .pre .0) (st .pre .1 .1) (r .fill-row .ensures .1) (long st) (verdict r) (said .1) in
     let p = plain-was (a .key .now) (a .n) (a .lo) (a .hi) l (g .line-good) in
     good-row f l (a .at) (r .fill-row .result) (verdict r) (said .0 .0) (said .1) _ (sym (p .unsigned)) _
-    (ap (λ (x : List ℕ). x ++ drop (a .n) (replicate 48 0)) (g .values) ∙ padded-is (numbers-of f l) (a .n) (p .count) (st .pre .1 .0))
+    (ap (λ (x : List ℕ). x ++ drop (a .n) (replicate 48 0)) (g .values) ∙ padded-is (numbers-of f l) (a .n) (p .count))
 
 pub read-row-spec : {M : Type 1} → statement M
 read-row-spec =

@@ -5,30 +5,30 @@ use mathlib.Core.Path.{_≡_, ap, _∙_}
 use borrow.Author.Needs.{needs}
 use lib.ListN.{length}
 use lib.Seq.{paste, paste-zero, paste-suc}
-use Rattle.schedule.proofs.Filling.{output-at}
+use Rattle.model.specs.Ranges.{GoodOutput}
+use Rattle.judge.proofs.Rows.{all-at}
 use Rattle.schedule.proofs.rows.store_row.Statement.{statement}
 use Rattle.schedule.proofs.rows.store_row.Tie as tie
 
 abbrev Inv-loop : tie.InvT-loop
-Inv-loop rows₀ from n values t₀ rows t = (t ≤ n) × (rows ≡ paste rows₀ from values t)
+Inv-loop rows₀ from values t₀ rows t = (t ≤ length values) × (rows ≡ paste rows₀ from values t)
 
 abbrev μ-loop : tie.MeasureT-loop
-μ-loop rows₀ from n values t₀ rows t = n - t
+μ-loop rows₀ from values t₀ rows t = length values - t
 
 loop-holds : tie.Need-loop-holds Inv-loop μ-loop
-loop-holds c = (omega arith, paste-zero (c .args .rows .now) (c .args .from) (c .args .t4))
+loop-holds c = (omega arith, paste-zero (c .args .rows .now) (c .args .from) (c .args .values .now))
 
 mul-rows : tie.Need-mul-rows Inv-loop μ-loop
 mul-rows c = search needs
 
-array-read-rows : tie.Need-array-read-rows Inv-loop μ-loop
-array-read-rows c = search needs
+shared-slice-read-rows : tie.Need-shared-slice-read-rows Inv-loop μ-loop
+shared-slice-read-rows c = search needs
 
 cast-rows : tie.Need-cast-rows Inv-loop μ-loop
 cast-rows c =
-    let a = c .before .before .args in
-    let long : length (a .t4) ≡ 48 = search needs in
-    omega (arith, output-at (a .n) (a .t4) (omega arith) (c .before .before .pre .1 .1 .1) (c .before .loop .t) (omega arith))
+    let st = c .before .before .before in
+    omega (arith, all-at GoodOutput (st .args .values .now) 0 (st .pre .1 .1) (c .before .before .loop .t) (c .before .loop-test .taken) .1)
 
 add-rows : tie.Need-add-rows Inv-loop μ-loop
 add-rows c = search needs
@@ -47,18 +47,18 @@ loop-less c = omega arith
 
 loop-again : tie.Need-loop-again Inv-loop μ-loop
 loop-again c =
-    let a = c .before .before .args in
-    let long : length (a .t4) ≡ 48 = search needs in
-    let room = c .before .before .pre .1 .1 .0 in (
+    let st = c .before .before .before in
+    let l = c .before .before .loop in
+    let a = st .args in (
       omega arith,
-      rw (c .before .loop .inv .1, add-one) (paste-suc (a .rows .now) (a .from) (a .t4) (c .before .loop .t) 0 (omega arith) (omega arith)),
+      rw (l .inv .1, add-one) (paste-suc (a .rows .now) (a .from) (a .values .now) (l .t) 0 (omega (arith, st .pre)) (omega arith)),
     )
 
 returns : tie.Need-returns Inv-loop μ-loop
 returns c =
     let a = c .before .before .args in
-    let end : c .before .loop .t ≡ a .n = omega arith in
-    c .before .loop .inv .1 ∙ ap (paste (a .rows .now) (a .from) (a .t4)) end
+    let end : c .before .loop .t ≡ length (a .values .now) = omega arith in
+    c .before .loop .inv .1 ∙ ap (paste (a .rows .now) (a .from) (a .values .now)) end
 
 pub store-row-spec : {M : Type 1} → statement M
 store-row-spec =
@@ -68,7 +68,7 @@ store-row-spec =
     μ-loop
     loop-holds
     mul-rows
-    array-read-rows
+    shared-slice-read-rows
     cast-rows
     add-rows
     mul-rows-2

@@ -1,22 +1,31 @@
--- The row of the line says it: its one number less 1 is what the line names.
+-- The line's one number less 1 is what the line names.
 use borrow.Author.Needs.{needs}
 use native.Mathlib.Omega.{arith}
+use mathlib.Core.Path.{refl}
+use mathlib.Core.List.{[], _∷_}
+use Rattle.text.specs.Lines.{lineAt}
 use Rattle.text.specs.Forms.{plain}
-use Rattle.tree.proofs.Rows.{row-refused, row-good, row-moved, OneValue, one-value}
+use Rattle.text.proofs.Verdicts.{ruled-refused}
+use Rattle.text.proofs.Fills.{PlainFilled, plain-filled}
+use Rattle.tree.proofs.Rows.{line-moved, one-value}
 use Rattle.tree.proofs.naming.read_named.Statement.{statement}
 use Rattle.tree.proofs.naming.read_named.Tie as tie
 
-value : (c : tie.After-values) →
-    let r = c .before .before .before .before in
-    let a = r .before .before .before .args in
-    OneValue (a .key .now) (a .most) (a .text .now) (a .at) (r .read-row .result) (r .read-row .ensures) (c .before .before .verdict2 .given .0 .0) (c .before .before .verdict2 .given .1)
-value c =
-    let r = c .before .before .before .before in
-    let a = r .before .before .before .args in
-    one-value (a .key .now) (a .most) (a .text .now) (a .at) (r .read-row .result) (r .read-row .ensures) (c .before .before .verdict2 .given .0 .0) (c .before .before .verdict2 .given .1)
+-- a good line leaves its number
+filled : (c : tie.After-known-told2) →
+    let a = c .before .before .before .before .before .before .before .before .args in
+    PlainFilled (a .key .now) 1 1 (a .most) (lineAt (a .text .now) (a .at)) (a .at) (c .before .verdict2 .given .0 .0) (c .before .before .before .before .fill-row .last .1 .1 .1 .1 .1 .0)
+filled c =
+    let s = c .before .before .before .before .before .before .before .before in
+    let a = s .args in
+    let r = c .before .before .before .before .fill-row in
+    plain-filled (a .key .now) 1 (a .most) (a .text .now) (0 ∷ []) (a .at) (s .pre .0) (omega (arith, s .pre .1)) (r .ensures .1) refl (r .ensures .0) (c .before .verdict2 .given .1)
 
-read-row-requires : tie.Need-read-row-requires
-read-row-requires c κs = search needs
+slice-aggregate-fill-row : tie.Need-slice-aggregate-fill-row
+slice-aggregate-fill-row c = search needs
+
+fill-row-requires : tie.Need-fill-row-requires
+fill-row-requires c κs = search needs
 
 enum-known-verdict : tie.Need-enum-known-verdict
 enum-known-verdict c = search needs
@@ -28,33 +37,28 @@ array-read-index : tie.Need-array-read-index
 array-read-index c = search needs
 
 sub-index : tie.Need-sub-index
-sub-index c = value c .low
+sub-index c = one-value (filled c) .low
 
 returns : tie.Need-returns
 returns c =
-    let r = c .before .before .before in
-    let a = r .before .before .before .args in
+    let a = c .before .before .before .before .before .before .before .before .args in
+    let r = c .before .before .before .before .fill-row in
     let v = c .before .verdict .given in
-    row-refused (plain (a .key .now) 1 1 (a .most)) (a .text .now) (a .at) (r .read-row .result) (r .read-row .ensures) (v .0 .0) (v .1)
+    ruled-refused (plain (a .key .now) 1 1 (a .most)) (lineAt (a .text .now) (a .at)) (a .at) (r .result) (r .ensures .0) (v .0 .0) (v .1)
 
 returns-2 : tie.Need-returns-2
 returns-2 c =
-    let r = c .before .before .before .before in
-    let a = r .before .before .before .args in
-    let v = c .before .before .verdict2 .given in
-    let f = plain (a .key .now) 1 1 (a .most) in
-    let w = value c in (
-      row-good f (a .text .now) (a .at) (r .read-row .result) (r .read-row .ensures) (v .0 .0) (v .1),
-      w .is-named,
-      omega (arith, w .low, w .high),
-      row-moved f (a .text .now) (a .at) (r .read-row .result) (r .read-row .ensures) (v .0 .0) (v .1),
-    )
+    let a = c .before .before .before .before .before .before .before .before .args in
+    let g = filled c in
+    let w = one-value g in
+    (g .line-good, w .is-named, omega (arith, w .low, w .high), line-moved (plain (a .key .now) 1 1 (a .most)) (a .text .now) (a .at) _ (g .line-good) (g .next-is))
 
 pub read-named-spec : {M : Type 1} → statement M
 read-named-spec =
     tie.close
     (tie.spec
-    read-row-requires
+    slice-aggregate-fill-row
+    fill-row-requires
     enum-known-verdict
     enum-known-verdict-2
     array-read-index
