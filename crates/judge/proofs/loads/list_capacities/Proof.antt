@@ -3,7 +3,7 @@ use mathlib.Core.Path.{_≡_, refl}
 use Prim.Native.Nat.{_-_, _≤_}
 use native.Mathlib.Omega.{arith}
 use borrow.Author.Needs.{needs}
-use lib.ListN.{length, length-map, length-replicate}
+use lib.ListN.{length, length-map}
 use Rattle.judge.proofs.Capacities.{listed-more, listed-all}
 use Rattle.judge.specs.Capacities.{capacities}
 use lib.ListN.{take}

@@ -11,7 +11,7 @@ use Rattle.model.specs.Ranges.{GoodOutput}
 use Rattle.model.specs.Rules.{on}
 use Rattle.judge.proofs.Rows.{all-at}
 use Rattle.judge.proofs.Sums.{sum-more}
-use Rattle.judge.proofs.Counts.{bit-most, steep-bit, steep, steep-later, steep-breaches}
+use Rattle.judge.proofs.Counts.{bit-most, steep, steep-later, steep-breaches}
 use Rattle.judge.proofs.ramps.count_off_ramp.Statement.{statement}
 use Rattle.judge.proofs.ramps.count_off_ramp.Tie as tie
 

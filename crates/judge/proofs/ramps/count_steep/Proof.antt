@@ -1,4 +1,3 @@
-use native.Mathlib.Omega.{arith}
 use borrow.Author.Needs.{needs}
 use Rattle.judge.proofs.Counts.{steep-was-off, steep-is-off, steep-rises, steep-falls, steep-none}
 use Rattle.judge.proofs.ramps.count_steep.Statement.{statement}
