@@ -1,7 +1,7 @@
 -- Up and down times by looking back: counting from a period backwards, as far as the status stays, finds the periods that counting
 -- forward from Tini finds.
 use mathlib.Core.Path.{_≡_, refl, sym, ap, _∙_}
-use mathlib.Core.Bool.{Bool, true, false, not}
+use mathlib.Core.Bool.{Bool, true, false, not, Bool·not-not}
 use mathlib.Core.List.{List, [], _∷_}
 use Prim.Native.Nat.{ℕ, zero, suc, _+_, _-_, _≤_, _<_}
 use native.Mathlib.Omega.{arith}
@@ -32,11 +32,7 @@ spent-next b k (p ∷ r) (suc t) h = spent-next (on p) (spent b k (on p)) r t (o
 pub permitted-by : (g : Generator) (b : Bool) (k : ℕ) (r : List ℕ) (t : ℕ) → t < length r
     → not (not-permitted g b k (statuses r) t) ≡ permits g (status-before b (statuses r) t) (spent-before b k (statuses r) t) (on (r at t))
 permitted-by g b k [] t h = absurd (omega arith)
-permitted-by g b k (p ∷ r) zero h = not-not (permits g b k (on p))
-  where
-    not-not : (c : Bool) → not (not c) ≡ c
-    not-not true = refl
-    not-not false = refl
+permitted-by g b k (p ∷ r) zero h = Bool·not-not (permits g b k (on p))
 permitted-by g b k (p ∷ r) (suc t) h = permitted-by g (on p) (spent b k (on p)) r t (omega arith)
 
 module _ (g : Generator) (b : Bool) (n : ℕ) (r : List ℕ) (t : ℕ) (inside : t < length r) (was is : Bool)

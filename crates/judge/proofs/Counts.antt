@@ -1,22 +1,24 @@
 -- The places at which a rule is broken fit a small number, and where there is none every period of every unit is clear.
 use mathlib.Core.Path.{_≡_, refl}
 use mathlib.Core.Bool.{Bool, true, false, not, _&&_}
+use mathlib.Core.Option.{none}
 use mathlib.Core.List.{List}
 use Prim.Native.Nat.{ℕ, zero, suc, _+_, _-_, _*_, _≤_, _<_}
 use native.Mathlib.Omega.{arith}
 use lib.Dec.{leb}
+use lib.ListN.{length}
 use borrow.Author.Tests.{lt-leb, le-leb}
 use Rattle.model.specs.declared.generator.Generator.{Generator}
 use Rattle.model.specs.declared.arrays.Problem.{Problem}
 use Rattle.model.specs.Instance.{_at_, sum}
-use Rattle.model.specs.Rules.{on}
-use Rattle.model.specs.Breach.{off-ramp}
+use Rattle.model.specs.Rules.{on, permits}
+use Rattle.model.specs.Breach.{off-ramp, first-place}
 use Rattle.judge.specs.Rows.{Fitting}
 use Rattle.judge.specs.Counts.{bit, breaches, all-breaches}
 use Rattle.judge.proofs.Tests.{is-off, is-on}
-use Rattle.judge.proofs.Sums.{sum-same, sum-most}
+use Rattle.judge.proofs.Sums.{sum-same, sum-more, sum-most}
 use Rattle.judge.proofs.Units.{unit, part, periods-most}
-use Rattle.judge.proofs.Search.{Clear}
+use Rattle.judge.proofs.Search.{Clear, first-in, search-ends}
 
 -- ---- how many
 
@@ -32,6 +34,11 @@ all-breaches-most q p l F k =
     sum-most k 48 (λ i. breaches q (unit p i) (part p l i) (p .periods))
     (λ i h. omega (arith, breaches-most q (unit p i) (part p l i) (p .periods), periods-most p l F))
 
+-- one unit more
+pub all-breaches-more : (q : ℕ → Generator → List ℕ → Bool) (p : Problem) (l : List ℕ) (k : ℕ)
+    → all-breaches q p l (k + 1) ≡ all-breaches q p l k + breaches q (unit p k) (part p l k) (p .periods)
+all-breaches-more q p l k = sum-more k (λ i. breaches q (unit p i) (part p l i) (p .periods))
+
 -- ---- where there is none
 
 sum-none : (n : ℕ) (f : ℕ → ℕ) → sum n f ≡ 0 → (i : ℕ) → i < n → f i ≡ 0
@@ -43,8 +50,13 @@ bit-none : (b : Bool) → bit b ≡ 0 → b ≡ false
 bit-none true e = absurd (omega arith)
 bit-none false e = refl
 
-pub clear : (q : ℕ → Generator → List ℕ → Bool) (p : Problem) (l : List ℕ) → all-breaches q p l (p .units) ≡ 0 → Clear q p l (p .periods)
+clear : (q : ℕ → Generator → List ℕ → Bool) (p : Problem) (l : List ℕ) → all-breaches q p l (p .units) ≡ 0 → Clear q p l (p .periods)
 clear q p l e t h j k = bit-none _ (sum-none (p .periods) _ (sum-none (p .units) _ e j k) t h)
+
+-- so no first place is found
+pub none-found : (q : ℕ → Generator → List ℕ → Bool) (p : Problem) (l : List ℕ) → Fitting p l → length (p .generators) ≡ 32
+    → all-breaches q p l (p .units) ≡ 0 → first-place (p .periods) (first-in q p l) ≡ none
+none-found q p l F many e = search-ends q p l F many (clear q p l e)
 
 -- ---- (4), at one output
 
@@ -57,6 +69,21 @@ module _ (low high p : ℕ) (is : p ≡ 0 → ⊥) where
 
   pub off-none : low ≤ p → p ≤ high → 0 ≡ bit (on p && not (leb low p && leb p high))
   off-none k h = rw (is-on p is, le-leb low p k, le-leb p high h) refl
+
+-- ---- (5) to (10), at a status that changes after k periods
+
+module _ (g : Generator) (b : Bool) (k : ℕ) where
+  pub barred-off : b ≡ true → k < g .TU → 1 ≡ bit (not (permits g b k (not b)))
+  barred-off e h = rw (e, lt-leb (g .TU) k h) refl
+
+  pub allowed-off : b ≡ true → g .TU ≤ k → 0 ≡ bit (not (permits g b k (not b)))
+  allowed-off e h = rw (e, le-leb (g .TU) k h) refl
+
+  pub barred-on : b ≡ false → k < g .TD → 1 ≡ bit (not (permits g b k (not b)))
+  barred-on e h = rw (e, lt-leb (g .TD) k h) refl
+
+  pub allowed-on : b ≡ false → g .TD ≤ k → 0 ≡ bit (not (permits g b k (not b)))
+  allowed-on e h = rw (e, le-leb (g .TD) k h) refl
 
 -- ---- (11), (12), at one period
 

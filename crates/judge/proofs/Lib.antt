@@ -10,7 +10,9 @@ pub mod Shortage
 pub mod Tests
 pub mod Switch
 pub mod Before
+pub mod Fuel
 pub mod Walk
 pub mod CostSize
+pub mod Tallied
 pub mod Answers
 pub mod Examples

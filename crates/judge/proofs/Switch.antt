@@ -1,6 +1,6 @@
 -- Starts and stops, and the periods spent in a status, as the code tells the cases apart.
 use mathlib.Core.Path.{_≡_, refl}
-use mathlib.Core.Bool.{Bool, true, false}
+use mathlib.Core.Bool.{Bool, true, false, not}
 use Prim.Native.Nat.{ℕ, _+_, _≤_, _<_}
 use native.Mathlib.Omega.{arith}
 use borrow.Author.Tests.{le-leb, lt-leb}
@@ -21,6 +21,13 @@ spent-other true false k h = refl
 spent-other false true k h = refl
 spent-other false false k h = absurd (h refl)
 
+-- a status that changes becomes the other
+pub other-is : (b d : Bool) → (b ≡ d → ⊥) → not b ≡ d
+other-is true true h = absurd (h refl)
+other-is true false h = refl
+other-is false true h = refl
+other-is false false h = absurd (h refl)
+
 module _ (g : Generator) where
   -- (13) to (19)
   pub switch-none : (b d : Bool) (k : ℕ) → b ≡ d → switch-cost g b k d ≡ 0
@@ -29,20 +36,12 @@ module _ (g : Generator) where
   switch-none false true k e = let z : _≡_ {A = ℕ} 0 1 = cc in absurd (omega arith)
   switch-none false false k e = refl
 
-  pub switch-stop : (b d : Bool) (k : ℕ) → (b ≡ d → ⊥) → b ≡ true → switch-cost g b k d ≡ g .Dc
-  switch-stop true true k h e = absurd (h refl)
-  switch-stop true false k h e = refl
-  switch-stop false d k h e = let z : _≡_ {A = ℕ} 0 1 = cc in absurd (omega arith)
+  module _ (b : Bool) (k : ℕ) where
+    pub switch-hot : b ≡ false → k ≤ g .TD + g .Tcold → switch-cost g b k (not b) ≡ g .Hsc
+    switch-hot e l = rw (e, le-leb k (g .TD + g .Tcold) l) refl
 
-  pub switch-hot : (b d : Bool) (k : ℕ) → (b ≡ d → ⊥) → b ≡ false → k ≤ g .TD + g .Tcold → switch-cost g b k d ≡ g .Hsc
-  switch-hot false false k h e l = absurd (h refl)
-  switch-hot false true k h e l = rw (le-leb k (g .TD + g .Tcold) l) refl
-  switch-hot true d k h e l = let z : _≡_ {A = ℕ} 0 1 = cc in absurd (omega arith)
-
-  pub switch-cold : (b d : Bool) (k : ℕ) → (b ≡ d → ⊥) → b ≡ false → g .TD + g .Tcold < k → switch-cost g b k d ≡ g .Csc
-  switch-cold false false k h e l = absurd (h refl)
-  switch-cold false true k h e l = rw (lt-leb k (g .TD + g .Tcold) l) refl
-  switch-cold true d k h e l = let z : _≡_ {A = ℕ} 0 1 = cc in absurd (omega arith)
+    pub switch-cold : b ≡ false → g .TD + g .Tcold < k → switch-cost g b k (not b) ≡ g .Csc
+    switch-cold e l = rw (e, lt-leb k (g .TD + g .Tcold) l) refl
 
   -- (5) to (10)
   pub permits-same : (b d : Bool) (k : ℕ) → b ≡ d → permits g b k d ≡ true

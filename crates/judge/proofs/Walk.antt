@@ -1,58 +1,70 @@
--- The cost of a row is the cost of the walk along it, and no period costs more than 1,102,000,000,000.
-use mathlib.Core.Path.{_≡_, refl, sym}
-use mathlib.Core.Bool.{Bool, true, false, cond}
+-- The walk along a row's statuses: one status further, what it comes to at the row's end, and the room that it has.
+use mathlib.Core.Path.{_≡_, refl, sym, ap, _∙_}
+use mathlib.Core.Bool.{Bool, true, false, not, cond, Bool·not-not}
 use mathlib.Core.List.{List, [], _∷_}
 use Prim.Native.Nat.{ℕ, zero, suc, _+_, _*_, _≤_, _<_}
-use native.Mathlib.Nat.{mul-le-mul}
 use native.Mathlib.Numerals.{add-one}
 use native.Mathlib.Omega.{arith}
 use lib.Dec.{leb}
-use lib.ListN.{length, drop, drop-of-length-le}
-use lib.Seq.{drop-cons}
+use lib.ListN.{length}
 use Rattle.model.specs.declared.generator.Generator.{Generator}
 use Rattle.model.specs.Instance.{_at_, sum}
-use Rattle.model.specs.Ranges.{All, InRange, GoodOutput}
-use Rattle.model.specs.Rules.{on, statuses, spent}
-use Rattle.model.specs.Cost.{fuel-cost, switch-cost, switch-costs, row-cost}
-use Rattle.judge.specs.Walk.{period-cost, walk-cost}
+use Rattle.model.specs.Ranges.{InRange}
+use Rattle.model.specs.Rules.{on, statuses, permits, spent}
+use Rattle.model.specs.Cost.{switch-cost, switch-costs}
+use Rattle.judge.specs.declared.tallies.Walk.{Walk}
+use Rattle.judge.specs.Before.{status-before, spent-before}
+use Rattle.judge.specs.Counts.{bit, barred, breaches}
+use Rattle.judge.specs.Walk.{passed, Room, switch-in, walk-to}
+use Rattle.judge.proofs.Sums.{sum-more, sum-most}
+use Rattle.judge.proofs.Counts.{breaches-most}
+use Rattle.judge.proofs.Before.{status-next, spent-next, permitted-by}
 
-module _ (g : Generator) where
-  summed : (b : Bool) (k : ℕ) (r : List ℕ)
-      → sum (length r) (λ t. fuel-cost g (r at t)) + switch-costs g b k (statuses r) ≡ walk-cost g b k r
-  summed b k [] = refl
-  summed b k (p ∷ r) = omega (arith, summed (on p) (spent b k (on p)) r)
+-- ---- one status further
 
-  pub walk-is : (r : List ℕ) → walk-cost g (g .on) (g .since) r ≡ row-cost (length r) g r
-  unfolding row-cost
-  walk-is r = sym (summed (g .on) (g .since) r)
+-- a walk by its parts
+abbrev pub walk-of : Bool → ℕ → ℕ → ℕ → Walk
+walk-of b k n c = record { on = b; spent = k; barred = n; cost = c }
 
-  pub walk-next : (b : Bool) (k : ℕ) (r : List ℕ) (t : ℕ) → t < length r
-      → walk-cost g b k (drop t r) ≡ period-cost g b k (r at t) + walk-cost g (on (r at t)) (spent b k (on (r at t))) (drop (t + 1) r)
-  walk-next b k r t h = rw (add-one t, drop-cons r t 0 h) refl
+pub walk-same : {b b′ : Bool} {k k′ n n′ c c′ : ℕ} → b ≡ b′ → k ≡ k′ → n ≡ n′ → c ≡ c′ → walk-of b k n c ≡ walk-of b′ k′ n′ c′
+walk-same p q u v = cc
 
-  pub walk-ends : (b : Bool) (k : ℕ) (r : List ℕ) (t : ℕ) → length r ≤ t → walk-cost g b k (drop t r) ≡ 0
-  walk-ends b k r t h = rw (drop-of-length-le r {i = t} h) refl
+module _ (g : Generator) (r : List ℕ) where
+  module _ (t : ℕ) (h : t < length r) where
+    counted : bit (not (permits g (walk-to g r t .on) (walk-to g r t .spent) (on (r at t)))) ≡ bit (barred t g r)
+    counted = ap (λ (b : Bool). bit (not b)) (sym (permitted-by g (g .on) (g .since) r t h)) ∙ ap bit (Bool·not-not (barred t g r))
 
-pub spent-most : (b : Bool) (k : ℕ) (d : Bool) → spent b k d ≤ k + 1
-spent-most true k true = omega arith
-spent-most true k false = omega arith
-spent-most false k true = omega arith
-spent-most false k false = omega arith
+    pub walk-next : passed g (walk-to g r t) (on (r at t)) ≡ walk-to g r (t + 1)
+    walk-next =
+        walk-same
+        (rw (add-one t) (sym (status-next (g .on) r t h)))
+        (rw (add-one t) (sym (spent-next (g .on) (g .since) r t h)))
+        (omega (arith, counted, sum-more t (λ i. bit (barred i g r))))
+        (sym (sum-more t (switch-in g r)))
+
+  -- what the walk costs is what the starts and stops do
+  pub switches-are : sum (length r) (switch-in g r) ≡ switch-costs g (g .on) (g .since) (statuses r)
+  switches-are = go (g .on) (g .since) r
+    where
+      go : (b : Bool) (k : ℕ) (r : List ℕ)
+          → sum (length r) (λ t. switch-cost g (status-before b (statuses r) t) (spent-before b k (statuses r) t) (on (r at t))) ≡ switch-costs g b k (statuses r)
+      go b k [] = refl
+      go b k (p ∷ r) = ap (λ (x : ℕ). switch-cost g b k (on p) + x) (go (on p) (spent b k (on p)) r)
+
+-- ---- how large it grows
+
+spent-most : (b : Bool) (k : ℕ) (run : List Bool) (t : ℕ) → spent-before b k run t ≤ k + t
+spent-most b k run zero = omega arith
+spent-most b k [] (suc t) = omega arith
+spent-most b k (d ∷ run) (suc t) = omega (arith, spent-most d (spent b k d) run t, one b d)
+  where
+    one : (b d : Bool) → spent b k d ≤ k + 1
+    one true true = omega arith
+    one true false = omega arith
+    one false true = omega arith
+    one false false = omega arith
 
 module _ (g : Generator) (R : InRange g) where
-  pub b-most : (p : ℕ) → p ≤ 10000 → g .b * p ≤ 100000000000
-  b-most p h = mul-le-mul {n₂ = 10000000} {m₂ = 10000} (R .b-in .1) h
-
-  pub c-most : (p : ℕ) → p ≤ 10000 → g .c * p ≤ 100000000
-  c-most p h = mul-le-mul {n₂ = 10000} {m₂ = 10000} (R .c-in .1) h
-
-  pub cc-most : (p : ℕ) → p ≤ 10000 → g .c * p * p ≤ 1000000000000
-  cc-most p h = mul-le-mul {n₂ = 100000000} {m₂ = 10000} (c-most p h) h
-
-  pub fuel-most : (p : ℕ) → p ≤ 10000 → fuel-cost g p ≤ 1101000000000
-  fuel-most zero h = omega arith
-  fuel-most (suc p) h = omega (arith, R .a-in .1, b-most (suc p) h, cc-most (suc p) h)
-
   pub switch-most : (b : Bool) (k : ℕ) (d : Bool) → switch-cost g b k d ≤ 1000000000
   switch-most true k true = omega arith
   switch-most true k false = R .Dc-in .1
@@ -63,11 +75,13 @@ module _ (g : Generator) (R : InRange g) where
       go false = R .Csc-in .1
   switch-most false k false = omega arith
 
-  -- no row of n outputs costs more than n such periods
-  pub walk-most : (b : Bool) (k : ℕ) (r : List ℕ) → All GoodOutput r → walk-cost g b k r ≤ length r * 1102000000000
-  walk-most b k [] h = omega arith
-  walk-most b k (p ∷ r) h =
-      omega (arith, fuel-most p (h .0 .1), switch-most b k (on p), walk-most (on p) (spent b k (on p)) r (h .1))
+  module _ (r : List ℕ) where
+    pub switches-most : (t : ℕ) → sum t (switch-in g r) ≤ t * 1000000000
+    switches-most t = sum-most t 1000000000 (switch-in g r) (λ i h. switch-most (status-before (g .on) (statuses r) i) (spent-before (g .on) (g .since) (statuses r) i) (on (r at i)))
 
-  pub row-most : (r : List ℕ) → All GoodOutput r → length r ≤ 48 → row-cost (length r) g r ≤ 52896000000000
-  row-most r h l = omega (arith, walk-is g r, walk-most (g .on) (g .since) r h)
+    pub walk-room : (t : ℕ) → t ≤ 48 → Room (walk-to g r t)
+    walk-room t h = record {
+      spent-in = omega (arith, R .since-in .1, spent-most (g .on) (g .since) (statuses r) t);
+      barred-in = omega (arith, breaches-most barred g r t);
+      cost-in = omega (arith, switches-most t);
+    }

@@ -6,7 +6,13 @@ use lib.ListN.{getD, take, drop}
 use Rattle.model.specs.declared.generator.Generator.{Generator}
 use Rattle.model.specs.declared.arrays.Problem.{Problem}
 use Rattle.model.specs.Instance.{sum}
+use Rattle.model.specs.Rules.{statuses}
+use Rattle.model.specs.Breach.{not-permitted}
 use Rattle.model.specs.Held.{blank-generator}
+
+-- (5) to (10) of a unit's row: the status of period t is not permitted, counting from Tini on
+abbrev pub barred : ℕ → Generator → List ℕ → Bool
+barred t g r = not-permitted g (g .on) (g .since) (statuses r) t
 
 abbrev pub bit : Bool → ℕ
 bit true = 1

@@ -11,6 +11,7 @@ mod limits;
 mod loads;
 mod place;
 mod ramps;
+mod tallies;
 mod updown;
 
 use crate::place::Found;
@@ -49,8 +50,11 @@ pub fn judge(problem: Problem, rows: &[u16]) -> Judgement
     requires { ⌜ Fitting problem (now rows) ⌝ }
     ensures { λ r. ⌜ r ≡ judgement (view problem) (schedule-of problem (now (rows .entry))) ⌝ }
 {
-    if let Found::At(place) = limits::find_off_limits(problem, rows) {
-        return name_breach(21, place);
+    let tallies = tallies::tally(problem, rows);
+    if tallies.limits != 0 {
+        if let Found::At(place) = limits::find_off_limits(problem, rows) {
+            return name_breach(21, place);
+        }
     }
     if let Found::At(place) = loads::find_unmet_demand(problem, rows) {
         return name_breach(22, place);
@@ -58,11 +62,15 @@ pub fn judge(problem: Problem, rows: &[u16]) -> Judgement
     if let Found::At(place) = loads::find_unmet_spare(problem, rows) {
         return name_breach(23, place);
     }
-    if let Found::At(place) = updown::find_not_permitted(problem, rows) {
-        return name_breach(24, place);
+    if tallies.updown != 0 {
+        if let Found::At(place) = updown::find_not_permitted(problem, rows) {
+            return name_breach(24, place);
+        }
     }
-    if let Found::At(place) = ramps::find_off_ramp(problem, rows) {
-        return name_breach(25, place);
+    if tallies.ramps != 0 {
+        if let Found::At(place) = ramps::find_off_ramp(problem, rows) {
+            return name_breach(25, place);
+        }
     }
-    Judgement::Costs(cost::sum_cost(problem, rows))
+    Judgement::Costs(tallies.cost)
 }

@@ -8,7 +8,7 @@ ghost use Rattle.model.specs.Held.{view};
 ghost use Rattle.model.specs.Ranges.{InRange};
 ghost use Rattle.model.specs.Rules.{on};
 ghost use Rattle.model.specs.Breach.{off-limits, place21};
-ghost use Rattle.judge.specs.Counts.{bit, breaches, all-breaches};
+ghost use Rattle.judge.specs.Counts.{bit, breaches};
 ghost use Rattle.judge.specs.Judgement.{found};
 ghost use Rattle.judge.specs.Rows.{schedule-of, Fitting};
 use crate::place::Found;
@@ -50,7 +50,7 @@ fn count_off(low: u16, high: u16, output: u16) -> u16
 }
 
 // In how many periods the row's output is off its limits.
-fn count_off_limits(g: Generator, row: &[u16]) -> u16
+pub fn count_off_limits(g: Generator, row: &[u16]) -> u16
     requires { ⌜ InRange g × (length (now row) ≤ 48) ⌝ }
     ensures { λ r. ⌜ r ≡ breaches off-limits g (now (row .entry)) (length (now (row .entry))) ⌝ }
 {
@@ -63,25 +63,8 @@ fn count_off_limits(g: Generator, row: &[u16]) -> u16
     n
 }
 
-// How many outputs of all units are off their limits.
-fn count_all_off_limits(problem: Problem, rows: &[u16]) -> u16
-    requires { ⌜ Fitting problem (now rows) ⌝ }
-    ensures { λ r. ⌜ r ≡ all-breaches off-limits problem (now (rows .entry)) (problem .units) ⌝ }
-{
-    let periods = problem.periods;
-    let units = problem.units;
-    let mut n: u16 = 0;
-    for u in 0..units {
-        let g = problem.generators[u];
-        let from = u * periods;
-        let to = from + periods;
-        n += count_off_limits(g, &rows[from..to]);
-    }
-    n
-}
-
-// The first period, and in it the first unit, with an output off its limits, sought place by place.
-fn search_off_limits(problem: Problem, rows: &[u16]) -> Found
+// The first period, and in it the first unit, with an output off its limits.
+pub fn find_off_limits(problem: Problem, rows: &[u16]) -> Found
     requires { ⌜ Fitting problem (now rows) ⌝ }
     ensures { λ r. ⌜ r ≡ found (place21 (view problem) (schedule-of problem (now (rows .entry)))) ⌝ }
 {
@@ -103,15 +86,4 @@ fn search_off_limits(problem: Problem, rows: &[u16]) -> Found
         }
     }
     first
-}
-
-// The first period, and in it the first unit, with an output off its limits.
-pub fn find_off_limits(problem: Problem, rows: &[u16]) -> Found
-    requires { ⌜ Fitting problem (now rows) ⌝ }
-    ensures { λ r. ⌜ r ≡ found (place21 (view problem) (schedule-of problem (now (rows .entry)))) ⌝ }
-{
-    if count_all_off_limits(problem, rows) == 0 {
-        return Found::Nothing;
-    }
-    search_off_limits(problem, rows)
 }

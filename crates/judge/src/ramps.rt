@@ -8,7 +8,7 @@ ghost use Rattle.model.specs.Held.{view};
 ghost use Rattle.model.specs.Ranges.{InRange, All, GoodOutput};
 ghost use Rattle.model.specs.Rules.{on};
 ghost use Rattle.model.specs.Breach.{off-ramp, place25};
-ghost use Rattle.judge.specs.Counts.{bit, breaches, all-breaches};
+ghost use Rattle.judge.specs.Counts.{bit, breaches};
 ghost use Rattle.judge.specs.Judgement.{found};
 ghost use Rattle.judge.specs.Rows.{schedule-of, Fitting};
 use crate::place::Found;
@@ -61,7 +61,7 @@ fn count_steep(up: u16, down: u16, previous: u16, output: u16) -> u16
 }
 
 // In how many periods the row's output leaves its ramp.
-fn count_off_ramp(g: Generator, row: &[u16]) -> u16
+pub fn count_off_ramp(g: Generator, row: &[u16]) -> u16
     requires { ⌜ InRange g × (length (now row) ≤ 48) × (1 ≤ length (now row)) × All GoodOutput (now row) ⌝ }
     ensures { λ r. ⌜ r ≡ breaches off-ramp g (now (row .entry)) (length (now (row .entry))) ⌝ }
 {
@@ -74,25 +74,8 @@ fn count_off_ramp(g: Generator, row: &[u16]) -> u16
     n
 }
 
-// How many outputs of all units leave their ramps.
-fn count_all_off_ramp(problem: Problem, rows: &[u16]) -> u16
-    requires { ⌜ Fitting problem (now rows) ⌝ }
-    ensures { λ r. ⌜ r ≡ all-breaches off-ramp problem (now (rows .entry)) (problem .units) ⌝ }
-{
-    let periods = problem.periods;
-    let units = problem.units;
-    let mut n: u16 = 0;
-    for u in 0..units {
-        let g = problem.generators[u];
-        let from = u * periods;
-        let to = from + periods;
-        n += count_off_ramp(g, &rows[from..to]);
-    }
-    n
-}
-
-// The first period, and in it the first unit, whose output leaves its ramp, sought place by place.
-fn search_off_ramp(problem: Problem, rows: &[u16]) -> Found
+// The first period, and in it the first unit, whose output leaves its ramp.
+pub fn find_off_ramp(problem: Problem, rows: &[u16]) -> Found
     requires { ⌜ Fitting problem (now rows) ⌝ }
     ensures { λ r. ⌜ r ≡ found (place25 (view problem) (schedule-of problem (now (rows .entry)))) ⌝ }
 {
@@ -114,15 +97,4 @@ fn search_off_ramp(problem: Problem, rows: &[u16]) -> Found
         }
     }
     first
-}
-
-// The first period, and in it the first unit, whose output leaves its ramp.
-pub fn find_off_ramp(problem: Problem, rows: &[u16]) -> Found
-    requires { ⌜ Fitting problem (now rows) ⌝ }
-    ensures { λ r. ⌜ r ≡ found (place25 (view problem) (schedule-of problem (now (rows .entry)))) ⌝ }
-{
-    if count_all_off_ramp(problem, rows) == 0 {
-        return Found::Nothing;
-    }
-    search_off_ramp(problem, rows)
 }

@@ -6,8 +6,9 @@ ghost use lib.ListN.{length};
 ghost use Rattle.model.specs.Held.{view};
 ghost use Rattle.model.specs.Instance.{_at_};
 ghost use Rattle.model.specs.Ranges.{InRange};
-ghost use Rattle.model.specs.Rules.{on, statuses};
-ghost use Rattle.model.specs.Breach.{not-permitted, place24};
+ghost use Rattle.model.specs.Rules.{on, statuses, permits};
+ghost use Rattle.model.specs.Breach.{place24};
+ghost use Rattle.judge.specs.Counts.{bit, barred};
 ghost use Rattle.judge.specs.Judgement.{found};
 ghost use Rattle.judge.specs.Rows.{schedule-of, Fitting};
 ghost use Rattle.judge.specs.Before.{status-before, spent-before};
@@ -61,7 +62,7 @@ fn count_back(g: Generator, row: &[u16], t: usize) -> usize
 // Whether the up and down times permit the unit's status in period t.
 fn is_permitted(g: Generator, row: &[u16], t: usize) -> bool
     requires { ⌜ InRange g × (t < length (now row)) × (length (now row) ≤ 48) ⌝ }
-    ensures { λ r. ⌜ r ≡ not (not-permitted g (g .on) (g .since) (statuses (now (row .entry))) t) ⌝ }
+    ensures { λ r. ⌜ r ≡ not (barred t g (now (row .entry))) ⌝ }
 {
     let before = was_on(g, row, t);
     let after = is_on(row, t);
@@ -75,6 +76,24 @@ fn is_permitted(g: Generator, row: &[u16], t: usize) -> bool
         return up <= spent;
     }
     down <= spent
+}
+
+// 1 if the unit may not change its status after k periods in it, else 0.
+pub fn count_barred(g: Generator, status: bool, k: usize) -> u16
+    ensures { λ r. ⌜ r ≡ bit (not (permits g status k (not status))) ⌝ }
+{
+    let up = g.TU;
+    let down = g.TD;
+    if status {
+        if k < up {
+            return 1;
+        }
+        return 0;
+    }
+    if k < down {
+        return 1;
+    }
+    0
 }
 
 // The first period, and in it the first unit, with a status that is not permitted.

@@ -1,10 +1,14 @@
--- Rule by rule: where a place is found it is the answer, where none is the rest is judged.
-use mathlib.Core.Path.{sym, ap, _∙_}
+-- Rule by rule: where a place is found it is the answer; where none is, or the rule is broken in no place, the rest is judged.
+use mathlib.Core.Path.{_≡_, sym, ap, _∙_}
+use mathlib.Core.Logic.{⊎-elim}
 use borrow.Author.Needs.{needs}
+use lib.ListN.{length, length-map}
 use Rattle.model.specs.Instance.{Instance, Schedule}
 use Rattle.model.specs.Held.{view}
 use Rattle.judge.specs.declared.Judgement.the-variants.{Costs}
+use Rattle.judge.specs.declared.tallies.Tallies.{Tallies}
 use Rattle.judge.specs.Rows.{schedule-of}
+use Rattle.judge.proofs.Tallied.{none21, none24, none25}
 use Rattle.judge.proofs.Answers.{from22, from23, from24, from25, Left, breaks21, keeps21, breaks22, keeps22, breaks23, keeps23, breaks24, keeps24, breaks25, costs}
 use Rattle.judge.proofs.judge.Statement.{statement}
 use Rattle.judge.proofs.judge.Tie as tie
@@ -15,11 +19,18 @@ P-of c = view (c .args .problem)
 abbrev rows-of : tie.Start → Schedule
 rows-of c = schedule-of (c .args .problem) (c .args .rows .now)
 
+-- the array has 32 generators
+many : (c : tie.Start) → length (c .args .problem .generators) ≡ 32
+many c = simp length-map at (c .good .0 .1 .1 .1 .1 .1 .1 .0 .1 .0 .1)
+
 -- 21 is kept
-left22 : (c : tie.After-enum-told) → let s = c .before .before .before .before in Left (P-of s) (rows-of s) (from22 (P-of s) (rows-of s))
+left22 : (c : tie.Joined1) → let s = c .before .before .before .before in Left (P-of s) (rows-of s) (from22 (P-of s) (rows-of s))
 left22 c =
     let s = c .before .before .before .before in
-    keeps21 (P-of s) (rows-of s) (sym (c .before .before .find-off-limits .ensures) ∙ c .enum-told .given .1)
+    keeps21 (P-of s) (rows-of s)
+    (⊎-elim (λ w. sym (w .1 .ensures) ∙ w .3 .given .1)
+    (λ w. none21 (s .args .problem) (s .args .rows .now) (s .pre) (many s) (sym (ap (λ (x : Tallies). x .limits) (c .before .before .tally .ensures)) ∙ w .left))
+    (c .if1 .came))
 
 -- 22 is kept
 left23 : (c : tie.After-enum-told2) → let s = c .before .before .before .before .before .before .before in Left (P-of s) (rows-of s) (from23 (P-of s) (rows-of s))
@@ -34,10 +45,16 @@ left24 c =
     keeps23 (P-of s) (rows-of s) (left23 (c .before .before .before)) (sym (c .before .before .find-unmet-spare .ensures) ∙ c .enum-told3 .given .1)
 
 -- 24 is kept
-left25 : (c : tie.After-enum-told4) → let s = c .before .before .before .before .before .before .before .before .before .before .before .before .before in Left (P-of s) (rows-of s) (from25 (P-of s) (rows-of s))
+left25 : (c : tie.Joined2) → let s = c .before .before .before .before .before .before .before .before .before .before .before .before in Left (P-of s) (rows-of s) (from25 (P-of s) (rows-of s))
 left25 c =
-    let s = c .before .before .before .before .before .before .before .before .before .before .before .before .before in
-    keeps24 (P-of s) (rows-of s) (left24 (c .before .before .before)) (sym (c .before .before .find-not-permitted .ensures) ∙ c .enum-told4 .given .1)
+    let s = c .before .before .before .before .before .before .before .before .before .before .before .before in
+    keeps24 (P-of s) (rows-of s) (left24 (c .before .before))
+    (⊎-elim (λ w. sym (w .1 .ensures) ∙ w .3 .given .1)
+    (λ w. none24 (s .args .problem) (s .args .rows .now) (s .pre) (many s) (sym (ap (λ (x : Tallies). x .updown) (c .before .before .before .before .before .before .before .before .before .before .tally .ensures)) ∙ w .left))
+    (c .if2 .came))
+
+tally-requires : tie.Need-tally-requires
+tally-requires c κs = search needs
 
 find-off-limits-requires : tie.Need-find-off-limits-requires
 find-off-limits-requires c κs = search needs
@@ -50,7 +67,7 @@ name-breach-requires c κs = search needs
 
 returns : tie.Need-returns
 returns c =
-    let s = c .before .before .before .before .before .before in
+    let s = c .before .before .before .before .before .before .before .before .before in
     c .name-breach .ensures
     ∙ sym (breaks21 (P-of s) (rows-of s) _ (sym (c .before .before .before .before .find-off-limits .ensures) ∙ c .before .before .place .given .1))
 
@@ -104,9 +121,9 @@ name-breach-requires-4 c κs = search needs
 
 returns-4 : tie.Need-returns-4
 returns-4 c =
-    let s = c .before .before .before .before .before .before .before .before .before .before .before .before .before .before .before in
+    let s = c .before .before .before .before .before .before .before .before .before .before .before .before .before .before .before .before .before in
     c .name-breach4 .ensures
-    ∙ sym (breaks24 (P-of s) (rows-of s) (left24 (c .before .before .before .before .before)) _ (sym (c .before .before .before .before .find-not-permitted .ensures) ∙ c .before .before .place4 .given .1))
+    ∙ sym (breaks24 (P-of s) (rows-of s) (left24 (c .before .before .before .before .before .before .before)) _ (sym (c .before .before .before .before .find-not-permitted .ensures) ∙ c .before .before .place4 .given .1))
 
 enum-told-4 : tie.Need-enum-told-4
 enum-told-4 c = search needs
@@ -122,26 +139,31 @@ name-breach-requires-5 c κs = search needs
 
 returns-5 : tie.Need-returns-5
 returns-5 c =
-    let s = c .before .before .before .before .before .before .before .before .before .before .before .before .before .before .before .before .before .before in
+    let s = c .before .before .before .before .before .before .before .before .before .before .before .before .before .before .before .before .before .before .before in
     c .name-breach5 .ensures
-    ∙ sym (breaks25 (P-of s) (rows-of s) (left25 (c .before .before .before .before .before)) _ (sym (c .before .before .before .before .find-off-ramp .ensures) ∙ c .before .before .place5 .given .1))
+    ∙ sym (breaks25 (P-of s) (rows-of s) (left25 (c .before .before .before .before .before .before .before)) _ (sym (c .before .before .before .before .find-off-ramp .ensures) ∙ c .before .before .place5 .given .1))
 
 enum-told-5 : tie.Need-enum-told-5
 enum-told-5 c = search needs
 
-sum-cost-requires : tie.Need-sum-cost-requires
-sum-cost-requires c κs = search needs
-
 returns-6 : tie.Need-returns-6
 returns-6 c =
     let s = c .before .before .before .before .before .before .before .before .before .before .before .before .before .before .before .before .before in
-    ap Costs (c .sum-cost .ensures)
-    ∙ sym (costs (P-of s) (rows-of s) (left25 (c .before .before .before .before)) (sym (c .before .before .before .find-off-ramp .ensures) ∙ c .before .enum-told5 .given .1))
+    ap Costs (ap (λ (x : Tallies). x .cost) (c .before .before .before .before .before .before .before .before .before .before .before .before .before .before .before .tally .ensures))
+    ∙ sym (costs (P-of s) (rows-of s) (left25 (c .before .before .before .before .before)) (sym (c .before .before .find-off-ramp .ensures) ∙ c .enum-told5 .given .1))
+
+returns-7 : tie.Need-returns-7
+returns-7 c =
+    let s = c .before .before .before .before .before .before .before .before .before .before .before .before .before .before in
+    let e = c .before .before .before .before .before .before .before .before .before .before .before .before .tally .ensures in
+    let none = none25 (s .args .problem) (s .args .rows .now) (s .pre) (many s) (sym (ap (λ (x : Tallies). x .ramps) e) ∙ c .if3 .left) in
+    ap Costs (ap (λ (x : Tallies). x .cost) e) ∙ sym (costs (P-of s) (rows-of s) (left25 (c .before .before)) none)
 
 pub judge-spec : {M : Type 1} → statement M
 judge-spec =
     tie.close
     (tie.spec
+    tally-requires
     find-off-limits-requires
     enum-known-place
     name-breach-requires
@@ -167,5 +189,5 @@ judge-spec =
     name-breach-requires-5
     returns-5
     enum-told-5
-    sum-cost-requires
-    returns-6)
+    returns-6
+    returns-7)

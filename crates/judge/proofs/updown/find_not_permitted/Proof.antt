@@ -1,35 +1,29 @@
 -- The loops pass every unit of every period before the one at hand: at the label the first place is found, past the last period there is none.
 use mathlib.Core.Path.{_≡_, refl, sym, ap, _∙_}
-use mathlib.Core.Bool.{Bool, not}
-use mathlib.Core.List.{List}
-use Prim.Native.Nat.{ℕ, _+_, _-_, _*_, _≤_}
+use mathlib.Core.Bool.{not}
+use Prim.Native.Nat.{_+_, _-_, _*_, _≤_}
 use native.Mathlib.Nat.{not-suc-le-zero}
 use native.Mathlib.Omega.{arith}
 use borrow.Author.Count.{below-more}
 use borrow.Author.Tests.{not-true, not-false}
 use lib.ListN.{length, length-map}
-use Rattle.model.specs.Rules.{statuses}
-use Rattle.model.specs.Breach.{not-permitted}
-use Rattle.model.specs.declared.generator.Generator.{Generator}
 use Rattle.model.specs.Held.{view}
 use Rattle.judge.specs.declared.place.Found.the-variants.{Nothing}
+use Rattle.judge.specs.Counts.{barred}
 use Rattle.judge.specs.Judgement.{found}
 use Rattle.judge.proofs.Units.{unit, part, units-most, periods-most, part-within, part-long, unit-in}
 use Rattle.judge.proofs.Search.{Passed, Clear, search-found, search-ends}
 use Rattle.judge.proofs.updown.find_not_permitted.Statement.{statement}
 use Rattle.judge.proofs.updown.find_not_permitted.Tie as tie
 
-abbrev bars : ℕ → Generator → List ℕ → Bool
-bars t g r = not-permitted g (g .on) (g .since) (statuses r) t
-
 abbrev Inv-loop : tie.InvT-loop
-Inv-loop rows problem periods units first₀ t u₀ first u = (u ≤ units) × (first ≡ first₀) × Passed bars problem rows t u
+Inv-loop rows problem periods units first₀ t u₀ first u = (u ≤ units) × (first ≡ first₀) × Passed barred problem rows t u
 
 abbrev μ-loop : tie.MeasureT-loop
 μ-loop rows problem periods units first₀ t u₀ first u = units - u
 
 abbrev Inv-search : tie.InvT-search
-Inv-search rows problem periods units first₀ t₀ first t = (t ≤ periods) × (first ≡ Nothing) × Clear bars problem rows t
+Inv-search rows problem periods units first₀ t₀ first t = (t ≤ periods) × (first ≡ Nothing) × Clear barred problem rows t
 
 abbrev μ-search : tie.MeasureT-search
 μ-search rows problem periods units first₀ t₀ first t = periods - t
@@ -50,7 +44,7 @@ inside c =
 tested : (c : tie.After-is-permitted Inv-loop μ-loop Inv-search μ-search) →
     let s = c .before .before .before .before .before .before .before .before in
     let u = c .before .before .before .before .loop .u in
-    c .is-permitted .result ≡ not (bars (c .before .before .before .before .before .before .search .t) (unit (s .args .t1) u) (part (s .args .t1) (s .args .rows .now) u))
+    c .is-permitted .result ≡ not (barred (c .before .before .before .before .before .before .search .t) (unit (s .args .t1) u) (part (s .args .t1) (s .args .rows .now) u))
 tested c =
     let s = c .before .before .before .before .before .before .before .before in
     let T = s .args .t1 .periods in
@@ -140,7 +134,7 @@ unfolding view
 returns c =
     let s = c .before .before .before in
     let l = c .before .search in
-    l .inv .1 ∙ sym (ap found (search-ends bars (s .args .t1) (s .args .rows .now) (s .pre) (many s) (λ k h. l .inv .2 k (omega arith))))
+    l .inv .1 ∙ sym (ap found (search-ends barred (s .args .t1) (s .args .rows .now) (s .pre) (many s) (λ k h. l .inv .2 k (omega arith))))
 
 returns-2 : tie.Need-returns-2 Inv-loop μ-loop Inv-search μ-search
 unfolding view
@@ -148,7 +142,7 @@ returns-2 c =
     let s = c .before .before .before .before .before .before .before .before .before in
     let l = c .before .before .before .before .before .loop in
     let o = c .before .before .before .before .before .before .before .search in
-    sym (ap found (search-found bars (s .args .t1) (s .args .rows .now) (s .pre) (many s) (o .t) (l .u)
+    sym (ap found (search-found barred (s .args .t1) (s .args .rows .now) (s .pre) (many s) (o .t) (l .u)
     (c .before .before .before .before .before .before .search-test .taken) (c .before .before .before .before .loop-test .taken)
     (o .inv .2) (l .inv .2) (not-false _ (sym (tested (c .before)) ∙ not-true _ (c .if1 .taken)))))
 
