@@ -1,4 +1,4 @@
--- A unit is stuck just where its walk over periods that cost nothing finds nothing; and one unit of a problem's array.
+-- A unit is stuck just where its walk over periods that cost nothing finds nothing; and one unit of a problem's.
 use mathlib.Core.Path.{_≡_, refl, sym, _∙_}
 use mathlib.Core.List.{List, [], _∷_}
 use Prim.Native.Nat.{ℕ, zero, suc, _*_, _<_}
@@ -33,16 +33,15 @@ pub free-walk : (n : ℕ) → Between 1 n 48 → (g : Generator) (m : ℕ → Ma
     → eqb (walk (length (free n)) g m (costs-of (free n) (free n)) (g .on) (g .since)) 0 ≡ is-stuck n g m
 free-walk n h g m = rw (front-length 0 n 48 (h .1)) (sym (is-stuck-is n g m (costs-of (free n) (free n))))
 
--- the unit u of an array's first k
-stuck-at-is : (n u k : ℕ) (l : List Generator) (d : Generator) (m : Marks) → u < k → u < length l → is-stuck n (getD l u d) (m u) ≡ stuck-at n (take k l) m u
-stuck-at-is n u zero l d m h i = absurd (omega arith)
-stuck-at-is n u (suc k) [] d m h i = absurd (omega arith)
-stuck-at-is n zero (suc k) (g ∷ l) d m h i = refl
-stuck-at-is n (suc u) (suc k) (g ∷ l) d m h i = stuck-at-is n u k l d (rest m) (omega arith) (omega arith)
+-- the unit u
+stuck-at-is : (n u : ℕ) (l : List Generator) (d : Generator) (m : Marks) → u < length l → is-stuck n (getD l u d) (m u) ≡ stuck-at n l m u
+stuck-at-is n u [] d m h = absurd (omega arith)
+stuck-at-is n zero (g ∷ l) d m h = refl
+stuck-at-is n (suc u) (g ∷ l) d m h = stuck-at-is n u l d (rest m) (omega arith)
 
-pub part-stuck : (n u k : ℕ) (l : List Generator) (d : Generator) (fixed : List ℕ) → u < k → u < length l → (N long : ℕ) → N ≡ n → long ≡ n
-    → is-stuck N (getD l u d) (marks-of (take long (drop (u * n) fixed))) ≡ stuck-at n (take k l) (all-marks n fixed) u
-part-stuck n u k l d fixed h i N long e f =
+pub part-stuck : (n u : ℕ) (l : List Generator) (d : Generator) (fixed : List ℕ) → u < length l → (N long : ℕ) → N ≡ n → long ≡ n
+    → is-stuck N (getD l u d) (marks-of (take long (drop (u * n) fixed))) ≡ stuck-at n l (all-marks n fixed) u
+part-stuck n u l d fixed h N long e f =
     rw (e, f)
     (is-stuck-ext n (getD l u d) (marks-of (take n (drop (u * n) fixed))) (all-marks n fixed u) (part-marks n u fixed)
-    ∙ stuck-at-is n u k l d (all-marks n fixed) h i)
+    ∙ stuck-at-is n u l d (all-marks n fixed) h)

@@ -1,5 +1,4 @@
--- The sum over the units, unit by unit: what the first u units have in a problem's array, one unit more, and one unit's part of
--- the fixed statuses.
+-- The sum over the units, unit by unit: what the first u units have, one unit more, and one unit's part of the fixed statuses.
 use mathlib.Core.Path.{_≡_, refl, sym, _∙_, ap, ap₂}
 use mathlib.Core.Bool.{Bool, true, false, cond, _||_}
 use mathlib.Core.List.{List, [], _∷_}
@@ -7,7 +6,7 @@ use Prim.Native.Nat.{ℕ, zero, suc, _+_, _*_, _≤_, _<_}
 use native.Mathlib.Numerals.{add-one}
 use native.Mathlib.Omega.{arith}
 use lib.ListN.{length, getD, take, drop, length-take}
-use lib.Seq.{getD-take, getD-drop}
+use lib.Seq.{take-length, getD-take, getD-drop}
 use lib.IntN.{ℤ, _+ℤ_, +ℤ-idl, +ℤ-idr, +ℤ-assoc}
 use Rattle.model.specs.declared.generator.Generator.{Generator}
 use Rattle.model.specs.Instance.{_at_}
@@ -51,31 +50,27 @@ pub part-answer : (n u : ℕ) (fixed : List ℕ) (q s : ℕ → ℕ) (g : Genera
     → least-of N q s g (marks-of (take long (drop place fixed))) ≡ least-of n q s g (all-marks n fixed u)
 part-answer n u fixed q s g good N place long e f h = rw (e, f, h) (part-least n u fixed q s g good)
 
--- ---- the first units of an array
+-- ---- the first units
 
 module _ (R : Generator → Type 0) where
-  pub all-front : (u k : ℕ) (l : List Generator) → u ≤ k → All R (take k l) → All R (take u l)
-  all-front zero k l h a = tt
-  all-front (suc u) zero l h a = absurd (omega arith)
-  all-front (suc u) (suc k) [] h a = tt
-  all-front (suc u) (suc k) (g ∷ l) h a = (a .0, all-front u k l (omega arith) (a .1))
+  pub all-front : (u : ℕ) (l : List Generator) → All R l → All R (take u l)
+  all-front zero l a = tt
+  all-front (suc u) [] a = tt
+  all-front (suc u) (g ∷ l) a = (a .0, all-front u l (a .1))
 
-  pub all-getD : (u k : ℕ) (l : List Generator) (d : Generator) → u < k → u < length l → All R (take k l) → R (getD l u d)
-  all-getD u zero l d h i a = absurd (omega arith)
-  all-getD u (suc k) [] d h i a = absurd (omega arith)
-  all-getD zero (suc k) (g ∷ l) d h i a = a .0
-  all-getD (suc u) (suc k) (g ∷ l) d h i a = all-getD u k l d (omega arith) (omega arith) (a .1)
+  pub all-getD : (u : ℕ) (l : List Generator) (d : Generator) → u < length l → All R l → R (getD l u d)
+  all-getD u [] d h a = absurd (omega arith)
+  all-getD zero (g ∷ l) d h a = a .0
+  all-getD (suc u) (g ∷ l) d h a = all-getD u l d (omega arith) (a .1)
 
 module _ (n : ℕ) where
   -- one of them is stuck
-  pub any-stuck-at : (u k : ℕ) (l : List Generator) (d : Generator) (m : Marks) → u < k → u < length l → is-stuck n (getD l u d) (m u) ≡ true
-      → any-stuck n (take k l) m ≡ true
-  any-stuck-at u zero l d m h i e = absurd (omega arith)
-  any-stuck-at u (suc k) [] d m h i e = absurd (omega arith)
-  any-stuck-at zero (suc k) (g ∷ l) d m h i e = rw e
-  any-stuck-at (suc u) (suc k) (g ∷ l) d m h i e = go (is-stuck n g (m 0)) (any-stuck-at u k l d (rest m) (omega arith) (omega arith) e)
+  pub any-stuck-at : (u : ℕ) (l : List Generator) (d : Generator) (m : Marks) → u < length l → is-stuck n (getD l u d) (m u) ≡ true → any-stuck n l m ≡ true
+  any-stuck-at u [] d m h e = absurd (omega arith)
+  any-stuck-at zero (g ∷ l) d m h e = rw e
+  any-stuck-at (suc u) (g ∷ l) d m h e = go (is-stuck n g (m 0)) (any-stuck-at u l d (rest m) (omega arith) e)
     where
-      go : (b : Bool) → any-stuck n (take k l) (rest m) ≡ true → (b || any-stuck n (take k l) (rest m)) ≡ true
+      go : (b : Bool) → any-stuck n l (rest m) ≡ true → (b || any-stuck n l (rest m)) ≡ true
       go true j = refl
       go false j = j
 
@@ -102,13 +97,13 @@ module _ (n : ℕ) where
       ap (λ (z : ℤ). unit-least n q s g (m 0) +ℤ z) (units-least-more q s u l d (rest m) (omega arith))
       ∙ sym (+ℤ-assoc (unit-least n q s g (m 0)) (units-least n q s (take u l) (rest m)) (unit-least n q s (getD l u d) (m (suc u))))
 
--- ---- the loop over the units, l being the array and k their number
+-- ---- the loop over the units
 
 module _ (n : ℕ) (q s : ℕ → ℕ) (u : ℕ) (l : List Generator) (d : Generator) (m : Marks) (inside : u < length l) where
   -- the next unit is stuck
-  pub stuck-found : (k : ℕ) → u < k → Stuck ≡ least-of n q s (getD l u d) (m u) → Stuck ≡ leasts-of n q s (take k l) m
-  stuck-found k h e =
-      rw (any-stuck-at n u k l d m h inside (said-stuck (is-stuck n (getD l u d) (m u)) (unit-least n q s (getD l u d) (m u)) e))
+  pub stuck-found : Stuck ≡ least-of n q s (getD l u d) (m u) → Stuck ≡ leasts-of n q s l m
+  stuck-found e =
+      rw (any-stuck-at n u l d m inside (said-stuck (is-stuck n (getD l u d) (m u)) (unit-least n q s (getD l u d) (m u)) e))
 
   -- it has a least value
   pub value-found : (v : ℤ) → Value v ≡ least-of n q s (getD l u d) (m u) → any-stuck n (take u l) m ≡ false
@@ -121,9 +116,11 @@ module _ (n : ℕ) (q s : ℕ → ℕ) (u : ℕ) (l : List Generator) (d : Gener
       )
 
 -- no unit is stuck
-pub none-found : (n : ℕ) (q s : ℕ → ℕ) (u k : ℕ) (l : List Generator) (m : Marks) (z : ℤ) → u ≡ k → any-stuck n (take u l) m ≡ false → z ≡ units-least n q s (take u l) m
-    → Value z ≡ leasts-of n q s (take k l) m
-none-found n q s u k l m z e h j = rw (← e, h, j)
+pub none-found : (n : ℕ) (q s : ℕ → ℕ) (u : ℕ) (l : List Generator) (m : Marks) (z : ℤ) → u ≡ length l → any-stuck n (take u l) m ≡ false → z ≡ units-least n q s (take u l) m
+    → Value z ≡ leasts-of n q s l m
+none-found n q s u l m z e h j =
+    let all : take u l ≡ l = rw e (take-length l) in
+    rw (rw all at h, rw all at j)
 
 -- ---- sizes
 
@@ -140,7 +137,7 @@ module _ (n : ℕ) (q s : List ℕ) (P : GoodPrices n q s) where
       let f = units-least-fits n (P .periods-in .1) (λ t. q at t) (λ t. s at t) (λ t l. price-in n q s P t) (λ t l. reserve-in n q s P t) gs good m in
       small-of (units-least n (λ t. q at t) (λ t. s at t) gs m) (omega (arith, f)) (omega (arith, f))
 
-  -- of the first u of k units in an array
-  pub front-small : (u k : ℕ) (l : List Generator) → All GoodUnit (take k l) → u ≤ k → u ≤ 32 → (m : Marks)
+  -- of the first u units
+  pub front-small : (u : ℕ) (l : List Generator) → All GoodUnit l → length l ≤ 32 → (m : Marks)
       → Small (units-least n (λ t. q at t) (λ t. s at t) (take u l) m)
-  front-small u k l good h i m = units-small (take u l) (all-front GoodUnit u k l h good) (omega (arith, length-take u l)) m
+  front-small u l good h m = units-small (take u l) (all-front GoodUnit u l good) (omega (arith, length-take u l)) m

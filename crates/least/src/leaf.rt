@@ -5,14 +5,18 @@ ghost use lib.ListN.{length};
 ghost use lib.IntN.{_+ℤ_};
 ghost use Rattle.model.specs.Instance.{_at_};
 ghost use Rattle.model.specs.Ranges.{GoodLoad, GoodPrice};
-ghost use Rattle.model.specs.Held.{view, Valid};
 ghost use Rattle.model.specs.Leaf.{requirement};
+ghost use Rattle.numbers.specs.Numbers.{instance-in, Laid};
 ghost use Rattle.least.specs.Marks.{all-marks};
 ghost use Rattle.least.specs.Answers.{leasts-of, leaf-of};
 ghost use Rattle.least.specs.Limits.{GoodPrices, Small};
 use crate::unit::Least;
 use crate::unit::unit_least;
-use model::arrays::Problem;
+use numbers::demand_at;
+use numbers::generator_at;
+use numbers::periods_in;
+use numbers::spare_at;
+use numbers::units_in;
 
 // The sum of two values.
 fn add(x: i64, y: i64) -> i64
@@ -23,20 +27,19 @@ fn add(x: i64, y: i64) -> i64
 }
 
 // The sum of the units' least values, or that one of them is stuck; unit u's fixed statuses begin at u times the periods.
-pub fn units_least(problem: Problem, q: &[u64], s: &[u64], fixed: &[u8]) -> Least
-    requires { ⌜ Valid problem ⌝ }
-    requires { ⌜ GoodPrices (problem .periods) (now q) (now s) ⌝ }
-    requires { ⌜ problem .units * problem .periods ≤ length (now fixed) ⌝ }
-    ensures { λ r. ⌜ r ≡ leasts-of (problem .periods) (λ t. (now (q .entry)) at t) (λ t. (now (s .entry)) at t) (view problem .units) (all-marks (problem .periods) (now (fixed .entry))) ⌝ }
+pub fn units_least(numbers: &[u64], q: &[u64], s: &[u64], fixed: &[u8]) -> Least
+    requires { ⌜ Laid (now numbers) ⌝ }
+    requires { ⌜ GoodPrices (instance-in (now numbers) .periods) (now q) (now s) ⌝ }
+    requires { ⌜ length (instance-in (now numbers) .units) * instance-in (now numbers) .periods ≤ length (now fixed) ⌝ }
+    ensures { λ r. ⌜ r ≡ leasts-of (instance-in (now (numbers .entry)) .periods) (λ t. (now (q .entry)) at t) (λ t. (now (s .entry)) at t) (instance-in (now (numbers .entry)) .units) (all-marks (instance-in (now (numbers .entry)) .periods) (now (fixed .entry))) ⌝ }
 {
-    let n = problem.periods;
-    let units = problem.units;
-    let generators = problem.generators;
+    let n = periods_in(numbers);
+    let units = units_in(numbers);
     let mut total: i64 = 0;
     let mut begin = 0;
     let mut u = 0;
     while u < units {
-        let g = generators[u];
+        let g = generator_at(numbers, u);
         let end = begin + n;
         match unit_least(g, q, s, &fixed[begin..end]) {
             Least::Stuck => {
@@ -62,34 +65,32 @@ fn required(q: u64, s: u64, demand: u64, spare: u64) -> u64
 }
 
 // What all periods require.
-pub fn sum_requirement(problem: Problem, q: &[u64], s: &[u64]) -> u64
-    requires { ⌜ Valid problem ⌝ }
-    requires { ⌜ GoodPrices (problem .periods) (now q) (now s) ⌝ }
-    ensures { λ r. ⌜ r ≡ requirement (view problem) (λ t. (now (q .entry)) at t) (λ t. (now (s .entry)) at t) ⌝ }
+pub fn sum_requirement(numbers: &[u64], q: &[u64], s: &[u64]) -> u64
+    requires { ⌜ Laid (now numbers) ⌝ }
+    requires { ⌜ GoodPrices (instance-in (now numbers) .periods) (now q) (now s) ⌝ }
+    ensures { λ r. ⌜ r ≡ requirement (instance-in (now (numbers .entry))) (λ t. (now (q .entry)) at t) (λ t. (now (s .entry)) at t) ⌝ }
 {
-    let n = problem.periods;
-    let demand = problem.demand;
-    let spare = problem.spare;
+    let n = periods_in(numbers);
     let mut sum = 0;
     let mut t = 0;
     while t < n {
-        sum += required(q[t], s[t], demand[t], spare[t]);
+        sum += required(q[t], s[t], demand_at(numbers, t), spare_at(numbers, t));
         t += 1;
     }
     sum
 }
 
 // The value of a price leaf, or that a unit is stuck.
-pub fn leaf_value(problem: Problem, q: &[u64], s: &[u64], fixed: &[u8]) -> Least
-    requires { ⌜ Valid problem ⌝ }
-    requires { ⌜ GoodPrices (problem .periods) (now q) (now s) ⌝ }
-    requires { ⌜ problem .units * problem .periods ≤ length (now fixed) ⌝ }
-    ensures { λ r. ⌜ r ≡ leaf-of (view problem) (all-marks (problem .periods) (now (fixed .entry))) (λ t. (now (q .entry)) at t) (λ t. (now (s .entry)) at t) ⌝ }
+pub fn leaf_value(numbers: &[u64], q: &[u64], s: &[u64], fixed: &[u8]) -> Least
+    requires { ⌜ Laid (now numbers) ⌝ }
+    requires { ⌜ GoodPrices (instance-in (now numbers) .periods) (now q) (now s) ⌝ }
+    requires { ⌜ length (instance-in (now numbers) .units) * instance-in (now numbers) .periods ≤ length (now fixed) ⌝ }
+    ensures { λ r. ⌜ r ≡ leaf-of (instance-in (now (numbers .entry))) (all-marks (instance-in (now (numbers .entry)) .periods) (now (fixed .entry))) (λ t. (now (q .entry)) at t) (λ t. (now (s .entry)) at t) ⌝ }
 {
-    match units_least(problem, q, s, fixed) {
+    match units_least(numbers, q, s, fixed) {
         Least::Stuck => Least::Stuck,
         Least::Value(v) => {
-            let requirement = sum_requirement(problem, q, s);
+            let requirement = sum_requirement(numbers, q, s);
             Least::Value(add(v, requirement as i64))
         }
     }

@@ -2,11 +2,15 @@
 ghost use mathlib.Core.Path.{_≡_};
 ghost use Prim.Native.Nat.{_*_, _≤_, _<_};
 ghost use lib.ListN.{length};
-ghost use Rattle.model.specs.Held.{view, Valid};
 ghost use Rattle.model.specs.Leaf.{available, unless-off};
+ghost use Rattle.numbers.specs.Numbers.{instance-in, Laid};
 ghost use Rattle.least.specs.Marks.{mark-of, all-marks};
 ghost use Rattle.least.specs.Answers.{short-at};
-use model::arrays::Problem;
+use numbers::demand_at;
+use numbers::pU_at;
+use numbers::periods_in;
+use numbers::spare_at;
+use numbers::units_in;
 
 // pU, but 0 for a unit that is fixed off.
 fn available_of(mark: u8, high: u64) -> u64
@@ -19,21 +23,19 @@ fn available_of(mark: u8, high: u64) -> u64
 }
 
 // The pU of the units not fixed off in period t.
-pub fn sum_available(problem: Problem, t: usize, fixed: &[u8]) -> u64
-    requires { ⌜ Valid problem ⌝ }
-    requires { ⌜ t < problem .periods ⌝ }
-    requires { ⌜ problem .units * problem .periods ≤ length (now fixed) ⌝ }
-    ensures { λ r. ⌜ r ≡ available (view problem .units) (all-marks (problem .periods) (now (fixed .entry))) t ⌝ }
+pub fn sum_available(numbers: &[u64], t: usize, fixed: &[u8]) -> u64
+    requires { ⌜ Laid (now numbers) ⌝ }
+    requires { ⌜ t < instance-in (now numbers) .periods ⌝ }
+    requires { ⌜ length (instance-in (now numbers) .units) * instance-in (now numbers) .periods ≤ length (now fixed) ⌝ }
+    ensures { λ r. ⌜ r ≡ available (instance-in (now (numbers .entry)) .units) (all-marks (instance-in (now (numbers .entry)) .periods) (now (fixed .entry))) t ⌝ }
 {
-    let n = problem.periods;
-    let units = problem.units;
-    let generators = problem.generators;
+    let n = periods_in(numbers);
+    let units = units_in(numbers);
     let mut sum = 0;
     let mut begin = 0;
     let mut u = 0;
     while u < units {
-        let g = generators[u];
-        sum += available_of(fixed[begin + t], g.pU);
+        sum += available_of(fixed[begin + t], pU_at(numbers, u));
         begin += n;
         u += 1;
     }
@@ -41,13 +43,11 @@ pub fn sum_available(problem: Problem, t: usize, fixed: &[u8]) -> u64
 }
 
 // Whether the units not fixed off are short of demand and spare in period t.
-pub fn is_short(problem: Problem, t: usize, fixed: &[u8]) -> bool
-    requires { ⌜ Valid problem ⌝ }
-    requires { ⌜ t < problem .periods ⌝ }
-    requires { ⌜ problem .units * problem .periods ≤ length (now fixed) ⌝ }
-    ensures { λ r. ⌜ r ≡ short-at (view problem) (all-marks (problem .periods) (now (fixed .entry))) t ⌝ }
+pub fn is_short(numbers: &[u64], t: usize, fixed: &[u8]) -> bool
+    requires { ⌜ Laid (now numbers) ⌝ }
+    requires { ⌜ t < instance-in (now numbers) .periods ⌝ }
+    requires { ⌜ length (instance-in (now numbers) .units) * instance-in (now numbers) .periods ≤ length (now fixed) ⌝ }
+    ensures { λ r. ⌜ r ≡ short-at (instance-in (now (numbers .entry))) (all-marks (instance-in (now (numbers .entry)) .periods) (now (fixed .entry))) t ⌝ }
 {
-    let demand = problem.demand;
-    let spare = problem.spare;
-    sum_available(problem, t, fixed) < demand[t] + spare[t]
+    sum_available(numbers, t, fixed) < demand_at(numbers, t) + spare_at(numbers, t)
 }

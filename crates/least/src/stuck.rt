@@ -3,12 +3,13 @@ ghost use mathlib.Core.Path.{_≡_};
 ghost use Prim.Native.Nat.{_*_, _≤_, _<_};
 ghost use lib.ListN.{length};
 ghost use Rattle.model.specs.Ranges.{Between, GoodUnit};
-ghost use Rattle.model.specs.Held.{view, Valid};
 ghost use Rattle.model.specs.Leaf.{is-stuck, stuck-at};
+ghost use Rattle.numbers.specs.Numbers.{instance-in, Laid};
 ghost use Rattle.least.specs.Marks.{marks-of, all-marks};
 use crate::table::walk_value;
-use model::arrays::Problem;
 use model::generator::Generator;
+use numbers::generator_at;
+use numbers::periods_in;
 
 // Whether no run of the unit obeys (5) to (10) and agrees with the fixed statuses.
 pub fn is_stuck(g: Generator, fixed: &[u8]) -> bool
@@ -23,15 +24,14 @@ pub fn is_stuck(g: Generator, fixed: &[u8]) -> bool
 }
 
 // Whether unit u is stuck.
-pub fn is_unit_stuck(problem: Problem, u: usize, fixed: &[u8]) -> bool
-    requires { ⌜ Valid problem ⌝ }
-    requires { ⌜ u < problem .units ⌝ }
-    requires { ⌜ problem .units * problem .periods ≤ length (now fixed) ⌝ }
-    ensures { λ r. ⌜ r ≡ stuck-at (problem .periods) (view problem .units) (all-marks (problem .periods) (now (fixed .entry))) u ⌝ }
+pub fn is_unit_stuck(numbers: &[u64], u: usize, fixed: &[u8]) -> bool
+    requires { ⌜ Laid (now numbers) ⌝ }
+    requires { ⌜ u < length (instance-in (now numbers) .units) ⌝ }
+    requires { ⌜ length (instance-in (now numbers) .units) * instance-in (now numbers) .periods ≤ length (now fixed) ⌝ }
+    ensures { λ r. ⌜ r ≡ stuck-at (instance-in (now (numbers .entry)) .periods) (instance-in (now (numbers .entry)) .units) (all-marks (instance-in (now (numbers .entry)) .periods) (now (fixed .entry))) u ⌝ }
 {
-    let n = problem.periods;
-    let generators = problem.generators;
-    let g = generators[u];
+    let n = periods_in(numbers);
+    let g = generator_at(numbers, u);
     let begin = u * n;
     let end = begin + n;
     is_stuck(g, &fixed[begin..end])

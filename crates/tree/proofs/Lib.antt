@@ -14,7 +14,7 @@ pub mod Marked
 pub mod Keys
 pub mod Leaves
 pub mod SplitLines
-pub mod Problems
+pub mod Places
 pub mod Texts
 pub mod ReadAnswers
 pub mod WellFormedTrees

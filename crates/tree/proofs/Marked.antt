@@ -1,5 +1,4 @@
--- The bytes of the struct Above hold the model's marks: none at the root, and one more under a split, since the places of two
--- statuses differ.
+-- The bytes hold the model's marks: none at the root, and one more under a split, since the places of two statuses differ.
 use mathlib.Core.Path.{_≡_, refl, sym, ap, _∙_}
 use mathlib.Core.Bool.{Bool, true, false, cond, _&&_}
 use mathlib.Core.List.{List}
@@ -8,14 +7,14 @@ use native.Mathlib.Nat.{mul-le-mul-right}
 use native.Mathlib.Omega.{arith}
 use native.Mathlib.Decide.{decLt}
 use lib.Dec.{ltb, eqb}
-use lib.ListN.{length, set, replicate}
-use lib.Seq.{getD-set-same, getD-set-other}
+use lib.ListN.{length, set, replicate, length-set}
+use lib.Seq.{getD-set-same, getD-set-other, set-set, set-getD}
 use borrow.Author.Tests.{eqb-true, eqb-false, lt-ltb, ltb-true}
 use Rattle.model.specs.Instance.{_at_}
 use Rattle.model.specs.Above.{free, fixed, root, mark, fix}
 use Rattle.model.proofs.Extents.{SameMarks}
 use Rattle.least.specs.Marks.{mark-of, all-marks}
-use Rattle.tree.specs.Coded.{marks-in, above-of, none-fixed}
+use Rattle.tree.specs.Coded.{marks-in, above-of}
 
 -- ---- the root
 
@@ -28,8 +27,8 @@ same-either : (b : Bool) → cond b free free ≡ free
 same-either true = refl
 same-either false = refl
 
-pub root-is : (T : ℕ) → above-of T none-fixed ≡ root
-unfolding marks-in none-fixed mark-of
+pub root-is : (T : ℕ) → above-of T (replicate 1536 0) ≡ root
+unfolding marks-in mark-of
 root-is T i = record { marks = λ u t. (ap (λ (x : ℕ). cond (ltb t T) (mark-of x) free) (zeros-at 1536 (u * T + t)) ∙ same-either (ltb t T)) i }
 
 -- ---- a split
@@ -71,7 +70,7 @@ module _ (T : ℕ) (bytes : List ℕ) (U t code : ℕ) (b : Bool) (inside : U * 
       go false p y q true r = rw (p, r) (ap mark-of (other r (λ a c. eqb-false U u p (sym a))))
       go false p y q false r = rw (p, r) refl
 
-  pub split-is : above-of T (record { fixed = set bytes (U * T + t) code }) ≡ fix U t b (above-of T (record { fixed = bytes }))
+  pub split-is : above-of T (set bytes (U * T + t) code) ≡ fix U t b (above-of T bytes)
   split-is i = record { marks = λ u v. after-set u v i }
 
 -- ---- within the periods the bytes are the marks
@@ -83,3 +82,15 @@ marks-same I T bytes u h t l = rw (lt-ltb t T l) refl
 pub mark-there : (T : ℕ) (bytes : List ℕ) (u t : ℕ) → t < T → marks-in T bytes u t ≡ mark-of (bytes at (u * T + t))
 unfolding marks-in
 mark-there T bytes u t l = rw (lt-ltb t T l) refl
+
+-- ---- a status set, set anew and taken back
+
+module _ {x : List ℕ} (bytes : List ℕ) (place code : ℕ) (e : x ≡ set bytes place code) where
+  pub set-length : length x ≡ length bytes
+  set-length = ap length e ∙ length-set bytes place code
+
+  pub set-over : (other : ℕ) → set x place other ≡ set bytes place other
+  set-over other = ap (λ (l : List ℕ). set l place other) e ∙ set-set bytes place code other
+
+  pub set-back : set x place (bytes at place) ≡ bytes
+  set-back = set-over (bytes at place) ∙ set-getD bytes place 0

@@ -4,14 +4,11 @@ use mathlib.Core.Bool.{cond}
 use mathlib.Core.List.{List}
 use Prim.Native.Nat.{ℕ, _+_}
 use lib.Dec.{ltb}
-use lib.ListN.{set, replicate}
 use Rattle.model.specs.Instance.{_at_}
-use Rattle.model.specs.Above.{free, Marks}
-use Rattle.model.specs.Above as model
+use Rattle.model.specs.Above.{free, Marks, Above}
 use Rattle.model.specs.Tree.{never, number, lower}
 use Rattle.model.specs.Tree as model-tree
 use Rattle.least.specs.Marks.{mark-of, all-marks}
-use Rattle.tree.specs.declared.above.Above.{Above}
 use Rattle.tree.specs.declared.figures.Bound.{Bound}
 use Rattle.tree.specs.declared.figures.Bound.the-variants.{Never, Number}
 use Rattle.tree.specs.declared.figures.Tally.{Tally}
@@ -24,14 +21,8 @@ use Rattle.tree.specs.Due.{Figures}
 unfoldable pub marks-in : ℕ → List ℕ → Marks
 marks-in T bytes u t = cond (ltb t T) (all-marks T bytes u t) free
 
-abbrev pub above-of : ℕ → Above → model.Above
-above-of T a = record { marks = marks-in T (a .fixed) }
-
-unfoldable pub none-fixed : Above
-none-fixed = record { fixed = replicate 1536 0 }
-
-abbrev pub with-status : Above → ℕ → ℕ → Above
-with-status a place status = record { fixed = set (a .fixed) place status }
+abbrev pub above-of : ℕ → List ℕ → Above
+above-of T bytes = record { marks = marks-in T bytes }
 
 -- ---- what was read so far
 
@@ -57,5 +48,5 @@ pub record LeafAdded (S : Tally) (b : Bound) (S′ : Tally) : Type 0 where
 -- ---- 31 and 32
 
 -- the number that refuses a split on the status at a place, at depth d; or 0
-unfoldable pub split-refusal : Above → ℕ → ℕ → ℕ
-split-refusal a place d = cond (is-fixed (mark-of (a .fixed at place))) 31 (cond (ltb 63 d) 32 0)
+unfoldable pub split-refusal : List ℕ → ℕ → ℕ → ℕ
+split-refusal bytes place d = cond (is-fixed (mark-of (bytes at place))) 31 (cond (ltb 63 d) 32 0)

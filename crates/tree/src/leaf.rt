@@ -1,13 +1,12 @@
 // The leaves: short, stuck, and a price leaf's two lines.
 ghost use mathlib.Core.Path.{_≡_};
-ghost use lib.ListN.{take};
-ghost use Rattle.model.specs.Held.{view, Valid};
+ghost use lib.ListN.{length, take};
 ghost use Rattle.model.specs.Tree.{Multipliers};
+ghost use Rattle.numbers.specs.Numbers.{instance-in, Laid};
 ghost use Rattle.text.specs.Lines.{lineAt};
 ghost use Rattle.tree.specs.NodeLines.{kind-of, short-line, stuck-line, price-line};
 ghost use Rattle.tree.specs.Coded.{above-of};
 ghost use Rattle.tree.specs.Reading.{LeafRead, ReserveRead, Placed, Past};
-use crate::above::Above;
 use crate::figures::Bound;
 use crate::figures::Tally;
 use crate::naming::NamedLine;
@@ -16,8 +15,9 @@ use least::leaf::leaf_value;
 use least::short::is_short;
 use least::stuck::is_unit_stuck;
 use least::unit::Least;
-use model::arrays::Problem;
 use model::ranges::Price;
+use numbers::periods_in;
+use numbers::units_in;
 use text::Verdict;
 
 // What reading a tree finds: a refusal at a line, or what was read with it, the next line's start and its number.
@@ -35,26 +35,26 @@ pub enum Read {
 
 // The short leaf whose line starts at `at` and has this number.
 pub fn read_short(
-    problem: Problem,
+    numbers: &[u64],
     text: &[u8],
     at: usize,
     line: usize,
-    above: Above,
+    fixed: &[u8],
     tally: Tally,
 ) -> Read
-    requires { ⌜ Valid problem ⌝ }
+    requires { ⌜ Laid (now numbers) ⌝ }
+    requires { ⌜ length (now fixed) ≡ 1536 ⌝ }
     requires { ⌜ Placed (now text) at line tally ⌝ }
     requires { ⌜ kind-of (lineAt (now text) at) ≡ short-line ⌝ }
-    ensures read { λ r. ⌜ LeafRead (view problem) (now (text .entry)) at line tally (above-of (problem .periods) above) r ⌝ }
+    ensures read { λ r. ⌜ LeafRead (instance-in (now (numbers .entry))) (now (text .entry)) at line tally (above-of (instance-in (now (numbers .entry)) .periods) (now (fixed .entry))) r ⌝ }
     ensures past { λ r. ⌜ Past (now (text .entry)) at r ⌝ }
 {
-    let periods = problem.periods;
+    let periods = periods_in(numbers);
     let found = read_named(text, at, b"short=", periods);
     match found {
         NamedLine::Refused { number } => Read::Refused { number, line },
         NamedLine::Names { index, next } => {
-            let fixed = above.fixed;
-            if is_short(problem, index, &fixed) {
+            if is_short(numbers, index, fixed) {
                 return Read::Tree {
                     next,
                     line: line + 1,
@@ -68,26 +68,26 @@ pub fn read_short(
 
 // The stuck leaf whose line starts at `at` and has this number.
 pub fn read_stuck(
-    problem: Problem,
+    numbers: &[u64],
     text: &[u8],
     at: usize,
     line: usize,
-    above: Above,
+    fixed: &[u8],
     tally: Tally,
 ) -> Read
-    requires { ⌜ Valid problem ⌝ }
+    requires { ⌜ Laid (now numbers) ⌝ }
+    requires { ⌜ length (now fixed) ≡ 1536 ⌝ }
     requires { ⌜ Placed (now text) at line tally ⌝ }
     requires { ⌜ kind-of (lineAt (now text) at) ≡ stuck-line ⌝ }
-    ensures read { λ r. ⌜ LeafRead (view problem) (now (text .entry)) at line tally (above-of (problem .periods) above) r ⌝ }
+    ensures read { λ r. ⌜ LeafRead (instance-in (now (numbers .entry))) (now (text .entry)) at line tally (above-of (instance-in (now (numbers .entry)) .periods) (now (fixed .entry))) r ⌝ }
     ensures past { λ r. ⌜ Past (now (text .entry)) at r ⌝ }
 {
-    let units = problem.units;
+    let units = units_in(numbers);
     let found = read_named(text, at, b"stuck=", units);
     match found {
         NamedLine::Refused { number } => Read::Refused { number, line },
         NamedLine::Names { index, next } => {
-            let fixed = above.fixed;
-            if is_unit_stuck(problem, index, &fixed) {
+            if is_unit_stuck(numbers, index, fixed) {
                 return Read::Tree {
                     next,
                     line: line + 1,
@@ -101,29 +101,29 @@ pub fn read_stuck(
 
 // The price leaf with the multipliers q whose reserve line starts at `at` and has this number.
 fn read_reserve(
-    problem: Problem,
+    numbers: &[u64],
     text: &[u8],
     at: usize,
     line: usize,
     q: [u64; 48],
-    above: Above,
+    fixed: &[u8],
     tally: Tally,
 ) -> Read
-    requires { ⌜ Valid problem ⌝ }
+    requires { ⌜ Laid (now numbers) ⌝ }
+    requires { ⌜ length (now fixed) ≡ 1536 ⌝ }
     requires { ⌜ Placed (now text) at line tally ⌝ }
-    requires { ⌜ Multipliers (view problem) (take (problem .periods) q) ⌝ }
-    ensures read { λ r. ⌜ ReserveRead (view problem) (now (text .entry)) at line tally (above-of (problem .periods) above) (take (problem .periods) q) r ⌝ }
+    requires { ⌜ Multipliers (instance-in (now numbers)) (take (instance-in (now numbers) .periods) q) ⌝ }
+    ensures read { λ r. ⌜ ReserveRead (instance-in (now (numbers .entry))) (now (text .entry)) at line tally (above-of (instance-in (now (numbers .entry)) .periods) (now (fixed .entry))) (take (instance-in (now (numbers .entry)) .periods) q) r ⌝ }
     ensures past { λ r. ⌜ Past (now (text .entry)) at r ⌝ }
 {
-    let periods = problem.periods;
+    let periods = periods_in(numbers);
     let row = text::read_row(text, at, b"reserve=", periods, Price::LEAST, Price::MOST);
     let verdict = row.verdict;
     match verdict {
         Verdict::Refused { number } => Read::Refused { number, line },
         Verdict::Good { next } => {
             let s = row.values;
-            let fixed = above.fixed;
-            let least = leaf_value(problem, &q[..periods], &s[..periods], &fixed);
+            let least = leaf_value(numbers, &q[..periods], &s[..periods], fixed);
             match least {
                 Least::Stuck => Read::Refused { number: 35, line },
                 Least::Value(v) => Read::Tree {
@@ -138,27 +138,28 @@ fn read_reserve(
 
 // The price leaf whose price line starts at `at` and has this number.
 pub fn read_price(
-    problem: Problem,
+    numbers: &[u64],
     text: &[u8],
     at: usize,
     line: usize,
-    above: Above,
+    fixed: &[u8],
     tally: Tally,
 ) -> Read
-    requires { ⌜ Valid problem ⌝ }
+    requires { ⌜ Laid (now numbers) ⌝ }
+    requires { ⌜ length (now fixed) ≡ 1536 ⌝ }
     requires { ⌜ Placed (now text) at line tally ⌝ }
     requires { ⌜ kind-of (lineAt (now text) at) ≡ price-line ⌝ }
-    ensures read { λ r. ⌜ LeafRead (view problem) (now (text .entry)) at line tally (above-of (problem .periods) above) r ⌝ }
+    ensures read { λ r. ⌜ LeafRead (instance-in (now (numbers .entry))) (now (text .entry)) at line tally (above-of (instance-in (now (numbers .entry)) .periods) (now (fixed .entry))) r ⌝ }
     ensures past { λ r. ⌜ Past (now (text .entry)) at r ⌝ }
 {
-    let periods = problem.periods;
+    let periods = periods_in(numbers);
     let row = text::read_row(text, at, b"price=", periods, Price::LEAST, Price::MOST);
     let verdict = row.verdict;
     match verdict {
         Verdict::Refused { number } => Read::Refused { number, line },
         Verdict::Good { next } => {
             let q = row.values;
-            read_reserve(problem, text, next, line + 1, q, above, tally)
+            read_reserve(numbers, text, next, line + 1, q, fixed, tally)
         }
     }
 }

@@ -5,13 +5,13 @@ ghost use lib.ListN.{length};
 ghost use Rattle.model.specs.Held.{view, Valid};
 ghost use Rattle.tree.specs.Due.{IsTree};
 ghost use Rattle.tree.specs.Reading.{Came, ended-as, tree-read};
-use crate::above::Above;
 use crate::figures::Bound;
 use crate::figures::Tally;
 use crate::leaf::Read;
 use crate::node::read_node;
 use model::arrays::Problem;
 use model::ranges::Writer;
+use numbers::lay_out;
 use refusal::Refusal;
 use text::End;
 use text::Verdict;
@@ -86,7 +86,9 @@ pub fn read_tree(problem: Problem, text: &[u8]) -> TreeRead
         Verdict::Good { next } => {
             let values = row.values;
             let writer = values[0];
-            let read = read_node(problem, text, next, 3, 0, Above::root(), Tally::none());
+            let numbers = lay_out(problem);
+            let mut fixed = [0u8; 1536];
+            let read = read_node(&numbers, text, next, 3, 0, &mut fixed, Tally::none());
             read_end(text, writer, read)
         }
     }

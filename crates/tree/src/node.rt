@@ -1,13 +1,15 @@
 // A tree: a leaf, or a split with two trees.
 ghost use mathlib.Core.Path.{_≡_};
-ghost use Prim.Native.Nat.{_+_, _≤_};
-ghost use Rattle.model.specs.Held.{view, Valid};
+ghost use Prim.Native.Nat.{_+_, _≤_, _<_};
+ghost use lib.ListN.{length, set};
+ghost use Rattle.numbers.specs.Numbers.{instance-in, Laid};
 ghost use Rattle.text.specs.Lines.{lineAt};
 ghost use Rattle.tree.specs.NodeLines.{kind-of};
 ghost use Rattle.tree.specs.Coded.{above-of};
 ghost use Rattle.tree.specs.Kinds.{node-kind};
 ghost use Rattle.tree.specs.Reading.{NodeRead, TreesRead, Placed, Past};
-use crate::above::Above;
+use crate::above::OFF;
+use crate::above::ON;
 use crate::figures::Tally;
 use crate::leaf::Read;
 use crate::leaf::read_price;
@@ -15,7 +17,7 @@ use crate::leaf::read_short;
 use crate::leaf::read_stuck;
 use crate::splitting::SplitLine;
 use crate::splitting::read_split_line;
-use model::arrays::Problem;
+use numbers::periods_in;
 
 // The four node lines.
 pub enum NodeKind {
@@ -41,71 +43,74 @@ fn find_kind(text: &[u8], at: usize) -> NodeKind
     NodeKind::Price
 }
 
-// The tree whose first line starts at `at` and has this number.
+// The tree whose first line starts at `at` and has this number, with the statuses fixed above it.
 pub fn read_node(
-    problem: Problem,
+    numbers: &[u64],
     text: &[u8],
     at: usize,
     line: usize,
     depth: usize,
-    above: Above,
+    fixed: &mut [u8],
     tally: Tally,
 ) -> Read
-    requires { ⌜ Valid problem ⌝ }
+    requires { ⌜ Laid (now numbers) ⌝ }
     requires { ⌜ Placed (now text) at line tally ⌝ }
-    requires { ⌜ depth ≤ 64 ⌝ }
-    ensures read { λ r. ⌜ NodeRead (view problem) (now (text .entry)) at line tally (above-of (problem .periods) above) depth r ⌝ }
+    requires { ⌜ (depth ≤ 64) × (length (now fixed) ≡ 1536) ⌝ }
+    ensures read { λ r. ⌜ NodeRead (instance-in (now (numbers .entry))) (now (text .entry)) at line tally (above-of (instance-in (now (numbers .entry)) .periods) (now (fixed .entry))) depth r ⌝ }
     ensures past { λ r. ⌜ Past (now (text .entry)) at r ⌝ }
+    ensures same { λ _. ⌜ now (fixed .exit) ≡ now (fixed .entry) ⌝ }
 {
     let kind = find_kind(text, at);
     match kind {
-        NodeKind::Short => read_short(problem, text, at, line, above, tally),
-        NodeKind::Stuck => read_stuck(problem, text, at, line, above, tally),
-        NodeKind::Price => read_price(problem, text, at, line, above, tally),
+        NodeKind::Short => read_short(numbers, text, at, line, fixed, tally),
+        NodeKind::Stuck => read_stuck(numbers, text, at, line, fixed, tally),
+        NodeKind::Price => read_price(numbers, text, at, line, fixed, tally),
         NodeKind::Split => {
-            let found = read_split_line(problem, text, at, depth, above);
+            let found = read_split_line(numbers, text, at, depth, fixed);
             match found {
                 SplitLine::Refused { number } => Read::Refused { number, line },
                 SplitLine::On { unit, period, next } => {
-                    let place = unit * problem.periods + period;
-                    let off = above.with(place, Above::OFF);
-                    let on = above.with(place, Above::ON);
+                    let place = unit * periods_in(numbers) + period;
                     let more = tally.with_split();
-                    read_split(problem, text, next, line + 1, depth + 1, off, on, more)
+                    read_split(numbers, text, next, line + 1, depth + 1, place, fixed, more)
                 }
             }
         }
     }
 }
 
-// The two trees of a split, with what stands above each, the first of which starts at `at` with this line.
+// The two trees of a split on the status at a place, the first of which starts at `at` with this line.
 fn read_split(
-    problem: Problem,
+    numbers: &[u64],
     text: &[u8],
     at: usize,
     line: usize,
     depth: usize,
-    first: Above,
-    second: Above,
+    place: usize,
+    fixed: &mut [u8],
     tally: Tally,
 ) -> Read
-    requires { ⌜ Valid problem ⌝ }
+    requires { ⌜ Laid (now numbers) ⌝ }
     requires { ⌜ Placed (now text) at line tally ⌝ }
-    requires { ⌜ depth ≤ 64 ⌝ }
-    ensures read { λ r. ⌜ TreesRead (view problem) (now (text .entry)) at line tally (above-of (problem .periods) first) (above-of (problem .periods) second) depth r ⌝ }
+    requires { ⌜ (depth ≤ 64) × (length (now fixed) ≡ 1536) ⌝ }
+    requires { ⌜ place < 1536 ⌝ }
+    ensures read { λ r. ⌜ TreesRead (instance-in (now (numbers .entry))) (now (text .entry)) at line tally (above-of (instance-in (now (numbers .entry)) .periods) (set (now (fixed .entry)) place 1)) (above-of (instance-in (now (numbers .entry)) .periods) (set (now (fixed .entry)) place 2)) depth r ⌝ }
     ensures past { λ r. ⌜ Past (now (text .entry)) at r ⌝ }
+    ensures same { λ _. ⌜ now (fixed .exit) ≡ now (fixed .entry) ⌝ }
 {
-    let one = read_node(problem, text, at, line, depth, first, tally);
+    let was = fixed[place];
+    fixed[place] = OFF;
+    let one = read_node(numbers, text, at, line, depth, fixed, tally);
     match one {
-        Read::Refused { number, line } => Read::Refused { number, line },
-        Read::Tree { next, line, tally } => read_node(
-            problem,
-            text,
-            next,
-            line,
-            depth,
-            second,
-            tally,
-        ),
+        Read::Refused { number, line } => {
+            fixed[place] = was;
+            Read::Refused { number, line }
+        }
+        Read::Tree { next, line, tally } => {
+            fixed[place] = ON;
+            let two = read_node(numbers, text, next, line, depth, fixed, tally);
+            fixed[place] = was;
+            two
+        }
     }
 }

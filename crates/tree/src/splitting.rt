@@ -2,14 +2,14 @@
 ghost use mathlib.Core.Path.{_≡_};
 ghost use Prim.Native.Nat.{_+_, _*_, _≤_, _<_};
 ghost use lib.ListN.{length};
-ghost use Rattle.model.specs.Held.{view, Valid};
+ghost use Rattle.numbers.specs.Numbers.{instance-in, Laid};
 ghost use Rattle.text.specs.Lines.{lineAt};
 ghost use Rattle.tree.specs.NodeLines.{kind-of, split-line};
 ghost use Rattle.tree.specs.Coded.{above-of, split-refusal};
 ghost use Rattle.tree.specs.Reading.{SplitRead};
-use crate::above::Above;
 use crate::above::is_fixed;
-use model::arrays::Problem;
+use numbers::periods_in;
+use numbers::units_in;
 use text::Verdict;
 
 // The depth of the deepest split.
@@ -28,11 +28,10 @@ pub enum SplitLine {
 }
 
 // The number that refuses a split on the status at a place (31, 32), or 0.
-fn refuse_split(above: Above, place: usize, depth: usize) -> u64
-    requires { ⌜ place < 1536 ⌝ }
-    ensures { λ r. ⌜ r ≡ split-refusal above place depth ⌝ }
+fn refuse_split(fixed: &[u8], place: usize, depth: usize) -> u64
+    requires { ⌜ place < length (now fixed) ⌝ }
+    ensures { λ r. ⌜ r ≡ split-refusal (now (fixed .entry)) place depth ⌝ }
 {
-    let fixed = above.fixed;
     let status = fixed[place];
     if is_fixed(status) {
         return 31;
@@ -45,29 +44,29 @@ fn refuse_split(above: Above, place: usize, depth: usize) -> u64
 
 // What the split line that starts at `at` is.
 pub fn read_split_line(
-    problem: Problem,
+    numbers: &[u64],
     text: &[u8],
     at: usize,
     depth: usize,
-    above: Above,
+    fixed: &[u8],
 ) -> SplitLine
-    requires { ⌜ Valid problem ⌝ }
+    requires { ⌜ Laid (now numbers) ⌝ }
+    requires { ⌜ length (now fixed) ≡ 1536 ⌝ }
     requires { ⌜ (length (now text) ≤ 1048576) × (kind-of (lineAt (now text) at) ≡ split-line) ⌝ }
-    ensures { λ r. ⌜ SplitRead (view problem) (now (text .entry)) at (above-of (problem .periods) above) depth r ⌝ }
+    ensures { λ r. ⌜ SplitRead (instance-in (now (numbers .entry))) (now (text .entry)) at (above-of (instance-in (now (numbers .entry)) .periods) (now (fixed .entry))) depth r ⌝ }
 {
-    let units = problem.units;
-    let periods = problem.periods;
+    let units = units_in(numbers);
+    let periods = periods_in(numbers);
     let lows = [1u64, 1];
     let highs = [units as u64, periods as u64];
-    let row = text::read_line(text, at, b"split=", 0, &lows, &highs);
-    let verdict = row.verdict;
+    let mut values = [0u64; 2];
+    let verdict = text::fill_line(text, at, b"split=", &lows, &highs, &mut values);
     match verdict {
         Verdict::Refused { number } => SplitLine::Refused { number },
         Verdict::Good { next } => {
-            let values = row.values;
             let unit = (values[0] - 1) as usize;
             let period = (values[1] - 1) as usize;
-            let number = refuse_split(above, unit * periods + period, depth);
+            let number = refuse_split(fixed, unit * periods + period, depth);
             if number != 0 {
                 return SplitLine::Refused { number };
             }

@@ -1,9 +1,10 @@
 -- The writer line, the tree and the end line, one law for each.
 use borrow.Author.Needs.{needs}
-use mathlib.Core.Path.{sym, ap, _∙_}
+use mathlib.Core.Path.{refl, sym, ap, subst, _∙_}
 use mathlib.Core.List.{[]}
 use native.Mathlib.Omega.{arith}
-use Rattle.model.specs.Instance.{_at_}
+use lib.ListN.{replicate}
+use Rattle.model.specs.Instance.{Instance, _at_}
 use Rattle.model.specs.Held.{view}
 use Rattle.tree.specs.declared.TreeRead.the-variants.{Refused}
 use Rattle.tree.specs.Coded.{above-of}
@@ -31,22 +32,32 @@ enum-known-verdict-2 c = search needs
 array-read-writer : tie.Need-array-read-writer
 array-read-writer c = search needs
 
-root-requires : tie.Need-root-requires
-root-requires c κs = search needs
+lay-out-requires : tie.Need-lay-out-requires
+lay-out-requires c κs = c .before .before .before .before .before .before .before .pre .0
+
+slice-aggregate-read-node : tie.Need-slice-aggregate-read-node
+slice-aggregate-read-node c = search needs
+
+slice-aggregate-read-node-2 : tie.Need-slice-aggregate-read-node-2
+slice-aggregate-read-node-2 c = search needs
 
 none-requires : tie.Need-none-requires
 none-requires c κs = search needs
 
 read-node-requires : tie.Need-read-node-requires
 read-node-requires c κs =
-    let r = c .before .before .before .before .before .before in
+    let o = c .before .before .before in
+    let good = o .before .before .before in
+    let r = good .before .before in
     let s = r .before .before .before in
-    let v = c .before .before .before .before .verdict2 .given in
-    let e = c .none .ensures in
-    (s .pre .0, (rw e (tree-placed (view (s .args .problem)) (s .args .text .now) (r .read-row .result) (r .read-row .ensures) (v .0 .0) (v .1) (s .pre .1 .0)), omega arith))
+    let v = good .verdict2 .given in
+    let e = c .none .ensures in (
+      o .lay-out .ensures .0,
+      (rw e (tree-placed (view (s .args .problem)) (s .args .text .now) (r .read-row .result) (r .read-row .ensures) (v .0 .0) (v .1) (s .pre .1 .0)), (omega arith, refl)),
+    )
 
 read-end-requires : tie.Need-read-end-requires
-read-end-requires c κs = past-came _ _ (c .read-node .result) (c .read-node .ensures .1)
+read-end-requires c κs = past-came _ _ (c .before .read-node .result) (c .before .read-node .ensures .1 .0)
 
 returns : tie.Need-returns
 unfolding tree-read read-as
@@ -61,16 +72,19 @@ returns c =
 returns-2 : tie.Need-returns-2
 unfolding tree-read NodeRead
 returns-2 c =
-    let r = c .before .before .before .before .before .before .before .before in
+    let n = c .before .before in
+    let o = n .before .before .before .before in
+    let good = o .before .before .before in
+    let r = good .before .before in
     let s = r .before .before .before in
     let P = view (s .args .problem) in
     let text = s .args .text .now in
-    let v = c .before .before .before .before .before .before .verdict2 .given in
+    let v = good .verdict2 .given in
     let w = r .read-row .result .values at 0 in
-    let root = ap (above-of (s .args .problem .periods)) (c .before .before .before .root .ensures) ∙ root-is (s .args .problem .periods) in
-    let node = rw (root, c .before .before .none .ensures) at (c .before .read-node .ensures .0) in
+    let tree = subst (λ (Q : Instance). NodeRead Q text (v .0 .0) 3 (n .before .none .result) (above-of (Q .periods) (replicate 1536 0)) 0 (n .read-node .result)) (o .lay-out .ensures .1) (n .read-node .ensures .0) in
+    let node = rw (root-is (P .periods), n .before .none .ensures) at tree in
     c .read-end .ensures
-    ∙ ended-read P text w (c .before .read-node .result)
+    ∙ ended-read P text w (n .read-node .result)
     ∙ sym (ap read-as (text-read P text (s .pre .1 .1) ∙ writer-read P text (r .read-row .result) (r .read-row .ensures) (v .0 .0) (v .1) ∙ node w []))
 
 pub read-tree-spec : {M : Type 1} → statement M
@@ -83,7 +97,9 @@ read-tree-spec =
     refuse-requires
     enum-known-verdict-2
     array-read-writer
-    root-requires
+    lay-out-requires
+    slice-aggregate-read-node
+    slice-aggregate-read-node-2
     none-requires
     read-node-requires
     read-end-requires

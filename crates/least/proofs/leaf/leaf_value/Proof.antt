@@ -8,6 +8,7 @@ use mir.Val.{toZ, ofZ}
 use mir.ValLaws.{toZ-pos}
 use lib.IntN.{pos, _+ℤ_}
 use Rattle.model.specs.Instance.{_at_}
+use Rattle.numbers.specs.Numbers.{instance-in}
 use Rattle.least.specs.declared.unit.Least.the-variants.{Stuck, Value}
 use Rattle.least.specs.Marks.{all-marks}
 use Rattle.least.proofs.Signed.{pos-fits}
@@ -19,8 +20,8 @@ use Rattle.least.proofs.leaf.leaf_value.Tie as tie
 -- the requirement is small
 required : (c : tie.After-sum-requirement) → c .sum-requirement .result < 2 ^ 61
 required c =
-    let s = c .before .before .before .before .before .before .before .before in
-    omega (arith, c .sum-requirement .ensures, required-sum-fits (s .args .problem) (s .pre .0) (s .args .q .now) (s .args .s .now) (s .pre .1 .0))
+    let s = c .before .before .before .before .before .before .before .before .before in
+    omega (arith, c .sum-requirement .ensures, required-sum-fits (instance-in (s .args .numbers .now)) (s .args .q .now) (s .args .s .now) (s .pre .0 .well-formed) (s .pre .1 .0))
 
 -- the arm of a value
 told : (c : tie.After-v) → Value (c .v .given .0 .0) ≡ c .before .before .units-least .result
@@ -44,35 +45,38 @@ cast-add c = pos-fits _ (omega (arith, required c))
 add-requires : tie.Need-add-requires
 add-requires c κs =
     let call = c .before .before .before .before in
-    let s = call .before .before .before .before in
+    let s = call .before .before .before .before .before in
     let a = s .args in
+    let P = instance-in (a .numbers .now) in
     let v = c .before .before .v .given .0 .0 in
     let x = c .sum-requirement .result in
     let same : toZ w64 (ofZ w64 v) ≡ v = search needs in
     let read : toZ w64 x ≡ pos x = toZ-pos w64 x (omega (arith, required c)) in (
-      rw same (leasts-small (a .problem) (s .pre .0) (all-marks (a .problem .periods) (a .fixed .now)) (a .q .now) (a .s .now) (s .pre .1 .0) v (told (c .before .before) ∙ call .units-least .ensures)),
+      rw same (leasts-small P (s .pre .0 .well-formed) (all-marks (P .periods) (a .fixed .now)) (a .q .now) (a .s .now) (s .pre .1 .0) v (told (c .before .before) ∙ call .units-least .ensures)),
       rw read (required c),
     )
 
 returns : tie.Need-returns
 returns c =
     let call = c .before .before in
-    let a = call .before .before .before .before .args in
+    let a = call .before .before .before .before .before .args in
+    let P = instance-in (a .numbers .now) in
     let told : Stuck ≡ call .units-least .result = cc in
-    leaf-stuck (a .problem) (all-marks (a .problem .periods) (a .fixed .now)) (λ t. a .q .now at t) (λ t. a .s .now at t) (told ∙ call .units-least .ensures)
+    leaf-stuck P (all-marks (P .periods) (a .fixed .now)) (λ t. a .q .now at t) (λ t. a .s .now at t) (told ∙ call .units-least .ensures)
 
 returns-2 : tie.Need-returns-2
 returns-2 c =
     let required-at = c .before in
     let call = required-at .before .before .before .before in
-    let a = call .before .before .before .before .args in
+    let a = call .before .before .before .before .before .args in
+    let P = instance-in (a .numbers .now) in
     let v = required-at .before .before .v .given .0 .0 in
     let x = required-at .sum-requirement .result in
     let same : toZ w64 (ofZ w64 v) ≡ v = search needs in
     let sum : toZ w64 (ofZ w64 (c .add .result)) ≡ c .add .result = search needs in
     let read : toZ w64 x ≡ pos x = toZ-pos w64 x (omega (arith, required required-at)) in
     ap Value (sum ∙ c .add .ensures ∙ ap₂ _+ℤ_ same (read ∙ ap pos (required-at .sum-requirement .ensures)))
-    ∙ leaf-found (a .problem) (all-marks (a .problem .periods) (a .fixed .now)) (λ t. a .q .now at t) (λ t. a .s .now at t) v (told (required-at .before .before) ∙ call .units-least .ensures)
+    ∙ leaf-found P (all-marks (P .periods) (a .fixed .now)) (λ t. a .q .now at t) (λ t. a .s .now at t) v (told (required-at .before .before) ∙ call .units-least .ensures)
 
 pub leaf-value-spec : {M : Type 1} → statement M
 leaf-value-spec =

@@ -1,5 +1,5 @@
 -- `units_least` meets its contract. The loop's invariant: none of the units passed is stuck, and the total is their sum.
-use mathlib.Core.Path.{_≡_, refl, sym, ap₂, _∙_}
+use mathlib.Core.Path.{_≡_, refl, ap, ap₂, _∙_}
 use mathlib.Core.Bool.{false}
 use Prim.Native.Nat.{_+_, _*_, _-_, _≤_, _<_}
 use native.Mathlib.Nat.{mul-le-mul-right}
@@ -7,58 +7,48 @@ use native.Mathlib.Omega.{arith}
 use borrow.Author.Needs.{needs}
 use mir.Syntax.{w64}
 use mir.Val.{toZ, ofZ}
-use lib.ListN.{drop, length-drop, length, getD, take, length-map}
+use lib.ListN.{drop, length-drop, length, getD, take}
 use lib.Seq.{length-take-le}
 use lib.IntN.{_+ℤ_}
+use Rattle.model.specs.declared.generator.Generator.{Generator}
 use Rattle.model.specs.Instance.{_at_}
-use Rattle.model.specs.Ranges.{All, GoodUnit}
-use Rattle.model.specs.Held.{view, blank-generator}
+use Rattle.model.specs.Ranges.{GoodUnit}
+use Rattle.model.specs.Held.{blank-generator}
 use Rattle.model.specs.Leaf.{any-stuck, units-least}
+use Rattle.numbers.specs.Numbers.{instance-in}
 use Rattle.least.specs.declared.unit.Least.the-variants.{Stuck, Value}
-use Rattle.least.specs.Marks.{all-marks}
+use Rattle.least.specs.Marks.{marks-of, all-marks}
 use Rattle.least.specs.Answers.{least-of}
 use Rattle.least.proofs.Units.{part-answer, all-getD, stuck-found, value-found, none-found, value-small, front-small}
 use Rattle.least.proofs.leaf.units_least.Statement.{statement}
 use Rattle.least.proofs.leaf.units_least.Tie as tie
 
 abbrev Inv-loop : tie.InvT-loop
-Inv-loop q s fixed n units generators total₀ begin₀ u₀ total begin u =
-    (any-stuck n (take u generators) (all-marks n fixed) ≡ false)
-    × (toZ w64 total ≡ units-least n (λ t. q at t) (λ t. s at t) (take u generators) (all-marks n fixed))
-    × (u ≤ units) × (begin ≡ u * n)
+Inv-loop numbers q s fixed n units total₀ begin₀ u₀ total begin u =
+    (n ≡ instance-in numbers .periods) × (units ≡ length (instance-in numbers .units)) × (u ≤ units)
+    × (begin ≡ u * instance-in numbers .periods)
+    × (any-stuck (instance-in numbers .periods) (take u (instance-in numbers .units)) (all-marks (instance-in numbers .periods) fixed) ≡ false)
+    × (toZ w64 total ≡ units-least (instance-in numbers .periods) (λ t. q at t) (λ t. s at t) (take u (instance-in numbers .units)) (all-marks (instance-in numbers .periods) fixed))
 
 abbrev μ-loop : tie.MeasureT-loop
-μ-loop q s fixed n units generators total₀ begin₀ u₀ total begin u = units - u
+μ-loop numbers q s fixed n units total₀ begin₀ u₀ total begin u = units - u
 
--- the problem's units are good
-good-units : (c : tie.Start Inv-loop μ-loop) → All GoodUnit (take (c .args .problem .units) (c .args .problem .generators))
-unfolding view
-good-units c = c .pre .0 .well-formed .units-good
+-- the next unit is one of the problem's
+inside : (c : tie.In-loop Inv-loop μ-loop) → c .before .loop .u < length (instance-in (c .before .before .before .before .before .before .before .before .args .numbers .now) .units)
+inside c = omega (arith, c .before .loop .inv .1, c .loop-test .taken)
 
--- and lie in the array
-in-array : (c : tie.Start Inv-loop μ-loop) → (length (c .args .problem .generators) ≡ 32) × (c .args .problem .units ≤ 32)
-in-array c = (sym (length-map (c .args .problem .generators) _) ∙ c .good .0 .1 .1 .1 .1 .1 .1 .0 .1 .0 .1, c .pre .0 .units-fit)
-
--- the next unit's part is within the fixed statuses
-within : (c : tie.In-loop Inv-loop μ-loop) →
-    c .before .loop .begin + c .before .before .before .before .before .before .args .problem .periods ≤ length (c .before .before .before .before .before .before .args .fixed .now)
+-- its part is within the fixed statuses
+within : (c : tie.In-loop Inv-loop μ-loop) → c .before .loop .begin + c .before .before .before .periods-in .result ≤ length (c .before .before .before .before .before .before .before .before .args .fixed .now)
 within c =
-    let s = c .before .before .before .before .before .before in
-    omega (arith, mul-le-mul-right (s .args .problem .periods) (c .loop-test .taken), s .pre .1 .1)
+    let s = c .before .before .before .before .before .before .before .before in
+    let P = instance-in (s .args .numbers .now) in
+    omega (arith, c .before .loop .inv .0, c .before .loop .inv .3, mul-le-mul-right (P .periods) (inside c), s .pre .1 .1)
 
--- the next unit is in the array
-next-inside : (c : tie.In-loop Inv-loop μ-loop) → c .before .loop .u < length (c .before .before .before .before .before .before .args .problem .generators)
-next-inside c =
-    let s = c .before .before .before .before .before .before in
-    let more : c .before .loop .u < s .args .problem .units = c .loop-test .taken in
-    omega (arith, in-array s)
-
--- the next unit is good
-next-good : (c : tie.In-loop Inv-loop μ-loop) → GoodUnit (getD (c .before .before .before .before .before .before .args .problem .generators) (c .before .loop .u) blank-generator)
+-- it is good
+next-good : (c : tie.In-loop Inv-loop μ-loop) → GoodUnit (getD (instance-in (c .before .before .before .before .before .before .before .before .args .numbers .now) .units) (c .before .loop .u) blank-generator)
 next-good c =
-    let s = c .before .before .before .before .before .before in
-    let more : c .before .loop .u < s .args .problem .units = c .loop-test .taken in
-    all-getD GoodUnit (c .before .loop .u) (s .args .problem .units) (s .args .problem .generators) blank-generator more (next-inside c) (good-units s)
+    let s = c .before .before .before .before .before .before .before .before in
+    all-getD GoodUnit (c .before .loop .u) (instance-in (s .args .numbers .now) .units) blank-generator (inside c) (s .pre .0 .well-formed .units-good)
 
 -- the arm of a value
 told : (c : tie.After-v Inv-loop μ-loop) → Value (c .v .given .0 .0) ≡ c .before .before .unit-least .result
@@ -67,32 +57,34 @@ told c = cc
 -- what the call found
 answer : (c : tie.After-unit-least Inv-loop μ-loop) →
     let loop = c .before .before .before .before in
-    let a = loop .before .before .before .before .before .args in
+    let a = loop .before .before .before .before .before .before .before .args in
+    let P = instance-in (a .numbers .now) in
     c .unit-least .result
-    ≡ least-of (a .problem .periods) (λ t. a .q .now at t) (λ t. a .s .now at t) (getD (a .problem .generators) (loop .loop .u) blank-generator) (all-marks (a .problem .periods) (a .fixed .now) (loop .loop .u))
+    ≡ least-of (P .periods) (λ t. a .q .now at t) (λ t. a .s .now at t) (getD (P .units) (loop .loop .u) blank-generator) (all-marks (P .periods) (a .fixed .now) (loop .loop .u))
 answer c =
     let loop = c .before .before .before .before in
-    let s = loop .before .before .before .before .before in
+    let s = loop .before .before .before .before .before .before .before in
     let a = s .args in
-    let n = a .problem .periods in
+    let P = instance-in (a .numbers .now) in
+    let long = loop .loop .begin + loop .before .before .periods-in .result - loop .loop .begin in
     c .unit-least .ensures
-    ∙ part-answer n (loop .loop .u) (a .fixed .now) (λ t. a .q .now at t) (λ t. a .s .now at t) (getD (a .problem .generators) (loop .loop .u) blank-generator)
-    (next-good (c .before .before .before))
-    (length (a .q .now)) (loop .loop .begin) (loop .loop .begin + n - loop .loop .begin) (s .pre .1 .0 .q-long) (loop .loop .inv .3) (omega arith)
+    ∙ ap (λ (g : Generator). least-of (length (a .q .now)) (λ t. a .q .now at t) (λ t. a .s .now at t) g (marks-of (take long (drop (loop .loop .begin) (a .fixed .now)))))
+    (c .before .before .generator-at .ensures)
+    ∙ part-answer (P .periods) (loop .loop .u) (a .fixed .now) (λ t. a .q .now at t) (λ t. a .s .now at t) (getD (P .units) (loop .loop .u) blank-generator)
+    (next-good (c .before .before .before)) (length (a .q .now)) (loop .loop .begin) long (s .pre .1 .0 .q-long) (loop .loop .inv .3) (omega (arith, loop .loop .inv .0))
+
+periods-in-requires : tie.Need-periods-in-requires Inv-loop μ-loop
+periods-in-requires c κs = search needs
+
+units-in-requires : tie.Need-units-in-requires Inv-loop μ-loop
+units-in-requires c κs = search needs
 
 loop-holds : tie.Need-loop-holds Inv-loop μ-loop
 unfolding units-least
-loop-holds c = (refl, refl, omega arith, omega arith)
+loop-holds c = (c .before .periods-in .ensures, c .units-in .ensures, omega arith, omega arith, refl, refl)
 
-mul-g : tie.Need-mul-g Inv-loop μ-loop
-mul-g c =
-    let s = c .before .before .before .before .before .before in
-    omega (arith, in-array s)
-
-array-copy-out-g : tie.Need-array-copy-out-g Inv-loop μ-loop
-array-copy-out-g c =
-    let s = c .before .before .before .before .before .before in
-    omega (arith, in-array s)
+generator-at-requires : tie.Need-generator-at-requires Inv-loop μ-loop
+generator-at-requires c κs = (c .before .before .before .before .before .before .before .before .pre .0, inside c)
 
 add-end : tie.Need-add-end Inv-loop μ-loop
 add-end c = omega (arith, within (c .before))
@@ -109,13 +101,14 @@ part-unit-least-end c = within (c .before)
 unit-least-requires : tie.Need-unit-least-requires Inv-loop μ-loop
 unit-least-requires c κs =
     let loop = c .before .before .before in
-    let s = loop .before .before .before .before .before in
-    let long : length (s .args .q .now) ≡ s .args .problem .periods = s .pre .1 .0 .q-long in
-    let e : loop .loop .begin + s .args .problem .periods - loop .loop .begin ≡ s .args .problem .periods = omega arith in (
-      next-good (c .before .before),
+    let s = loop .before .before .before .before .before .before .before in
+    let P = instance-in (s .args .numbers .now) in
+    let long : length (s .args .q .now) ≡ P .periods = s .pre .1 .0 .q-long in
+    let e : loop .loop .begin + loop .before .before .periods-in .result - loop .loop .begin ≡ P .periods = omega (arith, loop .loop .inv .0) in (
+      rw (c .before .generator-at .ensures) (next-good (c .before .before)),
       (
         rw long (s .pre .1 .0),
-        rw (e, long) (length-take-le (s .args .problem .periods) (drop (loop .loop .begin) (s .args .fixed .now)) (omega (arith, length-drop (loop .loop .begin) (s .args .fixed .now), within (c .before .before)))),
+        rw (e, long) (length-take-le (P .periods) (drop (loop .loop .begin) (s .args .fixed .now)) (omega (arith, loop .loop .inv .0, length-drop (loop .loop .begin) (s .args .fixed .now), within (c .before .before)))),
       ),
     )
 
@@ -123,15 +116,14 @@ enum-told : tie.Need-enum-told Inv-loop μ-loop
 enum-told c = search needs
 
 returns : tie.Need-returns Inv-loop μ-loop
-unfolding view
 returns c =
     let call = c .before .before in
     let loop = call .before .before .before .before in
-    let s = loop .before .before .before .before .before in
-    let a = s .args in
+    let a = loop .before .before .before .before .before .before .before .args in
+    let P = instance-in (a .numbers .now) in
     let told : Stuck ≡ call .unit-least .result = cc in
-    stuck-found (a .problem .periods) (λ t. a .q .now at t) (λ t. a .s .now at t) (loop .loop .u) (a .problem .generators) blank-generator (all-marks (a .problem .periods) (a .fixed .now))
-    (next-inside (call .before .before .before)) (a .problem .units) (call .before .before .before .loop-test .taken) (told ∙ answer call)
+    stuck-found (P .periods) (λ t. a .q .now at t) (λ t. a .s .now at t) (loop .loop .u) (P .units) blank-generator (all-marks (P .periods) (a .fixed .now))
+    (inside (call .before .before .before)) (told ∙ answer call)
 
 enum-known-v : tie.Need-enum-known-v Inv-loop μ-loop
 enum-known-v c = search needs
@@ -140,16 +132,16 @@ add-requires : tie.Need-add-requires Inv-loop μ-loop
 add-requires c κs =
     let call = c .before .before .before in
     let loop = call .before .before .before .before in
-    let s = loop .before .before .before .before .before in
+    let s = loop .before .before .before .before .before .before .before in
     let a = s .args in
-    let n = a .problem .periods in
-    let m = all-marks n (a .fixed .now) in
+    let P = instance-in (a .numbers .now) in
+    let W = s .pre .0 .well-formed in
+    let m = all-marks (P .periods) (a .fixed .now) in
     let v = c .before .v .given .0 .0 in
-    let same : toZ w64 (ofZ w64 v) ≡ v = search needs in
-    let few : loop .loop .u ≤ 32 = omega (arith, in-array s, loop .loop .inv .2) in (
-      rw (loop .loop .inv .1) (front-small n (a .q .now) (a .s .now) (s .pre .1 .0) (loop .loop .u) (a .problem .units) (a .problem .generators) (good-units s) (loop .loop .inv .2) few m),
+    let same : toZ w64 (ofZ w64 v) ≡ v = search needs in (
+      rw (loop .loop .inv .5) (front-small (P .periods) (a .q .now) (a .s .now) (s .pre .1 .0) (loop .loop .u) (P .units) (W .units-good) (W .units-in .1) m),
       rw same (
-          value-small n (a .q .now) (a .s .now) (s .pre .1 .0) (getD (a .problem .generators) (loop .loop .u) blank-generator) (next-good (call .before .before .before)) (m (loop .loop .u)) v
+          value-small (P .periods) (a .q .now) (a .s .now) (s .pre .1 .0) (getD (P .units) (loop .loop .u) blank-generator) (next-good (call .before .before .before)) (m (loop .loop .u)) v
           (told (c .before) ∙ answer call)
           ),
     )
@@ -164,26 +156,29 @@ loop-again : tie.Need-loop-again Inv-loop μ-loop
 loop-again c =
     let call = c .before .before .before .before in
     let loop = call .before .before .before .before in
-    let s = loop .before .before .before .before .before in
-    let a = s .args in
-    let n = a .problem .periods in
+    let a = loop .before .before .before .before .before .before .before .args in
+    let P = instance-in (a .numbers .now) in
     let v = c .before .before .v .given .0 .0 in
     let same : toZ w64 (ofZ w64 v) ≡ v = search needs in
     let sum : toZ w64 (ofZ w64 (c .add .result)) ≡ c .add .result = search needs in
-    let more : loop .loop .u < a .problem .units = call .before .before .before .loop-test .taken in
-    let f = value-found n (λ t. a .q .now at t) (λ t. a .s .now at t) (loop .loop .u) (a .problem .generators) blank-generator (all-marks n (a .fixed .now))
-    (next-inside (call .before .before .before)) v (told (c .before .before) ∙ answer call) (loop .loop .inv .0) in
-    (f .0, sum ∙ c .add .ensures ∙ ap₂ _+ℤ_ (loop .loop .inv .1) same ∙ f .1, omega arith, omega (arith, loop .loop .inv .3))
+    let f = value-found (P .periods) (λ t. a .q .now at t) (λ t. a .s .now at t) (loop .loop .u) (P .units) blank-generator (all-marks (P .periods) (a .fixed .now))
+    (inside (call .before .before .before)) v (told (c .before .before) ∙ answer call) (loop .loop .inv .4) in (
+      loop .loop .inv .0,
+      loop .loop .inv .1,
+      omega arith,
+      omega (arith, loop .loop .inv .0, loop .loop .inv .3),
+      f .0,
+      sum ∙ c .add .ensures ∙ ap₂ _+ℤ_ (loop .loop .inv .5) same ∙ f .1,
+    )
 
 returns-2 : tie.Need-returns-2 Inv-loop μ-loop
-unfolding view
 returns-2 c =
     let loop = c .before in
-    let s = loop .before .before .before .before .before in
-    let a = s .args in
-    let e : loop .loop .u ≡ a .problem .units = omega (arith, loop .loop .inv .2, c .loop-test .left) in
-    none-found (a .problem .periods) (λ t. a .q .now at t) (λ t. a .s .now at t) (loop .loop .u) (a .problem .units) (a .problem .generators) (all-marks (a .problem .periods) (a .fixed .now))
-    (toZ w64 (loop .loop .total)) e (loop .loop .inv .0) (loop .loop .inv .1)
+    let a = loop .before .before .before .before .before .before .before .args in
+    let P = instance-in (a .numbers .now) in
+    let end : loop .loop .u ≡ length (P .units) = omega (arith, loop .loop .inv .1, loop .loop .inv .2, c .loop-test .left) in
+    none-found (P .periods) (λ t. a .q .now at t) (λ t. a .s .now at t) (loop .loop .u) (P .units) (all-marks (P .periods) (a .fixed .now))
+    (toZ w64 (loop .loop .total)) end (loop .loop .inv .4) (loop .loop .inv .5)
 
 pub units-least-spec : {M : Type 1} → statement M
 units-least-spec =
@@ -191,9 +186,10 @@ units-least-spec =
     (tie.spec
     Inv-loop
     μ-loop
+    periods-in-requires
+    units-in-requires
     loop-holds
-    mul-g
-    array-copy-out-g
+    generator-at-requires
     add-end
     sub-unit-least
     part-unit-least-start

@@ -1,43 +1,50 @@
 -- The price line is read, and what follows it is the reserve line's to say.
 use borrow.Author.Needs.{needs}
-use mathlib.Core.Path.{_≡_, refl, sym, _∙_}
+use mathlib.Core.Path.{_≡_, refl, ap, _∙_}
+use Prim.Native.Nat.{ℕ}
 use native.Mathlib.Omega.{arith}
-use lib.ListN.{take, length-map}
-use Rattle.model.specs.Held.{view}
+use lib.ListN.{take}
+use Rattle.numbers.specs.Numbers.{instance-in}
 use Rattle.text.specs.Lines.{lineAt}
-use Rattle.text.specs.Forms.{rowOf}
+use Rattle.text.specs.Forms.{plain, rowOf}
 use Rattle.tree.specs.Rendering.{price-key}
 use Rattle.tree.specs.NodeLines.{price-line, node-form}
 use Rattle.tree.specs.Coded.{above-of}
 use Rattle.tree.specs.Reading.{Moved}
-use Rattle.tree.proofs.Problems.{Sizes, valid-sizes}
 use Rattle.tree.proofs.Rows.{row-refused, row-moved, taken-multipliers}
 use Rattle.tree.proofs.Steps.{leaf-refused, node-price, moved-placed, later-past}
 use Rattle.tree.proofs.Leaves.{line-refused, price-read}
 use Rattle.tree.proofs.leaf.read_price.Statement.{statement}
 use Rattle.tree.proofs.leaf.read_price.Tie as tie
 
-sizes : (c : tie.Start) → Sizes (c .args .problem)
-sizes c = valid-sizes (c .args .problem) (sym (length-map (c .args .problem .generators) _) ∙ c .good .0 .1 .1 .1 .1 .1 .1 .0 .1 .0 .1) (c .pre .0)
+abbrev start : tie.After-read-row → tie.Start
+start c = c .before .before .before .before .before .before
 
 -- the row is that of a price line of the problem
 is-row : (c : tie.After-read-row) →
-    let a = c .before .before .before .args in
-    c .read-row .result ≡ rowOf (node-form (view (a .problem)) price-line) (lineAt (a .text .now) (a .at)) (a .at)
-unfolding view
-is-row c = c .read-row .ensures
+    let a = start c .args in
+    c .read-row .result ≡ rowOf (node-form (instance-in (a .numbers .now)) price-line) (lineAt (a .text .now) (a .at)) (a .at)
+is-row c =
+    let a = start c .args in
+    c .read-row .ensures ∙ ap (λ (n : ℕ). rowOf (plain price-key n 0 1000000000) (lineAt (a .text .now) (a .at)) (a .at)) (c .before .before .periods-in .ensures)
 
-moved : (c : tie.After-verdict2) → Moved (c .before .before .before .before .before .args .text .now) (c .before .before .before .before .before .args .at) (c .verdict2 .given .0 .0)
+moved : (c : tie.After-verdict2) → Moved (start (c .before .before) .args .text .now) (start (c .before .before) .args .at) (c .verdict2 .given .0 .0)
 moved c =
     let r = c .before .before in
-    let a = r .before .before .before .args in
-    row-moved (node-form (view (a .problem)) price-line) (a .text .now) (a .at) (r .read-row .result) (is-row r) (c .verdict2 .given .0 .0) (c .verdict2 .given .1)
+    let a = start r .args in
+    row-moved (node-form (instance-in (a .numbers .now)) price-line) (a .text .now) (a .at) (r .read-row .result) (is-row r) (c .verdict2 .given .0 .0) (c .verdict2 .given .1)
+
+periods-in-requires : tie.Need-periods-in-requires
+periods-in-requires c κs = c .before .before .before .pre .0
 
 slice-aggregate-read-row : tie.Need-slice-aggregate-read-row
 slice-aggregate-read-row c = search needs
 
 read-row-requires : tie.Need-read-row-requires
-read-row-requires c κs = (refl, (sizes (c .before .before) .most-periods, omega arith))
+read-row-requires c κs =
+    let p = c .before in
+    let w = p .before .before .before .before .pre .0 .well-formed .periods-in in
+    (refl, (omega (arith, p .periods-in .ensures, w .1), omega arith))
 
 enum-known-verdict : tie.Need-enum-known-verdict
 enum-known-verdict c = search needs
@@ -49,50 +56,52 @@ add-read-reserve : tie.Need-add-read-reserve
 add-read-reserve c = search needs
 
 read-reserve-requires : tie.Need-read-reserve-requires
-unfolding view
 read-reserve-requires c κs =
     let r = c .before .before .before .before in
-    let s = r .before .before .before in
+    let s = start r in
     let a = s .args in
     let v = c .before .before .verdict2 .given in (
       s .pre .0,
       (
-        moved-placed (a .text .now) (a .at) (a .line) (a .tally) (s .pre .1 .0) (v .0 .0) (moved (c .before .before)) (a .tally) (omega arith),
-        taken-multipliers (view (a .problem)) price-key (a .text .now) (a .at) (r .read-row .result) (is-row r) (v .0 .0) (v .1),
+        s .pre .1 .0,
+        (
+          moved-placed (a .text .now) (a .at) (a .line) (a .tally) (s .pre .1 .1 .0) (v .0 .0) (moved (c .before .before)) (a .tally) (omega arith),
+          taken-multipliers (instance-in (a .numbers .now)) price-key (a .text .now) (a .at) (r .read-row .result) (is-row r) (v .0 .0) (v .1),
+        ),
       ),
     )
 
 returns : tie.Need-returns
 returns c =
     let r = c .before .before .before in
-    let s = r .before .before .before in
+    let s = start r in
     let a = s .args in
     let v = c .before .verdict .given in
-    let P = view (a .problem) in
-    let A = above-of (a .problem .periods) (a .above) in
+    let P = instance-in (a .numbers .now) in
+    let A = above-of (P .periods) (a .fixed .now) in
     leaf-refused P (a .text .now) (a .at) (a .line) (a .tally) A (v .0 .0)
-    (λ d. line-refused P (a .text .now) (a .at) A d price-line (s .pre .1 .1) (v .0 .0)
+    (λ d. line-refused P (a .text .now) (a .at) A d price-line (s .pre .1 .1 .1) (v .0 .0)
     (row-refused (node-form P price-line) (a .text .now) (a .at) (r .read-row .result) (is-row r) (v .0 .0) (v .1)))
 
 returns-2 : tie.Need-returns-2
-unfolding view
 returns-2 c =
     let r = c .before .before .before .before .before in
-    let s = r .before .before .before in
+    let s = start r in
     let a = s .args in
     let v = c .before .before .before .verdict2 .given in
-    let P = view (a .problem) in
-    let A = above-of (a .problem .periods) (a .above) in
+    let P = instance-in (a .numbers .now) in
+    let A = above-of (P .periods) (a .fixed .now) in
     let m = moved (c .before .before .before) in (
-      (λ d. node-price P (a .text .now) (a .at) (a .line) (a .tally) A d (take (a .problem .periods) (r .read-row .result .values)) (v .0 .0) (c .read-reserve .result)
-          (price-read P (a .text .now) (a .at) A d (s .pre .1 .1) (r .read-row .result) (is-row r) (v .0 .0) (v .1)) m (c .read-reserve .ensures .0)),
-      later-past (a .text .now) (a .at) (a .line) (a .tally) (s .pre .1 .0) (v .0 .0) m (c .read-reserve .result) (c .read-reserve .ensures .1),
+      (λ d. node-price P (a .text .now) (a .at) (a .line) (a .tally) A d (take (P .periods) (r .read-row .result .values)) (v .0 .0) (c .read-reserve .result)
+          (price-read P (a .text .now) (a .at) A d (s .pre .1 .1 .1) (r .read-row .result) (is-row r) (v .0 .0) (v .1)) m (c .read-reserve .ensures .0)),
+      later-past (a .text .now) (a .at) (a .line) (a .tally) (s .pre .1 .1 .0) (v .0 .0) m (c .read-reserve .result) (c .read-reserve .ensures .1),
     )
 
 pub read-price-spec : {M : Type 1} → statement M
 read-price-spec =
     tie.close
     (tie.spec
+    periods-in-requires
     slice-aggregate-read-row
     read-row-requires
     enum-known-verdict

@@ -1,80 +1,88 @@
 -- The reserve line is read; the leaf has a value exactly where no unit is stuck, and otherwise 35 refuses it.
 use borrow.Author.Needs.{needs}
-use mathlib.Core.Path.{_≡_, refl, sym, subst, _∙_}
+use mathlib.Core.Path.{_≡_, refl, sym, ap, subst, _∙_}
 use Prim.Native.Nat.{ℕ, _≤_}
-use native.Mathlib.Nat.{mul-le-mul-right}
 use native.Mathlib.Omega.{arith}
 use mathlib.Core.List.{List}
-use lib.ListN.{length, take, length-map, length-take}
+use lib.ListN.{length, take, length-take}
 use lib.IntN.{ℤ}
 use mir.Syntax.{w64}
 use mir.Val.{SFits}
 use mir.ValLaws.{toZ-ofZ}
-use Rattle.model.specs.Held.{view}
+use Rattle.model.specs.Instance.{_at_}
 use Rattle.model.specs.Tree.{Multipliers}
+use Rattle.numbers.specs.Numbers.{instance-in}
+use Rattle.least.specs.Marks.{all-marks}
+use Rattle.least.specs.Answers.{leaf-of}
+use Rattle.least.specs.Limits.{GoodPrices}
 use Rattle.text.specs.Lines.{lineAt}
-use Rattle.text.specs.Forms.{rowOf}
+use Rattle.text.specs.Forms.{plain, rowOf}
 use Rattle.tree.specs.declared.figures.Bound.the-variants.{Number}
 use Rattle.tree.specs.Rendering.{reserve-key}
 use Rattle.tree.specs.NodeLines.{reserve-form}
 use Rattle.tree.specs.Coded.{above-of, LeafAdded}
 use Rattle.tree.specs.Reading.{Moved}
-use Rattle.tree.proofs.Problems.{Sizes, valid-sizes}
+use Rattle.tree.proofs.Places.{statuses-fit}
 use Rattle.tree.proofs.Rows.{row-moved, taken-multipliers}
 use Rattle.tree.proofs.Steps.{reserve-refused, reserve-leaf, leaf-past}
 use Rattle.tree.proofs.Leaves.{reserve-line-refused, unit-stuck, leaf-read}
 use Rattle.tree.proofs.leaf.read_reserve.Statement.{statement}
 use Rattle.tree.proofs.leaf.read_reserve.Tie as tie
 
-sizes : (c : tie.Start) → Sizes (c .args .problem)
-sizes c = valid-sizes (c .args .problem) (sym (length-map (c .args .problem .generators) _) ∙ c .good .0 .1 .1 .1 .1 .1 .1 .0 .1 .0 .1) (c .pre .0)
-
 -- as many multipliers as periods
-q-long : (c : tie.Start) → length (take (c .args .problem .periods) (c .args .t5)) ≡ c .args .problem .periods
-unfolding view
-q-long c = c .pre .1 .1 .0
+q-long : (c : tie.Start) → let P = instance-in (c .args .numbers .now) in length (take (P .periods) (c .args .t5)) ≡ P .periods
+q-long c = c .pre .1 .1 .1 .0
 
--- a list that has a beginning of n members has as many
-begins-long : (n : ℕ) (l : List ℕ) → length (take n l) ≡ n → n ≤ length l
-begins-long n l e = omega (arith, length-take n l, e)
+-- of a list that has a beginning of m members, the first n, where n is m
+begins-long : (n m : ℕ) (l : List ℕ) → n ≡ m → length (take m l) ≡ m → (n ≤ length l) × (n ≡ length (take n l))
+begins-long n m l e h = rw e (omega (arith, length-take m l, h), sym h)
+
+abbrev start : tie.After-read-row → tie.Start
+start c = c .before .before .before .before .before .before
+
+-- the periods that the code counts
+counted : (c : tie.After-read-row) → c .before .before .periods-in .result ≡ instance-in (start c .args .numbers .now) .periods
+counted c = c .before .before .periods-in .ensures
 
 -- the row is that of a reserve line of the problem
 is-row : (c : tie.After-read-row) →
-    let a = c .before .before .before .args in
-    c .read-row .result ≡ rowOf (reserve-form (view (a .problem))) (lineAt (a .text .now) (a .at)) (a .at)
-unfolding view
-is-row c = c .read-row .ensures
+    let a = start c .args in
+    c .read-row .result ≡ rowOf (reserve-form (instance-in (a .numbers .now))) (lineAt (a .text .now) (a .at)) (a .at)
+is-row c =
+    let a = start c .args in
+    c .read-row .ensures ∙ ap (λ (n : ℕ). rowOf (plain reserve-key n 0 1000000000) (lineAt (a .text .now) (a .at)) (a .at)) (counted c)
 
-moved : (c : tie.After-verdict2) → Moved (c .before .before .before .before .before .args .text .now) (c .before .before .before .before .before .args .at) (c .verdict2 .given .0 .0)
+moved : (c : tie.After-verdict2) → Moved (start (c .before .before) .args .text .now) (start (c .before .before) .args .at) (c .verdict2 .given .0 .0)
 moved c =
     let r = c .before .before in
-    let a = r .before .before .before .args in
-    row-moved (reserve-form (view (a .problem))) (a .text .now) (a .at) (r .read-row .result) (is-row r) (c .verdict2 .given .0 .0) (c .verdict2 .given .1)
+    let a = start r .args in
+    row-moved (reserve-form (instance-in (a .numbers .now))) (a .text .now) (a .at) (r .read-row .result) (is-row r) (c .verdict2 .given .0 .0) (c .verdict2 .given .1)
 
 -- what the row begins with
 s-good : (c : tie.After-verdict2) →
-    let p = c .before .before .before .before .before .args .problem in
-    Multipliers (view p) (take (p .periods) (c .before .before .read-row .result .values))
-unfolding view
+    let P = instance-in (start (c .before .before) .args .numbers .now) in
+    Multipliers P (take (P .periods) (c .before .before .read-row .result .values))
 s-good c =
     let r = c .before .before in
-    let a = r .before .before .before .args in
-    taken-multipliers (view (a .problem)) reserve-key (a .text .now) (a .at) (r .read-row .result) (is-row r) (c .verdict2 .given .0 .0) (c .verdict2 .given .1)
+    let a = start r .args in
+    taken-multipliers (instance-in (a .numbers .now)) reserve-key (a .text .now) (a .at) (r .read-row .result) (is-row r) (c .verdict2 .given .0 .0) (c .verdict2 .given .1)
 
 s-long : (c : tie.After-verdict2) →
-    let n = c .before .before .before .before .before .args .problem .periods in
+    let n = instance-in (start (c .before .before) .args .numbers .now) .periods in
     length (take n (c .before .before .read-row .result .values)) ≡ n
-unfolding view
 s-long c = s-good c .0
 
-fixed-long : (c : tie.Start) → length (c .args .above .fixed) ≡ 1536
-fixed-long c = search needs
+periods-in-requires : tie.Need-periods-in-requires
+periods-in-requires c κs = c .before .before .before .pre .0
 
 slice-aggregate-read-row : tie.Need-slice-aggregate-read-row
 slice-aggregate-read-row c = search needs
 
 read-row-requires : tie.Need-read-row-requires
-read-row-requires c κs = (refl, (sizes (c .before .before) .most-periods, omega arith))
+read-row-requires c κs =
+    let p = c .before in
+    let w = p .before .before .before .before .pre .0 .well-formed .periods-in in
+    (refl, (omega (arith, p .periods-in .ensures, w .1), omega arith))
 
 enum-known-verdict : tie.Need-enum-known-verdict
 enum-known-verdict c = search needs
@@ -83,32 +91,46 @@ enum-known-verdict-2 : tie.Need-enum-known-verdict-2
 enum-known-verdict-2 c = search needs
 
 array-share-prefix-q : tie.Need-array-share-prefix-q
-array-share-prefix-q c = let s = c .before .before .before .before .before .before .before .before in begins-long (s .args .problem .periods) (s .args .t5) (q-long s)
+array-share-prefix-q c = let r = c .before .before .before .before in begins-long _ _ (start r .args .t5) (counted r) (q-long (start r)) .0
 
 slice-aggregate-leaf-value : tie.Need-slice-aggregate-leaf-value
-slice-aggregate-leaf-value c = sym (q-long (c .before .before .before .before .before .before .before .before .before))
+slice-aggregate-leaf-value c = let r = c .before .before .before .before .before in begins-long _ _ (start r .args .t5) (counted r) (q-long (start r)) .1
 
 array-share-prefix-s : tie.Need-array-share-prefix-s
-array-share-prefix-s c = let v = c .before .before .before .before in begins-long _ (v .before .before .read-row .result .values) (s-long v)
+array-share-prefix-s c = let v = c .before .before .before in begins-long _ _ (v .before .before .read-row .result .values) (counted (v .before .before)) (s-long v) .0
 
 slice-aggregate-leaf-value-2 : tie.Need-slice-aggregate-leaf-value-2
-slice-aggregate-leaf-value-2 c = sym (s-long (c .before .before .before .before .before))
-
-slice-aggregate-leaf-value-3 : tie.Need-slice-aggregate-leaf-value-3
-slice-aggregate-leaf-value-3 c = search needs
+slice-aggregate-leaf-value-2 c = let v = c .before .before .before .before in begins-long _ _ (v .before .before .read-row .result .values) (counted (v .before .before)) (s-long v) .1
 
 leaf-value-requires : tie.Need-leaf-value-requires
-unfolding view
 leaf-value-requires c κs =
-    let s = c .before .before .before .before .before .before .before .before .before .before .before in
-    let v = c .before .before .before .before .before .before in
-    let z = sizes s in (
+    let v = c .before .before .before .before in
+    let r = v .before .before in
+    let s = start r in
+    let a = s .args in
+    let P = instance-in (a .numbers .now) in
+    let W = s .pre .0 .well-formed in (
       s .pre .0,
       (
-        record { periods-in = (z .some-periods, z .most-periods); q-long = q-long s; s-long = s-long v; q-in = s .pre .1 .1 .1; s-in = s-good v .1 },
-        omega (arith, mul-le-mul-right (s .args .problem .periods) (z .most-units), z .most-periods, fixed-long s),
+        subst (λ (n : ℕ). GoodPrices (P .periods) (take n (a .t5)) (take n (r .read-row .result .values))) (sym (counted r))
+            (record { periods-in = W .periods-in; q-long = q-long s; s-long = s-long v; q-in = s .pre .1 .1 .1 .1; s-in = s-good v .1 }),
+        rw (s .pre .1 .0) (statuses-fit P W),
       ),
     )
+
+-- what the leaf is found to be
+leaf-is : (c : tie.After-leaf-value) →
+    let r = c .before .before .before .before .before .before .before in
+    let a = start r .args in
+    let P = instance-in (a .numbers .now) in
+    c .leaf-value .result
+    ≡ leaf-of P (all-marks (P .periods) (a .fixed .now)) (λ t. take (P .periods) (a .t5) at t) (λ t. take (P .periods) (r .read-row .result .values) at t)
+leaf-is c =
+    let r = c .before .before .before .before .before .before .before in
+    let a = start r .args in
+    let P = instance-in (a .numbers .now) in
+    c .leaf-value .ensures
+    ∙ ap (λ (n : ℕ). leaf-of P (all-marks (P .periods) (a .fixed .now)) (λ t. take n (a .t5) at t) (λ t. take n (r .read-row .result .values) at t)) (counted r)
 
 enum-told : tie.Need-enum-told
 enum-told c = search needs
@@ -116,65 +138,63 @@ enum-told c = search needs
 enum-known-least : tie.Need-enum-known-least
 enum-known-least c = search needs
 
-add-t29 : tie.Need-add-t29
-add-t29 c = search needs
+add-t26 : tie.Need-add-t26
+add-t26 c = search needs
 
 with-leaf-requires : tie.Need-with-leaf-requires
 with-leaf-requires c κs = search needs
 
 returns : tie.Need-returns
-unfolding view
 returns c =
     let r = c .before .before .before in
-    let s = r .before .before .before in
+    let s = start r in
     let a = s .args in
     let v = c .before .verdict .given in
-    let P = view (a .problem) in
-    let q = take (a .problem .periods) (a .t5) in (
-      reserve-refused P (a .text .now) (a .at) (a .line) (a .tally) (above-of (a .problem .periods) (a .above)) q (v .0 .0)
-          (reserve-line-refused P (s .pre .0 .well-formed) (a .text .now) (a .at) (a .above .fixed) q (r .read-row .result) (is-row r) (v .0 .0) (v .1)),
+    let P = instance-in (a .numbers .now) in
+    let q = take (P .periods) (a .t5) in (
+      reserve-refused P (a .text .now) (a .at) (a .line) (a .tally) (above-of (P .periods) (a .fixed .now)) q (v .0 .0)
+          (reserve-line-refused P (s .pre .0 .well-formed) (a .text .now) (a .at) (a .fixed .now) q (r .read-row .result) (is-row r) (v .0 .0) (v .1)),
       tt,
     )
 
 returns-2 : tie.Need-returns-2
-unfolding view
 returns-2 c =
-    let w = c .before .before .before .before .before .before .before .before .before in
+    let w = c .before .before .before .before .before .before .before in
     let r = w .before .before in
-    let s = r .before .before .before in
+    let s = start r in
     let a = s .args in
     let v = w .verdict2 .given in
-    let P = view (a .problem) in
-    let q = take (a .problem .periods) (a .t5) in (
-      reserve-refused P (a .text .now) (a .at) (a .line) (a .tally) (above-of (a .problem .periods) (a .above)) q 35
-          (unit-stuck P (s .pre .0 .well-formed) (a .text .now) (a .at) (a .above .fixed) q (r .read-row .result) (is-row r) (v .0 .0) (v .1)
-          (sym (c .enum-told .given .1) ∙ c .before .before .leaf-value .ensures)),
+    let P = instance-in (a .numbers .now) in
+    let q = take (P .periods) (a .t5) in (
+      reserve-refused P (a .text .now) (a .at) (a .line) (a .tally) (above-of (P .periods) (a .fixed .now)) q 35
+          (unit-stuck P (s .pre .0 .well-formed) (a .text .now) (a .at) (a .fixed .now) q (r .read-row .result) (is-row r) (v .0 .0) (v .1)
+          (sym (c .enum-told .given .1) ∙ leaf-is (c .before .before))),
       tt,
     )
 
 returns-3 : tie.Need-returns-3
-unfolding view
 returns-3 c =
-    let w = c .before .before .before .before .before .before .before .before .before .before .before in
+    let w = c .before .before .before .before .before .before .before .before .before in
     let r = w .before .before in
-    let s = r .before .before .before in
+    let s = start r in
     let a = s .args in
     let v = w .verdict2 .given in
     let x = c .before .before .least .given in
-    let P = view (a .problem) in
-    let q = take (a .problem .periods) (a .t5) in
+    let P = instance-in (a .numbers .now) in
+    let q = take (P .periods) (a .t5) in
     let fits : SFits w64 (x .0 .0) = search needs in
     let added = subst (λ (z : ℤ). LeafAdded (a .tally) (Number z) (c .with-leaf .result)) (toZ-ofZ w64 (x .0 .0) fits) (c .with-leaf .ensures) in (
-      reserve-leaf P (a .text .now) (a .at) (a .line) (a .tally) (above-of (a .problem .periods) (a .above)) q (Number (x .0 .0)) (v .0 .0) (c .with-leaf .result)
-          (leaf-read P (s .pre .0 .well-formed) (a .text .now) (a .at) (a .above .fixed) q (r .read-row .result) (is-row r) (v .0 .0) (v .1) (x .0 .0)
-          (sym (x .1) ∙ c .before .before .before .before .leaf-value .ensures)) (moved w) added,
-      leaf-past (a .text .now) (a .at) (a .line) (a .tally) (s .pre .1 .0) (v .0 .0) (moved w) (Number (x .0 .0)) (c .with-leaf .result) added,
+      reserve-leaf P (a .text .now) (a .at) (a .line) (a .tally) (above-of (P .periods) (a .fixed .now)) q (Number (x .0 .0)) (v .0 .0) (c .with-leaf .result)
+          (leaf-read P (s .pre .0 .well-formed) (a .text .now) (a .at) (a .fixed .now) q (r .read-row .result) (is-row r) (v .0 .0) (v .1) (x .0 .0)
+          (sym (x .1) ∙ leaf-is (c .before .before .before .before))) (moved w) added,
+      leaf-past (a .text .now) (a .at) (a .line) (a .tally) (s .pre .1 .1 .0) (v .0 .0) (moved w) (Number (x .0 .0)) (c .with-leaf .result) added,
     )
 
 pub read-reserve-spec : {M : Type 1} → statement M
 read-reserve-spec =
     tie.close
     (tie.spec
+    periods-in-requires
     slice-aggregate-read-row
     read-row-requires
     enum-known-verdict
@@ -183,11 +203,10 @@ read-reserve-spec =
     slice-aggregate-leaf-value
     array-share-prefix-s
     slice-aggregate-leaf-value-2
-    slice-aggregate-leaf-value-3
     leaf-value-requires
     enum-told
     enum-known-least
-    add-t29
+    add-t26
     with-leaf-requires
     returns
     returns-2

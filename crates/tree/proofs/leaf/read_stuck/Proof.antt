@@ -2,51 +2,51 @@
 use borrow.Author.Needs.{needs}
 use mathlib.Core.Path.{_≡_, refl, sym, subst, _∙_}
 use Prim.Native.Nat.{ℕ}
-use native.Mathlib.Nat.{mul-le-mul-right}
 use native.Mathlib.Omega.{arith}
-use lib.ListN.{length, length-map}
-use Rattle.model.specs.Held.{view}
+use lib.ListN.{length}
+use Rattle.numbers.specs.Numbers.{instance-in}
 use Rattle.tree.specs.declared.figures.Bound.the-variants.{Never}
-use Rattle.tree.specs.declared.naming.NamedLine.the-variants.{Names}
+use Rattle.tree.specs.declared.naming.NamedLine.{NamedLine}
+use Rattle.tree.specs.declared.naming.NamedLine.the-variants.{Refused, Names}
 use Rattle.tree.specs.Rendering.{stuck-key}
 use Rattle.tree.specs.NodeLines.{stuck-line}
 use Rattle.tree.specs.Coded.{above-of}
 use Rattle.tree.specs.Reading.{NamedRead}
-use Rattle.tree.proofs.Problems.{Sizes, valid-sizes}
+use Rattle.tree.proofs.Places.{statuses-fit}
 use Rattle.tree.proofs.Steps.{leaf-done, leaf-refused}
 use Rattle.tree.proofs.Leaves.{line-refused, stuck-same, stuck-holds, stuck-fails}
 use Rattle.tree.proofs.leaf.read_stuck.Statement.{statement}
 use Rattle.tree.proofs.leaf.read_stuck.Tie as tie
 
-sizes : (c : tie.Start) → Sizes (c .args .problem)
-sizes c = valid-sizes (c .args .problem) (sym (length-map (c .args .problem .generators) _) ∙ c .good .0 .1 .1 .1 .1 .1 .1 .0 .1 .0 .1) (c .pre .0)
-
-fixed-long : (c : tie.Start) → length (c .args .above .fixed) ≡ 1536
-fixed-long c = search needs
+abbrev start : tie.After-read-named → tie.Start
+start c = c .before .before .before .before .before .before
 
 -- what the line is found to be, for the problem
-said : (c : tie.After-read-named) →
-    let a = c .before .before .before .args in
-    NamedRead stuck-key (length (view (a .problem) .units)) (a .text .now) (a .at) (c .read-named .result)
-unfolding view
-said c =
-    let s = c .before .before .before in
-    let a = s .args in
-    subst (λ (n : ℕ). NamedRead stuck-key n (a .text .now) (a .at) (c .read-named .result)) (sym (sizes s .units-long)) (c .read-named .ensures)
+said : (c : tie.After-read-named) (r : NamedLine) → c .read-named .result ≡ r →
+    let a = start c .args in
+    NamedRead stuck-key (length (instance-in (a .numbers .now) .units)) (a .text .now) (a .at) r
+said c r e =
+    let a = start c .args in
+    subst (λ (n : ℕ). NamedRead stuck-key n (a .text .now) (a .at) r) (c .before .before .units-in .ensures)
+    (subst (λ (x : NamedLine). NamedRead stuck-key (c .before .before .units-in .result) (a .text .now) (a .at) x) e (c .read-named .ensures))
 
 -- the one that it names
 names : (c : tie.After-found2) →
-    let a = c .before .before .before .before .before .args in
-    NamedRead stuck-key (length (view (a .problem) .units)) (a .text .now) (a .at) (Names (c .found2 .given .0 .0) (c .found2 .given .0 .1 .0))
-names c = rw (c .found2 .given .1) at (said (c .before .before))
+    let a = start (c .before .before) .args in
+    NamedRead stuck-key (length (instance-in (a .numbers .now) .units)) (a .text .now) (a .at) (Names (c .found2 .given .0 .0) (c .found2 .given .0 .1 .0))
+names c = said (c .before .before) (Names (c .found2 .given .0 .0) (c .found2 .given .0 .1 .0)) (c .found2 .given .1)
+
+units-in-requires : tie.Need-units-in-requires
+units-in-requires c κs = c .before .before .before .pre .0
 
 slice-aggregate-read-named : tie.Need-slice-aggregate-read-named
 slice-aggregate-read-named c = search needs
 
 read-named-requires : tie.Need-read-named-requires
 read-named-requires c κs =
-    let z = sizes (c .before .before) in
-    (refl, omega (arith, z .most-units, z .most-periods))
+    let p = c .before in
+    let w = p .before .before .before .before .pre .0 .well-formed in
+    (refl, omega (arith, p .units-in .ensures, w .units-in .1))
 
 enum-known-found : tie.Need-enum-known-found
 enum-known-found c = search needs
@@ -54,76 +54,64 @@ enum-known-found c = search needs
 enum-known-found-2 : tie.Need-enum-known-found-2
 enum-known-found-2 c = search needs
 
-slice-aggregate-is-unit-stuck : tie.Need-slice-aggregate-is-unit-stuck
-slice-aggregate-is-unit-stuck c = search needs
-
 is-unit-stuck-requires : tie.Need-is-unit-stuck-requires
-unfolding view
 is-unit-stuck-requires c κs =
-    let s = c .before .before .before .before .before .before .before .before in
-    let z = sizes s in (
-      s .pre .0,
-      (
-        omega (arith, names (c .before .before .before) .2, z .units-long),
-        omega (arith, mul-le-mul-right (s .args .problem .periods) (z .most-units), z .most-periods, fixed-long s),
-      ),
-    )
+    let s = start (c .before .before .before) in
+    let P = instance-in (s .args .numbers .now) in
+    (s .pre .0, (names (c .before) .2, rw (s .pre .1 .0) (statuses-fit P (s .pre .0 .well-formed))))
 
-add-t20 : tie.Need-add-t20
-add-t20 c = search needs
+add-t17 : tie.Need-add-t17
+add-t17 c = search needs
 
 with-leaf-requires : tie.Need-with-leaf-requires
 with-leaf-requires c κs = search needs
 
 returns : tie.Need-returns
-unfolding view
 returns c =
-    let f = c .before .before .before .before .before .before in
-    let s = f .before .before .before .before .before in
+    let f = c .before .before .before .before in
+    let s = start (f .before .before) in
     let a = s .args in
     let g = f .found2 .given .0 in
     let n = names f in
-    let P = view (a .problem) in
-    let A = above-of (a .problem .periods) (a .above) in
+    let P = instance-in (a .numbers .now) in
+    let A = above-of (P .periods) (a .fixed .now) in
     leaf-done P (a .text .now) (a .at) (a .line) (a .tally) A Never (g .1 .0) (c .with-leaf .result)
-    (λ d. stuck-holds P (a .text .now) (a .at) A d (s .pre .1 .1) (n .0) (g .0) (n .1) (sym (c .before .if1 .taken) ∙ c .before .before .is-unit-stuck .ensures ∙ stuck-same P (a .above .fixed) (g .0)))
-    (n .3) (c .with-leaf .ensures) (s .pre .1 .0)
+    (λ d. stuck-holds P (a .text .now) (a .at) A d (s .pre .1 .1 .1) (n .0) (g .0) (n .1) (sym (c .before .if1 .taken) ∙ c .before .before .is-unit-stuck .ensures ∙ stuck-same P (a .fixed .now) (g .0)))
+    (n .3) (c .with-leaf .ensures) (s .pre .1 .1 .0)
 
 returns-2 : tie.Need-returns-2
-unfolding view
 returns-2 c =
     let f = c .before in
-    let s = f .before .before .before .before .before in
+    let s = start (f .before .before) in
     let a = s .args in
     let n = f .found .given .0 .0 in
-    let P = view (a .problem) in
-    let A = above-of (a .problem .periods) (a .above) in
+    let P = instance-in (a .numbers .now) in
+    let A = above-of (P .periods) (a .fixed .now) in
     leaf-refused P (a .text .now) (a .at) (a .line) (a .tally) A n
-    (λ d. line-refused P (a .text .now) (a .at) A d stuck-line (s .pre .1 .1) n (rw (f .found .given .1) at (said (f .before .before))))
+    (λ d. line-refused P (a .text .now) (a .at) A d stuck-line (s .pre .1 .1 .1) n (said (f .before .before) (Refused n) (f .found .given .1)))
 
 returns-3 : tie.Need-returns-3
-unfolding view
 returns-3 c =
-    let f = c .before .before .before .before .before in
-    let s = f .before .before .before .before .before in
+    let f = c .before .before .before in
+    let s = start (f .before .before) in
     let a = s .args in
     let n = names f in
-    let P = view (a .problem) in
-    let A = above-of (a .problem .periods) (a .above) in
+    let P = instance-in (a .numbers .now) in
+    let A = above-of (P .periods) (a .fixed .now) in
     leaf-refused P (a .text .now) (a .at) (a .line) (a .tally) A 34
-    (λ d. stuck-fails P (a .text .now) (a .at) A d (s .pre .1 .1) (n .0) (f .found2 .given .0 .0) (n .1) (sym (c .if1 .left) ∙ c .before .is-unit-stuck .ensures ∙ stuck-same P (a .above .fixed) (f .found2 .given .0 .0)))
+    (λ d. stuck-fails P (a .text .now) (a .at) A d (s .pre .1 .1 .1) (n .0) (f .found2 .given .0 .0) (n .1) (sym (c .if1 .left) ∙ c .before .is-unit-stuck .ensures ∙ stuck-same P (a .fixed .now) (f .found2 .given .0 .0)))
 
 pub read-stuck-spec : {M : Type 1} → statement M
 read-stuck-spec =
     tie.close
     (tie.spec
+    units-in-requires
     slice-aggregate-read-named
     read-named-requires
     enum-known-found
     enum-known-found-2
-    slice-aggregate-is-unit-stuck
     is-unit-stuck-requires
-    add-t20
+    add-t17
     with-leaf-requires
     returns
     returns-2

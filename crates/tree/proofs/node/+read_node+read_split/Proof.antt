@@ -1,20 +1,22 @@
 -- A node calls the split reader with one line less unread, the split reader calls the node reader on its own lines: the measures are
 -- twice the unread lines, and one more for the split.
 use borrow.Author.Needs.{needs}
-use mathlib.Core.Path.{_≡_, refl, sym, ap, _∙_}
+use mathlib.Core.Path.{_≡_, refl, sym, ap, subst, _∙_}
 use mathlib.Core.Bool.{true, false}
+use mathlib.Core.List.{List}
 use native.Mathlib.Omega.{arith}
-use lib.ListN.{length, length-map}
-use Rattle.model.specs.Held.{view}
+use lib.ListN.{length, set, length-set}
 use Rattle.model.specs.Above.{fix}
+use Rattle.numbers.specs.Numbers.{instance-in}
 use Rattle.least.specs.Marks.{mark-of}
+use Rattle.tree.specs.declared.splitting.SplitLine.{SplitLine}
 use Rattle.tree.specs.declared.splitting.SplitLine.the-variants.{On}
 use Rattle.tree.specs.Kinds.{node-kind}
 use Rattle.tree.specs.Coded.{above-of}
-use Rattle.tree.specs.Reading.{unread, SplitRead}
-use Rattle.tree.proofs.Problems.{Sizes, valid-sizes}
-use Rattle.tree.proofs.Marked.{split-is}
-use Rattle.tree.proofs.SplitLines.{place-inside}
+use Rattle.tree.specs.declared.leaf.Read.{Read}
+use Rattle.tree.specs.Reading.{unread, NodeRead, TreesRead, Past, SplitRead}
+use Rattle.tree.proofs.Places.{place-inside}
+use Rattle.tree.proofs.Marked.{split-is, set-length, set-over, set-back}
 use Rattle.tree.proofs.Steps.{node-refused, node-split, trees-refused, trees-both, moved-placed, later-past, both-past}
 use Prim.Native.Nat.{ℕ, _+_, _*_, _<_}
 use borrow.Fn.Kinds.{In}
@@ -25,36 +27,36 @@ use Rattle.tree.proofs.node.+read_node+read_split.Lts-read_node as read
 use Rattle.tree.proofs.node.read_split.Reads as read-split
 use Rattle.tree.proofs.node.read_split.Kinds as read-split-kinds
 use Rattle.tree.proofs.node.+read_node+read_split.Lts-read_split as read-split-lts
-use Rattle.tree.proofs.above.Above.with.Reads as with-reads
 use Rattle.tree.proofs.figures.Tally.with_split.Reads as with-split-reads
 use Rattle.tree.proofs.leaf.read_price.Reads as read-price-reads
 use Rattle.tree.proofs.leaf.read_short.Reads as read-short-reads
 use Rattle.tree.proofs.leaf.read_stuck.Reads as read-stuck-reads
 use Rattle.tree.proofs.node.find_kind.Reads as find-kind-reads
+use Rattle.numbers.proofs.periods_in.Reads as periods-in-reads
 use Rattle.tree.proofs.splitting.read_split_line.Reads as read-split-line-reads
 use Rattle.tree.proofs.node.+read_node+read_split.{statement}
 use Rattle.tree.proofs.node.+read_node+read_split.Tie.{close}
 
-abbrev μ-read-node : Measures 1 read-node-kinds.ps ℕ
+abbrev μ-read-node : Measures 3 read-node-kinds.ps ℕ
 μ-read-node κs a = 2 * unread (a .1 .0 .now) (a .1 .1 .0)
 
-abbrev μ-read-split : Measures 1 read-split-kinds.ps ℕ
+abbrev μ-read-split : Measures 3 read-split-kinds.ps ℕ
 μ-read-split κs a = 2 * unread (a .1 .0 .now) (a .1 .1 .0) + 1
 
-abbrev read-node-at : ℕ → In 1 read-node-kinds.ps
-read-node-at t = and 1 read-node-kinds.ps (is 1 read-node-kinds.ps μ-read-node t) read-node.Pre
+abbrev read-node-at : ℕ → In 3 read-node-kinds.ps
+read-node-at t = and 3 read-node-kinds.ps (is 3 read-node-kinds.ps μ-read-node t) read-node.Pre
 
-abbrev read-node-below : ℕ → In 1 read-node-kinds.ps
+abbrev read-node-below : ℕ → In 3 read-node-kinds.ps
 read-node-below t =
-    and 1 read-node-kinds.ps (falls 1 read-node-kinds.ps _<_ μ-read-node t) read-node.Pre
+    and 3 read-node-kinds.ps (falls 3 read-node-kinds.ps _<_ μ-read-node t) read-node.Pre
 
-abbrev read-split-at : ℕ → In 1 read-split-kinds.ps
+abbrev read-split-at : ℕ → In 3 read-split-kinds.ps
 read-split-at t =
-    and 1 read-split-kinds.ps (is 1 read-split-kinds.ps μ-read-split t) read-split.Pre
+    and 3 read-split-kinds.ps (is 3 read-split-kinds.ps μ-read-split t) read-split.Pre
 
-abbrev read-split-below : ℕ → In 1 read-split-kinds.ps
+abbrev read-split-below : ℕ → In 3 read-split-kinds.ps
 read-split-below t =
-    and 1 read-split-kinds.ps (falls 1 read-split-kinds.ps _<_ μ-read-split t) read-split.Pre
+    and 3 read-split-kinds.ps (falls 3 read-split-kinds.ps _<_ μ-read-split t) read-split.Pre
 
 abbrev read-node-calls : ℕ → read-node-lts.Claims
 read-node-calls t = (
@@ -68,8 +70,8 @@ read-node-calls t = (
   read-price-reads.Learnt,
   read-split-line-reads.Asked,
   read-split-line-reads.Learnt,
-  with-reads.Asked,
-  with-reads.Learnt,
+  periods-in-reads.Asked,
+  periods-in-reads.Learnt,
   with-split-reads.Asked,
   with-split-reads.Learnt,
   read-split-below t,
@@ -82,37 +84,46 @@ read-split-calls t = (
   read-node.Post,
 )
 
+abbrev AtStart : ℕ → Type 0
+AtStart t = read-node-lts.Start (read-node-calls t) (read-node-at t) read-node.Post
+
+abbrev AtKind : ℕ → Type 0
+AtKind t = read-node-lts.After-find-kind (read-node-calls t) (read-node-at t) read-node.Post
+
+abbrev AtSplit : ℕ → Type 0
+AtSplit t = read-node-lts.After-found2 (read-node-calls t) (read-node-at t) read-node.Post
+
+abbrev AtPlace : ℕ → Type 0
+AtPlace t = read-node-lts.After-periods-in (read-node-calls t) (read-node-at t) read-node.Post
+
+abbrev start : (t : ℕ) → AtKind t → AtStart t
+start t c = c .before .before .before .before
+
+abbrev split-start : (t : ℕ) → AtSplit t → AtStart t
+split-start t c = start t (c .before .before .before .before .before .before)
+
 -- ---- facts at a split line that is good
 
-sizes : (t : ℕ) (c : read-node-lts.Start (read-node-calls t) (read-node-at t) read-node.Post) → Sizes (c .args .problem)
-sizes t c = valid-sizes (c .args .problem) (sym (length-map (c .args .problem .generators) _) ∙ c .good .0 .1 .1 .1 .1 .1 .1 .0 .1 .0 .1) (c .pre .1 .0)
-
-fixed-long : (t : ℕ) (c : read-node-lts.Start (read-node-calls t) (read-node-at t) read-node.Post) → length (c .args .above .fixed) ≡ 1536
-fixed-long t c = search needs
-
 -- what the line says
-split-known : (t : ℕ) (c : read-node-lts.After-found2 (read-node-calls t) (read-node-at t) read-node.Post) →
-    let a = c .before .before .before .before .before .before .before .args in
+split-known : (t : ℕ) (c : AtSplit t) →
+    let a = split-start t c .args in
+    let P = instance-in (a .numbers .now) in
     let g = c .found2 .given .0 in
-    SplitRead (view (a .problem)) (a .text .now) (a .at) (above-of (a .problem .periods) (a .above)) (a .depth) (On (g .0) (g .1 .0) (g .1 .1 .0))
-split-known t c = rw (c .found2 .given .1) at (c .before .before .read-split-line .ensures)
+    SplitRead P (a .text .now) (a .at) (above-of (P .periods) (a .fixed .now)) (a .depth) (On (g .0) (g .1 .0) (g .1 .1 .0))
+split-known t c =
+    let a = split-start t c .args in
+    let P = instance-in (a .numbers .now) in
+    subst (λ (x : SplitLine). SplitRead P (a .text .now) (a .at) (above-of (P .periods) (a .fixed .now)) (a .depth) x) (c .found2 .given .1) (c .before .before .read-split-line .ensures)
 
 -- its status has a place
-place-in : (t : ℕ) (c : read-node-lts.After-found2 (read-node-calls t) (read-node-at t) read-node.Post) →
-    let g = c .found2 .given .0 in
-    g .0 * c .before .before .before .before .before .before .before .args .problem .periods + g .1 .0 < 1536
-unfolding view
+place-in : (t : ℕ) (c : AtPlace t) → let g = c .before .before .found2 .given .0 in g .0 * c .periods-in .result + g .1 .0 < 1536
 place-in t c =
-    let s = c .before .before .before .before .before .before .before in
-    let z = sizes t s in
-    let k = split-known t c in
-    place-inside _ (s .args .problem .units) _ (s .args .problem .periods) (rw (z .units-long) at (k .1)) (k .2) (z .most-units) (z .most-periods)
+    let f = c .before .before in
+    let s = split-start t f in
+    let k = split-known t f in
+    place-inside (instance-in (s .args .numbers .now)) (s .pre .1 .0 .well-formed) _ _ _ (c .periods-in .ensures) (k .1) (k .2)
 
-place-long : (t : ℕ) (c : read-node-lts.After-found2 (read-node-calls t) (read-node-at t) read-node.Post) →
-    let a = c .before .before .before .before .before .before .before .args in
-    let g = c .found2 .given .0 in
-    g .0 * a .problem .periods + g .1 .0 < length (a .above .fixed)
-place-long t c = omega (arith, place-in t c, fixed-long t (c .before .before .before .before .before .before .before))
+-- ---- a node
 
 read-node-find-kind-requires : (t : ℕ) → read-node-lts.Need-find-kind-requires (read-node-calls t) (read-node-at t) read-node.Post
 read-node-find-kind-requires t c κs = search needs
@@ -122,32 +133,36 @@ read-node-enum-told t c = search needs
 
 read-node-read-short-requires : (t : ℕ) → read-node-lts.Need-read-short-requires (read-node-calls t) (read-node-at t) read-node.Post
 read-node-read-short-requires t c κs =
-    let s = c .before .before .before .before in
-    (s .pre .1 .0, (s .pre .1 .1 .0, sym (c .before .before .find-kind .ensures) ∙ ap node-kind (c .enum-told .given .1)))
+    let f = c .before .before .before in
+    let p = start t f .pre .1 in
+    (p .0, (p .1 .1 .1, (p .1 .0, sym (f .find-kind .ensures) ∙ ap node-kind (c .before .enum-told .given .1))))
 
 read-node-enum-told-2 : (t : ℕ) → read-node-lts.Need-enum-told-2 (read-node-calls t) (read-node-at t) read-node.Post
 read-node-enum-told-2 t c = search needs
 
 read-node-read-stuck-requires : (t : ℕ) → read-node-lts.Need-read-stuck-requires (read-node-calls t) (read-node-at t) read-node.Post
 read-node-read-stuck-requires t c κs =
-    let s = c .before .before .before .before in
-    (s .pre .1 .0, (s .pre .1 .1 .0, sym (c .before .before .find-kind .ensures) ∙ ap node-kind (c .enum-told2 .given .1)))
+    let f = c .before .before .before in
+    let p = start t f .pre .1 in
+    (p .0, (p .1 .1 .1, (p .1 .0, sym (f .find-kind .ensures) ∙ ap node-kind (c .before .enum-told2 .given .1))))
 
 read-node-enum-told-3 : (t : ℕ) → read-node-lts.Need-enum-told-3 (read-node-calls t) (read-node-at t) read-node.Post
 read-node-enum-told-3 t c = search needs
 
 read-node-read-price-requires : (t : ℕ) → read-node-lts.Need-read-price-requires (read-node-calls t) (read-node-at t) read-node.Post
 read-node-read-price-requires t c κs =
-    let s = c .before .before .before .before in
-    (s .pre .1 .0, (s .pre .1 .1 .0, sym (c .before .before .find-kind .ensures) ∙ ap node-kind (c .enum-told3 .given .1)))
+    let f = c .before .before .before in
+    let p = start t f .pre .1 in
+    (p .0, (p .1 .1 .1, (p .1 .0, sym (f .find-kind .ensures) ∙ ap node-kind (c .before .enum-told3 .given .1))))
 
 read-node-enum-told-4 : (t : ℕ) → read-node-lts.Need-enum-told-4 (read-node-calls t) (read-node-at t) read-node.Post
 read-node-enum-told-4 t c = search needs
 
 read-node-read-split-line-requires : (t : ℕ) → read-node-lts.Need-read-split-line-requires (read-node-calls t) (read-node-at t) read-node.Post
 read-node-read-split-line-requires t c κs =
-    let s = c .before .before .before .before in
-    (s .pre .1 .0, (s .pre .1 .1 .0 .short, sym (c .before .before .find-kind .ensures) ∙ ap node-kind (c .enum-told4 .given .1)))
+    let f = c .before .before .before in
+    let p = start t f .pre .1 in
+    (p .0, (p .1 .1 .1, (p .1 .0 .short, sym (f .find-kind .ensures) ∙ ap node-kind (c .before .enum-told4 .given .1))))
 
 read-node-enum-known-found : (t : ℕ) → read-node-lts.Need-enum-known-found (read-node-calls t) (read-node-at t) read-node.Post
 read-node-enum-known-found t c = search needs
@@ -155,132 +170,225 @@ read-node-enum-known-found t c = search needs
 read-node-enum-known-found-2 : (t : ℕ) → read-node-lts.Need-enum-known-found-2 (read-node-calls t) (read-node-at t) read-node.Post
 read-node-enum-known-found-2 t c = search needs
 
+read-node-periods-in-requires : (t : ℕ) → read-node-lts.Need-periods-in-requires (read-node-calls t) (read-node-at t) read-node.Post
+read-node-periods-in-requires t c κs = split-start t (c .before) .pre .1 .0
+
 read-node-mul-place : (t : ℕ) → read-node-lts.Need-mul-place (read-node-calls t) (read-node-at t) read-node.Post
-read-node-mul-place t c = omega (arith, place-in t (c .before .before))
+read-node-mul-place t c = omega (arith, place-in t c)
 
 read-node-add-place : (t : ℕ) → read-node-lts.Need-add-place (read-node-calls t) (read-node-at t) read-node.Post
-read-node-add-place t c = omega (arith, place-in t (c .before .before))
-
-read-node-with-requires : (t : ℕ) → read-node-lts.Need-with-requires (read-node-calls t) (read-node-at t) read-node.Post
-read-node-with-requires t c κs = place-in t (c .before .before)
-
-read-node-with-requires-2 : (t : ℕ) → read-node-lts.Need-with-requires-2 (read-node-calls t) (read-node-at t) read-node.Post
-read-node-with-requires-2 t c κs = place-in t (c .before .before .before)
+read-node-add-place t c = omega (arith, place-in t c)
 
 read-node-with-split-requires : (t : ℕ) → read-node-lts.Need-with-split-requires (read-node-calls t) (read-node-at t) read-node.Post
 read-node-with-split-requires t c κs =
-    let p = c .before .before .before .before .before .before .before .before .before .before .before .pre .1 .1 .0 in
+    let p = split-start t (c .before .before) .pre .1 .1 .0 in
     omega (arith, p .short, p .inside, p .numbered, p .counted)
 
 read-node-add-read-split : (t : ℕ) → read-node-lts.Need-add-read-split (read-node-calls t) (read-node-at t) read-node.Post
 read-node-add-read-split t c =
-    let p = c .before .before .before .before .before .before .before .before .before .before .before .before .pre .1 .1 .0 in
+    let p = split-start t (c .before .before .before) .pre .1 .1 .0 in
     omega (arith, p .short, p .inside, p .numbered)
 
 read-node-add-read-split-2 : (t : ℕ) → read-node-lts.Need-add-read-split-2 (read-node-calls t) (read-node-at t) read-node.Post
-read-node-add-read-split-2 t c =
-    omega (arith, c .before .before .before .before .before .before .before .before .before .before .before .before .pre .1 .1 .1)
+read-node-add-read-split-2 t c = omega (arith, split-start t (c .before .before .before) .pre .1 .1 .1 .0)
 
 read-node-read-split-requires : (t : ℕ) → read-node-lts.Need-read-split-requires (read-node-calls t) (read-node-at t) read-node.Post
 read-node-read-split-requires t c κs =
-    let f = c .before .before .before .before .before in
-    let s = f .before .before .before .before .before .before .before in
+    let f = c .before .before .before .before in
+    let s = split-start t f in
     let a = s .args in
     let k = split-known t f in
     let m = k .4 in
-    let e = c .with-split .ensures in (
+    let w = c .before in
+    let e = w .with-split .ensures in (
       omega (arith, s .pre .0, m .fewer),
       (
         s .pre .1 .0,
         (
-          moved-placed (a .text .now) (a .at) (a .line) (a .tally) (s .pre .1 .1 .0) (f .found2 .given .0 .1 .1 .0) m (c .with-split .result) (rw e (omega arith)),
-          omega (arith, k .3),
+          moved-placed (a .text .now) (a .at) (a .line) (a .tally) (s .pre .1 .1 .0) (f .found2 .given .0 .1 .1 .0) m (w .with-split .result) (rw e (omega arith)),
+          ((omega (arith, k .3), s .pre .1 .1 .1 .1), place-in t (c .before .before)),
         ),
       ),
     )
 
+read-node-same-length : (t : ℕ) → read-node-lts.Need-same-length (read-node-calls t) (read-node-at t) read-node.Post
+read-node-same-length t c = search needs
+
 read-node-returns : (t : ℕ) → read-node-lts.Need-returns (read-node-calls t) (read-node-at t) read-node.Post
 read-node-returns t c =
-    (c .read-short .ensures .0 (c .before .before .before .before .before .args .depth), c .read-short .ensures .1)
+    let s = start t (c .before .before .before .before) in
+    (c .read-short .ensures .0 (s .args .depth), (c .read-short .ensures .1, refl))
+
+read-node-same-length-2 : (t : ℕ) → read-node-lts.Need-same-length-2 (read-node-calls t) (read-node-at t) read-node.Post
+read-node-same-length-2 t c = search needs
 
 read-node-returns-2 : (t : ℕ) → read-node-lts.Need-returns-2 (read-node-calls t) (read-node-at t) read-node.Post
 read-node-returns-2 t c =
-    (c .read-stuck .ensures .0 (c .before .before .before .before .before .args .depth), c .read-stuck .ensures .1)
+    let s = start t (c .before .before .before .before) in
+    (c .read-stuck .ensures .0 (s .args .depth), (c .read-stuck .ensures .1, refl))
+
+read-node-same-length-3 : (t : ℕ) → read-node-lts.Need-same-length-3 (read-node-calls t) (read-node-at t) read-node.Post
+read-node-same-length-3 t c = search needs
 
 read-node-returns-3 : (t : ℕ) → read-node-lts.Need-returns-3 (read-node-calls t) (read-node-at t) read-node.Post
 read-node-returns-3 t c =
-    (c .read-price .ensures .0 (c .before .before .before .before .before .args .depth), c .read-price .ensures .1)
+    let s = start t (c .before .before .before .before) in
+    (c .read-price .ensures .0 (s .args .depth), (c .read-price .ensures .1, refl))
+
+read-node-same-length-4 : (t : ℕ) → read-node-lts.Need-same-length-4 (read-node-calls t) (read-node-at t) read-node.Post
+read-node-same-length-4 t c = search needs
 
 read-node-returns-4 : (t : ℕ) → read-node-lts.Need-returns-4 (read-node-calls t) (read-node-at t) read-node.Post
 read-node-returns-4 t c =
-    let a = c .before .before .before .before .before .before .before .before .args in (
-      node-refused (view (a .problem)) (a .text .now) (a .at) (a .line) (a .tally) (above-of (a .problem .periods) (a .above)) (a .depth) (c .before .found .given .0 .0)
-          (rw (c .before .found .given .1) at (c .before .before .before .read-split-line .ensures)),
-      tt,
+    let l = c .before .before .before in
+    let a = start t (l .before .before .before .before) .args in
+    let P = instance-in (a .numbers .now) in
+    let A = above-of (P .periods) (a .fixed .now) in
+    let g = c .before .found .given in (
+      node-refused P (a .text .now) (a .at) (a .line) (a .tally) A (a .depth) (g .0 .0)
+          (subst (λ (x : SplitLine). SplitRead P (a .text .now) (a .at) A (a .depth) x) (g .1) (l .read-split-line .ensures)),
+      (tt, refl),
     )
 
+read-node-same-length-5 : (t : ℕ) → read-node-lts.Need-same-length-5 (read-node-calls t) (read-node-at t) read-node.Post
+read-node-same-length-5 t c = search needs
+
 read-node-returns-5 : (t : ℕ) → read-node-lts.Need-returns-5 (read-node-calls t) (read-node-at t) read-node.Post
-unfolding view mark-of
+unfolding mark-of
 read-node-returns-5 t c =
-    let f = c .before .before .before .before .before .before in
-    let s = f .before .before .before .before .before .before .before in
+    let q = c .before .before in
+    let w = q .before .before in
+    let p = w .before in
+    let f = p .before .before in
+    let s = split-start t f in
     let a = s .args in
     let k = split-known t f in
     let g = f .found2 .given .0 in
-    let T = a .problem .periods in
-    let P = view (a .problem) in
-    let off = ap (above-of T) (c .before .before .before .with .ensures) ∙ split-is T (a .above .fixed) (g .0) (g .1 .0) 1 false (place-long t f) (k .2) refl in
-    let on = ap (above-of T) (c .before .before .with2 .ensures) ∙ split-is T (a .above .fixed) (g .0) (g .1 .0) 2 true (place-long t f) (k .2) refl in
-    let trees = rw (off, on, c .before .with-split .ensures) at (c .read-split .ensures .0) in (
-      node-split P (a .text .now) (a .at) (a .line) (a .tally) (above-of T (a .above)) (a .depth) (fix (g .0) (g .1 .0) false (above-of T (a .above))) (fix (g .0) (g .1 .0) true (above-of T (a .above))) (g .1 .1 .0)
-          (c .read-split .result) (k .0) (k .4) trees,
-      later-past (a .text .now) (a .at) (a .line) (a .tally) (s .pre .1 .1 .0) (g .1 .1 .0) (k .4) (c .read-split .result) (c .read-split .ensures .1),
+    let P = instance-in (a .numbers .now) in
+    let T = P .periods in
+    let A = above-of T (a .fixed .now) in
+    let inside : g .0 * T + g .1 .0 < length (a .fixed .now) = omega (arith, place-inside P (s .pre .1 .0 .well-formed) T (g .0) (g .1 .0) refl (k .1) (k .2), s .pre .1 .1 .1 .1) in
+    let off = split-is T (a .fixed .now) (g .0) (g .1 .0) 1 false inside (k .2) refl in
+    let on = split-is T (a .fixed .now) (g .0) (g .1 .0) 2 true inside (k .2) refl in
+    let both = subst (λ (n : ℕ). TreesRead P (a .text .now) (g .1 .1 .0) (a .line + 1) (w .with-split .result) (above-of T (set (a .fixed .now) (g .0 * n + g .1 .0) 1)) (above-of T (set (a .fixed .now) (g .0 * n + g .1 .0) 2)) (a .depth + 1) (q .read-split .result))
+    (p .periods-in .ensures) (q .read-split .ensures .0) in
+    let trees = rw (off, on, w .with-split .ensures) at both in (
+      node-split P (a .text .now) (a .at) (a .line) (a .tally) A (a .depth) (fix (g .0) (g .1 .0) false A) (fix (g .0) (g .1 .0) true A) (g .1 .1 .0) (q .read-split .result)
+          (k .0) (k .4) trees,
+      (
+        later-past (a .text .now) (a .at) (a .line) (a .tally) (s .pre .1 .1 .0) (g .1 .1 .0) (k .4) (q .read-split .result) (q .read-split .ensures .1 .0),
+        q .read-split .ensures .1 .1,
+      ),
     )
 
+-- ---- the trees of a split
+
+abbrev AtFirst : ℕ → Type 0
+AtFirst t = read-split-lts.After-read-node (read-split-calls t) (read-split-at t) read-split.Post
+
+abbrev AtSecond : ℕ → Type 0
+AtSecond t = read-split-lts.After-read-node2 (read-split-calls t) (read-split-at t) read-split.Post
+
+abbrev trees-start : (t : ℕ) → AtFirst t → read-split-lts.Start (read-split-calls t) (read-split-at t) read-split.Post
+trees-start t c = c .before .before .before .before .before .before
+
+abbrev first-of : (t : ℕ) → AtSecond t → AtFirst t
+first-of t c = c .before .before .before .before .before .before .before
+
+-- as many statuses after each tree as before
+first-long : (t : ℕ) (c : AtFirst t) → length (c .read-node .last .1 .1 .1 .1 .1 .0) ≡ 1536
+first-long t c = let s = trees-start t c in set-length (s .args .fixed .now) (s .args .place) _ (c .read-node .ensures .1 .1) ∙ s .pre .1 .1 .1 .0 .1
+
+second-long : (t : ℕ) (c : AtSecond t) → length (c .read-node2 .last .1 .1 .1 .1 .1 .0) ≡ 1536
+second-long t c = let b = first-of t c in set-length (b .read-node .last .1 .1 .1 .1 .1 .0) (trees-start t b .args .place) _ (c .read-node2 .ensures .1 .1) ∙ first-long t b
+
+read-split-slice-read-was : (t : ℕ) → read-split-lts.Need-slice-read-was (read-split-calls t) (read-split-at t) read-split.Post
+read-split-slice-read-was t c = search needs
+
+read-split-slice-write-fixed : (t : ℕ) → read-split-lts.Need-slice-write-fixed (read-split-calls t) (read-split-at t) read-split.Post
+read-split-slice-write-fixed t c = search needs
+
 read-split-read-node-requires : (t : ℕ) → read-split-lts.Need-read-node-requires (read-split-calls t) (read-split-at t) read-split.Post
-read-split-read-node-requires t c κs = (omega (arith, c .before .pre .0), c .before .pre .1)
+read-split-read-node-requires t c κs =
+    let s = c .before .before .before .before .before in
+    let p = s .pre .1 in
+    (omega (arith, s .pre .0), (p .0, (p .1 .0, (p .1 .1 .0 .0, simp length-set (p .1 .1 .0 .1)))))
 
 read-split-enum-known-one : (t : ℕ) → read-split-lts.Need-enum-known-one (read-split-calls t) (read-split-at t) read-split.Post
 read-split-enum-known-one t c = search needs
 
+read-split-slice-write-fixed-2 : (t : ℕ) → read-split-lts.Need-slice-write-fixed-2 (read-split-calls t) (read-split-at t) read-split.Post
+read-split-slice-write-fixed-2 t c =
+    let b = c .before .before .before .before .before in
+    let p = trees-start t b .pre .1 .1 .1 in
+    omega (arith, first-long t b, p .1)
+
 read-split-enum-known-one-2 : (t : ℕ) → read-split-lts.Need-enum-known-one-2 (read-split-calls t) (read-split-at t) read-split.Post
 read-split-enum-known-one-2 t c = search needs
 
+read-split-slice-write-fixed-3 : (t : ℕ) → read-split-lts.Need-slice-write-fixed-3 (read-split-calls t) (read-split-at t) read-split.Post
+read-split-slice-write-fixed-3 t c =
+    let b = c .before .before .before .before .before in
+    let p = trees-start t b .pre .1 .1 .1 in
+    omega (arith, first-long t b, p .1)
+
 read-split-read-node-requires-2 : (t : ℕ) → read-split-lts.Need-read-node-requires-2 (read-split-calls t) (read-split-at t) read-split.Post
 read-split-read-node-requires-2 t c κs =
-    let s = c .before .before .before .before .before in
-    let p = rw (c .before .one2 .given .1) at (c .before .before .before .read-node .ensures .1) in
-    (omega (arith, s .pre .0, p .1), (s .pre .1 .0, (p .0, s .pre .1 .1 .1)))
+    let o = c .before .before in
+    let b = o .before .before .before .before in
+    let s = trees-start t b in
+    let p = s .pre .1 in
+    let q = subst (λ (x : Read). Past (s .args .text .now) (s .args .at) x) (o .one2 .given .1) (b .read-node .ensures .1 .0) in
+    (omega (arith, s .pre .0, q .1), (p .0, (q .0, (p .1 .1 .0 .0, simp length-set (first-long t b)))))
 
-read-split-returns :
-    (t : ℕ) →
-    read-split-lts.Need-returns
-    (read-node-below t, read-node.Post)
-    (read-split-at t)
-    read-split.Post
+read-split-slice-write-fixed-4 : (t : ℕ) → read-split-lts.Need-slice-write-fixed-4 (read-split-calls t) (read-split-at t) read-split.Post
+read-split-slice-write-fixed-4 t c =
+    let b = c .before .before in
+    let p = trees-start t (first-of t b) .pre .1 .1 .1 in
+    omega (arith, second-long t b, p .1)
+
+read-split-same-length : (t : ℕ) → read-split-lts.Need-same-length (read-split-calls t) (read-split-at t) read-split.Post
+read-split-same-length t c =
+    let b = c .before .before .before .before .before in
+    simp length-set (first-long t b ∙ sym (trees-start t b .pre .1 .1 .1 .0 .1))
+
+read-split-returns : (t : ℕ) → read-split-lts.Need-returns (read-split-calls t) (read-split-at t) read-split.Post
 read-split-returns t c =
-    let a = c .before .before .before .before .before .args in
-    let T = a .problem .periods in
+    let b = c .before .before .before .before .before in
+    let a = trees-start t b .args in
+    let P = instance-in (a .numbers .now) in
+    let T = P .periods in
+    let A = above-of T (set (a .fixed .now) (a .place) 1) in
     let g = c .before .one .given in (
-      trees-refused (view (a .problem)) (a .text .now) (a .at) (a .line) (a .tally) (above-of T (a .first)) (a .depth) (above-of T (a .second)) (g .0 .0) (g .0 .1 .0)
-          (rw (g .1) at (c .before .before .before .read-node .ensures .0)),
-      tt,
+      trees-refused P (a .text .now) (a .at) (a .line) (a .tally) A (a .depth) (above-of T (set (a .fixed .now) (a .place) 2)) (g .0 .0) (g .0 .1 .0)
+          (subst (λ (x : Read). NodeRead P (a .text .now) (a .at) (a .line) (a .tally) A (a .depth) x) (g .1) (b .read-node .ensures .0)),
+      (tt, set-back (a .fixed .now) (a .place) 1 (b .read-node .ensures .1 .1)),
     )
 
-read-split-returns-2 :
-    (t : ℕ) →
-    read-split-lts.Need-returns-2
-    (read-node-below t, read-node.Post)
-    (read-split-at t)
-    read-split.Post
+read-split-same-length-2 : (t : ℕ) → read-split-lts.Need-same-length-2 (read-split-calls t) (read-split-at t) read-split.Post
+read-split-same-length-2 t c =
+    let r = c .before .before in
+    simp length-set (second-long t r ∙ sym (trees-start t (first-of t r) .pre .1 .1 .1 .0 .1))
+
+read-split-returns-2 : (t : ℕ) → read-split-lts.Need-returns-2 (read-split-calls t) (read-split-at t) read-split.Post
 read-split-returns-2 t c =
-    let a = c .before .before .before .before .before .before .args in
-    let T = a .problem .periods in
-    let g = c .before .before .one2 .given in
-    let one = c .before .before .before .before .read-node in (
-      trees-both (view (a .problem)) (a .text .now) (a .at) (a .line) (a .tally) (above-of T (a .first)) (a .depth) (above-of T (a .second)) (g .0 .0) (g .0 .1 .0) (g .0 .1 .1 .0) (c .read-node2 .result)
-          (rw (g .1) at (one .ensures .0)) (c .read-node2 .ensures .0),
-      both-past (a .text .now) (a .at) (g .0 .0) (g .0 .1 .0) (g .0 .1 .1 .0) (c .read-node2 .result) (rw (g .1) at (one .ensures .1)) (c .read-node2 .ensures .1),
+    let r = c .before .before in
+    let b = first-of t r in
+    let a = trees-start t b .args in
+    let P = instance-in (a .numbers .now) in
+    let T = P .periods in
+    let A = above-of T (set (a .fixed .now) (a .place) 1) in
+    let g = r .before .before .before .one2 .given in
+    let two = r .read-node2 in
+    let changed = set-over (a .fixed .now) (a .place) 1 (b .read-node .ensures .1 .1) 2 in (
+      trees-both P (a .text .now) (a .at) (a .line) (a .tally) A (a .depth) (above-of T (set (a .fixed .now) (a .place) 2)) (g .0 .0) (g .0 .1 .0) (g .0 .1 .1 .0) (two .result)
+          (subst (λ (x : Read). NodeRead P (a .text .now) (a .at) (a .line) (a .tally) A (a .depth) x) (g .1) (b .read-node .ensures .0))
+          (subst (λ (x : List ℕ). NodeRead P (a .text .now) (g .0 .0) (g .0 .1 .0) (g .0 .1 .1 .0) (above-of T x) (a .depth) (two .result)) changed (two .ensures .0)),
+      (
+        both-past (a .text .now) (a .at) (g .0 .0) (g .0 .1 .0) (g .0 .1 .1 .0) (two .result)
+            (subst (λ (x : Read). Past (a .text .now) (a .at) x) (g .1) (b .read-node .ensures .1 .0)) (two .ensures .1 .0),
+        set-back (a .fixed .now) (a .place) 2 (two .ensures .1 .1 ∙ changed),
+      ),
     )
 
 pub +read-node+read-split-spec : {M : Type 1} → statement M
@@ -298,26 +406,37 @@ pub +read-node+read-split-spec : {M : Type 1} → statement M
     (read-node-read-split-line-requires t)
     (read-node-enum-known-found t)
     (read-node-enum-known-found-2 t)
+    (read-node-periods-in-requires t)
     (read-node-mul-place t)
     (read-node-add-place t)
-    (read-node-with-requires t)
-    (read-node-with-requires-2 t)
     (read-node-with-split-requires t)
     (read-node-add-read-split t)
     (read-node-add-read-split-2 t)
     (read-node-read-split-requires t)
+    (read-node-same-length t)
     (read-node-returns t)
+    (read-node-same-length-2 t)
     (read-node-returns-2 t)
+    (read-node-same-length-3 t)
     (read-node-returns-3 t)
+    (read-node-same-length-4 t)
     (read-node-returns-4 t)
+    (read-node-same-length-5 t)
     (read-node-returns-5 t))
     λ t. read-split-lts.spec
-    (read-node-below t, read-node.Post)
+    (read-split-calls t)
     (read-split-at t)
     read-split.Post
+    (read-split-slice-read-was t)
+    (read-split-slice-write-fixed t)
     (read-split-read-node-requires t)
     (read-split-enum-known-one t)
+    (read-split-slice-write-fixed-2 t)
     (read-split-enum-known-one-2 t)
+    (read-split-slice-write-fixed-3 t)
     (read-split-read-node-requires-2 t)
+    (read-split-slice-write-fixed-4 t)
+    (read-split-same-length t)
     (read-split-returns t)
+    (read-split-same-length-2 t)
     (read-split-returns-2 t)

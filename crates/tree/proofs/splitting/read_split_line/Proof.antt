@@ -1,92 +1,134 @@
 -- The line's two numbers less 1 are the unit and the period, whose status has a place among the bytes.
 use borrow.Author.Needs.{needs}
 use mathlib.Core.Path.{_≡_, refl, sym, ap, _∙_}
-use mathlib.Core.Bool.{cond}
-use mathlib.Core.List.{[], _∷_}
+use mathlib.Core.Bool.{true, cond}
+use mathlib.Core.List.{List, [], _∷_}
 use Prim.Native.Nat.{ℕ, _+_, _*_, _-_, _<_}
 use native.Mathlib.Omega.{arith}
 use lib.Dec.{ltb}
-use lib.ListN.{length-map}
+use lib.ListN.{length}
 use borrow.Author.Tests.{lt-ltb, ltb-false}
-use Rattle.model.specs.Instance.{_at_}
-use Rattle.model.specs.Held.{view}
+use Rattle.model.specs.Instance.{Instance, _at_}
+use Rattle.model.specs.Ranges.{WellFormed}
+use Rattle.numbers.specs.Numbers.{instance-in}
 use Rattle.text.specs.Lines.{lineAt}
-use Rattle.text.specs.Forms.{form, rowOf}
+use Rattle.text.specs.declared.Verdict.{Verdict}
+use Rattle.text.specs.Forms.{form, rowOf, belowAll}
+use Rattle.text.proofs.Fills.{Filled, filled}
+use Rattle.text.proofs.Verdicts.{ruled-refused}
 use Rattle.tree.specs.Rendering.{split-key}
 use Rattle.tree.specs.NodeLines.{split-line, node-form, is-fixed}
 use Rattle.tree.specs.Coded.{marks-in, above-of, split-refusal}
-use Rattle.tree.proofs.Problems.{Sizes, valid-sizes}
+use Rattle.tree.proofs.Places.{place-inside}
 use Rattle.tree.proofs.Marked.{mark-there}
-use Rattle.tree.proofs.Rows.{row-refused, row-moved}
+use Rattle.tree.proofs.Rows.{line-moved}
 use Rattle.tree.proofs.Leaves.{line-refused}
-use Rattle.tree.proofs.SplitLines.{place-inside, none-refused, TwoValues, two-values, split-fails, split-read}
+use Rattle.tree.proofs.SplitLines.{none-refused, TwoValues, two-values, split-fails, split-read}
 use Rattle.tree.proofs.splitting.read_split_line.Statement.{statement}
 use Rattle.tree.proofs.splitting.read_split_line.Tie as tie
 
-sizes : (c : tie.Start) → Sizes (c .args .problem)
-sizes c = valid-sizes (c .args .problem) (sym (length-map (c .args .problem .generators) _) ∙ c .good .0 .1 .1 .1 .1 .1 .1 .0 .1 .0 .1) (c .pre .0)
+abbrev start : tie.After-fill-line → tie.Start
+start c = c .before .before .before .before .before .before .before .before .before .before
 
--- the row is that of a split line of the problem
-is-row : (c : tie.After-read-line) →
-    let a = c .before .before .before .before .before .args in
-    c .read-line .result ≡ rowOf (node-form (view (a .problem)) split-line) (lineAt (a .text .now) (a .at)) (a .at)
-unfolding view
-is-row c =
-    let s = c .before .before .before .before .before in
+-- the units and the periods that the code counts
+units-are : (c : tie.After-fill-line) → c .before .before .before .before .before .before .units-in .result ≡ length (instance-in (start c .args .numbers .now) .units)
+units-are c = c .before .before .before .before .before .before .units-in .ensures
+
+periods-are : (c : tie.After-fill-line) → c .before .before .before .before .before .periods-in .result ≡ instance-in (start c .args .numbers .now) .periods
+periods-are c = c .before .before .before .before .before .periods-in .ensures
+
+-- the verdict is that of a split line of the problem
+is-verdict : (c : tie.After-fill-line) →
+    let a = start c .args in
+    c .fill-line .result ≡ rowOf (node-form (instance-in (a .numbers .now)) split-line) (lineAt (a .text .now) (a .at)) (a .at) .verdict
+is-verdict c =
+    let a = start c .args in
+    let due : ℕ → ℕ → Verdict = λ u t. rowOf (form split-key 0 (1 ∷ 1 ∷ []) (u ∷ t ∷ [])) (lineAt (a .text .now) (a .at)) (a .at) .verdict in
+    c .fill-line .ensures .0
+    ∙ ap (λ (u : ℕ). due u (c .before .before .before .before .before .periods-in .result)) (units-are c)
+    ∙ ap (λ (t : ℕ). due (length (instance-in (a .numbers .now) .units)) t) (periods-are c)
+
+-- neither count has too many digits
+counts-low : (P : Instance) → WellFormed P → belowAll (length (P .units) ∷ P .periods ∷ []) ≡ true
+counts-low P W =
+    let a = W .units-in in
+    let b = W .periods-in in
+    simp (lt-ltb (length (P .units)) 10000000000 (omega arith), lt-ltb (P .periods) 10000000000 (omega arith))
+
+abbrev filling : tie.After-known-told2 → tie.After-fill-line
+filling c = c .before .before .before .before
+
+-- what a good line leaves
+left : (c : tie.After-known-told2) →
+    let f = filling c in
+    let a = start f .args in
+    Filled (node-form (instance-in (a .numbers .now)) split-line) (lineAt (a .text .now) (a .at)) (a .at) (c .before .verdict2 .given .0 .0) (f .fill-line .last .1 .1 .1 .1 .1 .0)
+left c =
+    let f = filling c in
+    let s = start f in
     let a = s .args in
-    c .read-line .ensures
-    ∙ ap (λ (n : ℕ). rowOf (form split-key 0 (1 ∷ 1 ∷ []) (n ∷ a .problem .periods ∷ [])) (lineAt (a .text .now) (a .at)) (a .at)) (sym (sizes s .units-long))
+    let P = instance-in (a .numbers .now) in
+    filled split-key (1 ∷ 1 ∷ []) (length (P .units) ∷ P .periods ∷ []) (a .text .now) (0 ∷ 0 ∷ []) (a .at) refl (counts-low P (s .pre .0 .well-formed)) refl (f .fill-line .ensures .1) (is-verdict f)
+    (c .before .verdict2 .given .1)
+
+abbrev numbers : tie.After-known-told2 → List ℕ
+numbers c = filling c .fill-line .last .1 .1 .1 .1 .1 .0
 
 -- the unit and the period that it names
-values : (c : tie.After-values) →
-    let r = c .before .before .before .before in
-    let a = r .before .before .before .before .before .args in
-    TwoValues (view (a .problem)) (a .text .now) (a .at) (r .read-line .result) (is-row r) (c .before .before .verdict2 .given .0 .0) (c .before .before .verdict2 .given .1)
+values : (c : tie.After-known-told2) →
+    let a = start (filling c) .args in
+    TwoValues (instance-in (a .numbers .now)) (a .text .now) (a .at) (left c .line-good) (numbers c) (left c .values)
 values c =
-    let r = c .before .before .before .before in
-    let a = r .before .before .before .before .before .args in
-    two-values (view (a .problem)) (a .text .now) (a .at) (r .read-line .result) (is-row r) (c .before .before .verdict2 .given .0 .0) (c .before .before .verdict2 .given .1)
+    let a = start (filling c) .args in
+    two-values (instance-in (a .numbers .now)) (a .text .now) (a .at) (left c .line-good) (numbers c) (left c .values)
 
-inside : (c : tie.After-values) →
-    let r = c .before .before .before .before .read-line .result in
-    (r .values at 0 - 1) * c .before .before .before .before .before .before .before .before .before .args .problem .periods + (r .values at 1 - 1) < 1536
-unfolding view
+inside : (c : tie.After-known-told2) →
+    let f = filling c in
+    (numbers c at 0 - 1) * f .before .before .before .before .before .periods-in .result + (numbers c at 1 - 1) < length (start f .args .fixed .now)
 inside c =
-    let s = c .before .before .before .before .before .before .before .before .before in
+    let s = start (filling c) in
     let w = values c in
-    let z = sizes s in
-    place-inside _ (s .args .problem .units) _ (s .args .problem .periods) (rw (z .units-long) at (w .unit)) (w .period) (z .most-units) (z .most-periods)
+    omega (arith, place-inside (instance-in (s .args .numbers .now)) (s .pre .0 .well-formed) _ _ _ (periods-are (filling c)) (w .unit) (w .period), s .pre .1 .0)
 
 -- the number by the model's marks
 number-is : (c : tie.After-refuse-split) →
-    let r = c .before .before .before .before .before .read-line .result in
-    let a = c .before .before .before .before .before .before .before .before .before .before .args in
+    let b = c .before in
+    let a = start (filling b) .args in
     c .refuse-split .result
-    ≡ cond (is-fixed (marks-in (a .problem .periods) (a .above .fixed) (r .values at 0 - 1) (r .values at 1 - 1))) 31 (cond (ltb 63 (a .depth)) 32 0)
-unfolding split-refusal view
+    ≡ cond (is-fixed (marks-in (instance-in (a .numbers .now) .periods) (a .fixed .now) (numbers b at 0 - 1) (numbers b at 1 - 1))) 31 (cond (ltb 63 (a .depth)) 32 0)
+unfolding split-refusal
 number-is c =
-    let r = c .before .before .before .before .before .read-line .result in
-    let a = c .before .before .before .before .before .before .before .before .before .before .args in
+    let b = c .before in
+    let a = start (filling b) .args in
+    let T = instance-in (a .numbers .now) .periods in
     c .refuse-split .ensures
-    ∙ ap (λ (m : _). cond (is-fixed m) 31 (cond (ltb 63 (a .depth)) 32 0))
-    (sym (mark-there (a .problem .periods) (a .above .fixed) (r .values at 0 - 1) (r .values at 1 - 1) (values (c .before) .period)))
+    ∙ ap (λ (n : ℕ). split-refusal (a .fixed .now) ((numbers b at 0 - 1) * n + (numbers b at 1 - 1)) (a .depth)) (periods-are (filling b))
+    ∙ ap (λ (m : _). cond (is-fixed m) 31 (cond (ltb 63 (a .depth)) 32 0)) (sym (mark-there T (a .fixed .now) (numbers b at 0 - 1) (numbers b at 1 - 1) (values b .period)))
 
-slice-aggregate-read-line : tie.Need-slice-aggregate-read-line
-slice-aggregate-read-line c = search needs
+units-in-requires : tie.Need-units-in-requires
+units-in-requires c κs = c .before .before .before .pre .0
 
-slice-aggregate-read-line-2 : tie.Need-slice-aggregate-read-line-2
-slice-aggregate-read-line-2 c = search needs
+periods-in-requires : tie.Need-periods-in-requires
+periods-in-requires c κs = c .before .before .before .before .pre .0
 
-slice-aggregate-read-line-3 : tie.Need-slice-aggregate-read-line-3
-slice-aggregate-read-line-3 c = search needs
+slice-aggregate-fill-line : tie.Need-slice-aggregate-fill-line
+slice-aggregate-fill-line c = search needs
 
-read-line-requires : tie.Need-read-line-requires
-read-line-requires c κs =
-    let s = c .before .before .before .before in
-    let z = sizes s in
-    let a = z .most-units in
-    let b = z .most-periods in
-    (refl, (omega arith, (refl, simp (lt-ltb (s .args .problem .units) 10000000000 (omega arith), lt-ltb (s .args .problem .periods) 10000000000 (omega arith)))))
+slice-aggregate-fill-line-2 : tie.Need-slice-aggregate-fill-line-2
+slice-aggregate-fill-line-2 c = search needs
+
+slice-aggregate-fill-line-3 : tie.Need-slice-aggregate-fill-line-3
+slice-aggregate-fill-line-3 c = search needs
+
+slice-aggregate-fill-line-4 : tie.Need-slice-aggregate-fill-line-4
+slice-aggregate-fill-line-4 c = search needs
+
+fill-line-requires : tie.Need-fill-line-requires
+fill-line-requires c κs =
+    let p = c .before .before .before .before in
+    let s = p .before .before .before .before .before in
+    let low = counts-low (instance-in (s .args .numbers .now)) (s .pre .0 .well-formed) in
+    (refl, (omega arith, (refl, (rw (p .before .units-in .ensures, p .periods-in .ensures) low, refl))))
 
 enum-known-verdict : tie.Need-enum-known-verdict
 enum-known-verdict c = search needs
@@ -107,56 +149,58 @@ sub-period : tie.Need-sub-period
 sub-period c = values c .low-period
 
 mul-refuse-split : tie.Need-mul-refuse-split
-mul-refuse-split c = omega (arith, inside c)
+mul-refuse-split c = let p = start (filling c) .pre .1 .0 in omega (arith, inside c)
 
 add-refuse-split : tie.Need-add-refuse-split
-add-refuse-split c = omega (arith, inside c)
+add-refuse-split c = let p = start (filling c) .pre .1 .0 in omega (arith, inside c)
 
 refuse-split-requires : tie.Need-refuse-split-requires
 refuse-split-requires c κs = inside c
 
 returns : tie.Need-returns
 returns c =
-    let r = c .before .before .before .before .before .before in
-    let s = r .before .before .before .before .before in
+    let b = c .before .before in
+    let s = start (filling b) in
     let a = s .args in
-    let v = c .before .before .before .before .verdict2 .given in
-    split-fails (view (a .problem)) (a .text .now) (a .at) (above-of (a .problem .periods) (a .above)) (a .depth) (s .pre .1 .1) (r .read-line .result) (is-row r) (v .0 .0) (v .1)
+    split-fails (instance-in (a .numbers .now)) (a .text .now) (a .at) (above-of (instance-in (a .numbers .now) .periods) (a .fixed .now)) (a .depth) (s .pre .1 .1 .1) (left b .line-good) (numbers b) (left b .values)
     (c .before .refuse-split .result) (number-is (c .before)) (c .if1 .taken)
 
 returns-2 : tie.Need-returns-2
 returns-2 c =
-    let r = c .before .before .before in
-    let s = r .before .before .before .before .before in
+    let f = c .before .before .before .before in
+    let s = start f in
     let a = s .args in
     let v = c .before .verdict .given in
-    line-refused (view (a .problem)) (a .text .now) (a .at) (above-of (a .problem .periods) (a .above)) (a .depth) split-line (s .pre .1 .1) (v .0 .0)
-    (row-refused (node-form (view (a .problem)) split-line) (a .text .now) (a .at) (r .read-line .result) (is-row r) (v .0 .0) (v .1))
+    let P = instance-in (a .numbers .now) in
+    line-refused P (a .text .now) (a .at) (above-of (instance-in (a .numbers .now) .periods) (a .fixed .now)) (a .depth) split-line (s .pre .1 .1 .1) (v .0 .0)
+    (ruled-refused (node-form P split-line) (lineAt (a .text .now) (a .at)) (a .at) (f .fill-line .result) (is-verdict f) (v .0 .0) (v .1))
 
 returns-3 : tie.Need-returns-3
-unfolding view
 returns-3 c =
-    let r = c .before .before .before .before .before .before in
-    let s = r .before .before .before .before .before in
+    let b = c .before .before in
+    let s = start (filling b) in
     let a = s .args in
-    let v = c .before .before .before .before .verdict2 .given in
+    let P = instance-in (a .numbers .now) in
     let e = sym (number-is (c .before)) ∙ c .if1 .left in
-    let w = values (c .before .before) in (
-      split-read (view (a .problem)) (a .text .now) (a .at) (above-of (a .problem .periods) (a .above)) (a .depth) (s .pre .1 .1) (r .read-line .result) (is-row r) (v .0 .0) (v .1) e,
+    let w = values b in (
+      split-read P (a .text .now) (a .at) (above-of (instance-in (a .numbers .now) .periods) (a .fixed .now)) (a .depth) (s .pre .1 .1 .1) (left b .line-good) (numbers b) (left b .values) e,
       w .unit,
       w .period,
-      ltb-false 63 (a .depth) (none-refused (is-fixed (marks-in (a .problem .periods) (a .above .fixed) (r .read-line .result .values at 0 - 1) (r .read-line .result .values at 1 - 1))) (ltb 63 (a .depth)) e .1),
-      row-moved (node-form (view (a .problem)) split-line) (a .text .now) (a .at) (r .read-line .result) (is-row r) (v .0 .0) (v .1),
+      ltb-false 63 (a .depth) (none-refused (is-fixed (marks-in (instance-in (a .numbers .now) .periods) (a .fixed .now) (numbers b at 0 - 1) (numbers b at 1 - 1))) (ltb 63 (a .depth)) e .1),
+      line-moved (node-form P split-line) (a .text .now) (a .at) (b .before .verdict2 .given .0 .0) (left b .line-good) (left b .next-is),
     )
 
 pub read-split-line-spec : {M : Type 1} → statement M
 read-split-line-spec =
     tie.close
     (tie.spec
-    slice-aggregate-read-line
-    slice-aggregate-read-line-2
-    slice-aggregate-read-line-3
-    read-line-requires
+    units-in-requires
+    periods-in-requires
+    slice-aggregate-fill-line
+    slice-aggregate-fill-line-2
+    slice-aggregate-fill-line-3
+    slice-aggregate-fill-line-4
+    fill-line-requires
     enum-known-verdict
     enum-known-verdict-2
     array-read-unit

@@ -6,8 +6,8 @@ use Rattle.tree.specs.Coded.{split-refusal}
 use Rattle.tree.proofs.splitting.refuse_split.Statement.{statement}
 use Rattle.tree.proofs.splitting.refuse_split.Tie as tie
 
-array-read-status : tie.Need-array-read-status
-array-read-status c = search needs
+shared-slice-read-status : tie.Need-shared-slice-read-status
+shared-slice-read-status c = search needs
 
 is-fixed-requires : tie.Need-is-fixed-requires
 is-fixed-requires c κs = search needs
@@ -25,4 +25,4 @@ unfolding split-refusal
 returns-3 c = rw (sym (c .before .before .is-fixed .ensures) ∙ c .before .if1 .left, le-ltb _ _ (c .if2 .left)) refl
 
 pub refuse-split-spec : {M : Type 1} → statement M
-refuse-split-spec = tie.close (tie.spec array-read-status is-fixed-requires returns returns-2 returns-3)
+refuse-split-spec = tie.close (tie.spec shared-slice-read-status is-fixed-requires returns returns-2 returns-3)

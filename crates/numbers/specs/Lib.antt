@@ -1,0 +1,2 @@
+-- A problem's numbers in one list, by the model's definitions.
+pub mod Numbers

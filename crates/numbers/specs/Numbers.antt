@@ -1,0 +1,59 @@
+-- A problem's numbers in one list of 578: the periods T, the units, 48 demands, 48 spares, and 15 numbers for each of 32
+-- generators, on being 0 or 1. Of the demands, the spares and the generators the first are the problem's.
+use mathlib.Core.Path.{_≡_}
+use mathlib.Core.Bool.{not, cond}
+use mathlib.Core.List.{List, [], _∷_}
+use Prim.Native.Nat.{ℕ, zero, suc, _+_, _*_}
+use lib.Dec.{eqb}
+use lib.ListN.{length, take, drop}
+use Rattle.model.specs.declared.generator.Generator.{Generator}
+use Rattle.model.specs.Instance.{Instance, _at_}
+use Rattle.model.specs.Ranges.{WellFormed}
+
+-- a generator's numbers
+abbrev pub numbers-of : Generator → List ℕ
+numbers-of g =
+    g .a ∷ g .b ∷ g .c ∷ g .pL ∷ g .pU ∷ g .TU ∷ g .TD ∷ cond (g .on) 1 0 ∷ g .since ∷ g .DR ∷ g .UR ∷ g .Hsc ∷ g .Csc ∷ g .Tcold ∷ g .Dc ∷ []
+
+-- the generator whose numbers the list begins with
+abbrev pub generator-of : List ℕ → Generator
+generator-of v = record {
+  a = v at 0;
+  b = v at 1;
+  c = v at 2;
+  pL = v at 3;
+  pU = v at 4;
+  TU = v at 5;
+  TD = v at 6;
+  on = not (eqb (v at 7) 0);
+  since = v at 8;
+  DR = v at 9;
+  UR = v at 10;
+  Hsc = v at 11;
+  Csc = v at 12;
+  Tcold = v at 13;
+  Dc = v at 14;
+}
+
+-- the generator u, counted from 0
+abbrev pub generator-in : List ℕ → ℕ → Generator
+generator-in v u = generator-of (drop (98 + u * 15) v)
+
+-- the n generators from u on
+abbrev pub generators-in : List ℕ → ℕ → ℕ → List Generator
+generators-in v u zero = []
+generators-in v u (suc n) = generator-in v u ∷ generators-in v (suc u) n
+
+-- the problem
+unfoldable pub instance-in : List ℕ → Instance
+instance-in v = record {
+  periods = v at 0;
+  demand = take (v at 0) (drop 2 v);
+  spare = take (v at 0) (drop 50 v);
+  units = generators-in v 0 (v at 1);
+}
+
+-- the numbers are a well-formed problem's
+pub record Laid (v : List ℕ) : Type 0 where
+  pub long : length v ≡ 578
+  pub well-formed : WellFormed (instance-in v)
