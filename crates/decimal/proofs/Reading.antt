@@ -1,6 +1,6 @@
 -- Laws of `specs/Decimal.antt` that the proofs cite.
-use Prim.Native.Nat.{ℕ, zero, suc, _+_, _-_, _*_, _≤_, _<_, min}
-use native.Mathlib.Nat.{add-zero, zero-add, suc-add}
+use Prim.Native.Nat.{ℕ, suc, _+_, _-_, _*_, _≤_, _<_, min}
+use native.Mathlib.Nat.{add-zero}
 use native.Mathlib.Numerals.{add-one}
 use native.Mathlib.Omega.{arith}
 use mathlib.Core.Path.{_≡_, refl, sym, ap, _∙_}
@@ -11,22 +11,11 @@ use lib.Seq.{drop-cons, getD-drop}
 use borrow.Author.Tests.{eq-eqb, ne-eqb}
 use Rattle.decimal.specs.declared.Number.the-variants.{Malformed, Value}
 use Rattle.decimal.specs.Decimal.{isDigit, valueOf, canonical}
-use Rattle.decimal.specs.Reading.{cap, keepIf, run, numberOf, numberAt, pickNumber}
+use Rattle.decimal.specs.Reading.{cap, keepIf, run, digitsAfter, numberOf, numberAt, pickNumber}
 
 -- the run from a place within the text, by whether a digit stands there
 pub run-at : (s : List ℕ) (i : ℕ) (t : Bool) → i < length s → isDigit (getD s i 0) ≡ t → run (drop i s) ≡ keepIf t (getD s i 0) (run (drop (suc i) s))
 run-at s i t h e = ap run (drop-cons s i 0 h) ∙ ap (λ (u : Bool). keepIf u (getD s i 0) (run (drop (suc i) s))) e
-
--- a digit stands at i: the run goes on
-pub run-on : (s : List ℕ) (i : ℕ) → i < length s → isDigit (getD s i 0) ≡ true → i + length (run (drop i s)) ≡ (i + 1) + length (run (drop (i + 1) s))
-run-on s i h e = rw (run-at s i true h e, add-one) (omega arith)
-
--- no digit stands at i: the run ends
-pub run-off : (s : List ℕ) (i : ℕ) → i < length s → isDigit (getD s i 0) ≡ false → i + length (run (drop i s)) ≡ i
-run-off s i h e = rw (run-at s i false h e) (omega arith)
-
-pub run-end : (s : List ℕ) (i : ℕ) → length s ≤ i → i + length (run (drop i s)) ≡ i
-run-end s i h = rw (drop-of-length-le s h) (omega arith)
 
 -- saturating at each digit saturates the whole
 pub capped : (v : ℕ) (ds : List ℕ) → min cap (valueOf (min cap v) ds) ≡ min cap (valueOf v ds)
@@ -35,17 +24,29 @@ capped v (d ∷ ds) =
     let e : min cap (min cap v * 10 + (d - 48)) ≡ min cap (v * 10 + (d - 48)) = omega arith in
     sym (capped (min cap v * 10 + (d - 48)) ds) ∙ ap (λ (w : ℕ). min cap (valueOf w ds)) e ∙ capped (v * 10 + (d - 48)) ds
 
--- one digit more
-pub value-on : (s : List ℕ) (v i : ℕ) → i < length s → isDigit (getD s i 0) ≡ true
-    → min cap (valueOf (min cap (v * 10 + (getD s i 0 - 48))) (run (drop (i + 1) s))) ≡ min cap (valueOf v (run (drop i s)))
-value-on s v i h e = rw (run-at s i true h e, add-one) (capped (v * 10 + (getD s i 0 - 48)) (run (drop (suc i) s)))
+-- the digits at the place i, after digits of value v: a digit that stands there counts among those before
+pub digits-on : (s : List ℕ) (v i : ℕ) → i < length s → isDigit (getD s i 0) ≡ true
+    → digitsAfter (min cap (v * 10 + (getD s i 0 - 48))) s (i + 1) ≡ digitsAfter v s i
+digits-on s v i h e = λ j. record { value = value j; end = end j }
+  where
+    value : min cap (valueOf (min cap (v * 10 + (getD s i 0 - 48))) (run (drop (i + 1) s))) ≡ min cap (valueOf v (run (drop i s)))
+    value = rw (run-at s i true h e, add-one) (capped (v * 10 + (getD s i 0 - 48)) (run (drop (suc i) s)))
+
+    end : i + 1 + length (run (drop (i + 1) s)) ≡ i + length (run (drop i s))
+    end = rw (run-at s i true h e, add-one) (omega arith)
 
 -- no digit is left
-pub value-off : (s : List ℕ) (v i : ℕ) → i < length s → isDigit (getD s i 0) ≡ false → v ≤ cap → v ≡ min cap (valueOf v (run (drop i s)))
-value-off s v i h e l = rw (run-at s i false h e) (omega arith)
+digits-over : (s : List ℕ) (v i : ℕ) → run (drop i s) ≡ [] → v ≤ cap → record { value = v; end = i } ≡ digitsAfter v s i
+digits-over s v i e l =
+    let value : v ≡ min cap (valueOf v (run (drop i s))) = rw e (omega arith) in
+    let end : i ≡ i + length (run (drop i s)) = rw e (omega arith) in
+    λ j. record { value = value j; end = end j }
 
-pub value-end : (s : List ℕ) (v i : ℕ) → length s ≤ i → v ≤ cap → v ≡ min cap (valueOf v (run (drop i s)))
-value-end s v i h l = rw (drop-of-length-le s h) (omega arith)
+pub digits-off : (s : List ℕ) (v i : ℕ) → i < length s → isDigit (getD s i 0) ≡ false → v ≤ cap → record { value = v; end = i } ≡ digitsAfter v s i
+digits-off s v i h e = digits-over s v i (run-at s i false h e)
+
+pub digits-end : (s : List ℕ) (v i : ℕ) → length s ≤ i → v ≤ cap → record { value = v; end = i } ≡ digitsAfter v s i
+digits-end s v i h = digits-over s v i (ap run (drop-of-length-le s h))
 
 pub run-take : (s : List ℕ) → take (length (run s)) s ≡ run s
 run-take [] = refl

@@ -21,9 +21,13 @@ abbrev pub run : List ℕ → List ℕ
 run [] = []
 run (b ∷ s) = keepIf (isDigit b) b (run s)
 
--- the digits at the place `at` of the text s: their value or the cap, and the place after them
+-- the digits at the place `at` of the text s, after digits of value v: the value of all or the cap, and the place after them
+abbrev pub digitsAfter : ℕ → List ℕ → ℕ → DigitsRead
+digitsAfter v s at = record { value = min cap (valueOf v (run (drop at s))); end = at + length (run (drop at s)) }
+
+-- after none
 abbrev pub digitsAt : List ℕ → ℕ → DigitsRead
-digitsAt s at = record { value = min cap (valueOf 0 (run (drop at s))); end = at + length (run (drop at s)) }
+digitsAt = digitsAfter 0
 
 abbrev pub pickNumber : Bool → Number → Number → Number
 pickNumber true a b = a

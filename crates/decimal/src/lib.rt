@@ -1,11 +1,17 @@
 // Decimal numbers in bytes: the number that starts at a place of a text.
 ghost use mathlib.Core.Path.{_≡_};
+ghost use mathlib.Core.Bool.{true};
 ghost use Prim.Native.Nat.{ℕ, _+_, _-_, _*_, _≤_, min};
+ghost use lib.ListN.{length};
 ghost use Rattle.decimal.specs.Decimal.{isDigit};
-ghost use Rattle.decimal.specs.Reading.{cap, digitsAt, numberAt};
+ghost use Rattle.decimal.specs.Reading.{cap, digitsAfter, digitsAt, numberAt};
 
 // Every value from this on reads as this.
 const CAP: u64 = 10_000_000_000;
+
+// So many digits are read first, where the text has so many bytes: in a loop of a fixed count, with no test for the text's end.
+// Most numbers have no more, and none of so many digits reaches the cap.
+const FIRST: usize = 5;
 
 // What stands at a place of a text: no number without leading zeros, or one, with its value and the place after it.
 pub enum Number {
@@ -34,29 +40,21 @@ fn is_digit(b: u8) -> bool
 
 // v with one more digit, which the byte b writes, or the cap.
 fn with_digit(v: u64, b: u8) -> u64
-    requires { ⌜ v ≤ cap ⌝ }
+    requires { ⌜ isDigit b ≡ true ⌝ }
     ensures { λ r. ⌜ r ≡ min cap (v * 10 + (b - 48)) ⌝ }
 {
-    if b < 48 {
-        let w = v * 10;
-        if w < CAP {
-            return w;
-        }
-        return CAP;
-    }
-    let d = (b - 48) as u64;
-    let w = v * 10 + d;
-    if w < CAP {
-        return w;
+    if v < CAP / 10 {
+        return v * 10 + (b - 48) as u64;
     }
     CAP
 }
 
-// The digits that stand at the place `at` of a text.
-fn read_digits(s: &[u8], at: usize) -> DigitsRead
-    ensures { λ r. ⌜ r ≡ digitsAt (now (s .entry)) at ⌝ }
+// The digits that stand at the place `at` of a text, after digits of value v.
+fn read_rest(s: &[u8], at: usize, v: u64) -> DigitsRead
+    requires { ⌜ v ≤ cap ⌝ }
+    ensures { λ r. ⌜ r ≡ digitsAfter v (now (s .entry)) at ⌝ }
 {
-    let mut value: u64 = 0;
+    let mut value = v;
     let mut i = at;
     while i < s.len() {
         let b = s[i];
@@ -68,6 +66,37 @@ fn read_digits(s: &[u8], at: usize) -> DigitsRead
         }
     }
     DigitsRead { value, end: i }
+}
+
+// The digits that stand at the place `at` of a text, where FIRST bytes stand.
+fn read_first(s: &[u8], at: usize) -> DigitsRead
+    requires { ⌜ at + 5 ≤ length (now s) ⌝ }
+    ensures { λ r. ⌜ r ≡ digitsAt (now (s .entry)) at ⌝ }
+{
+    let mut value: u64 = 0;
+    let mut k = 0;
+    while k < FIRST {
+        let b = s[at + k];
+        if is_digit(b) {
+            value = with_digit(value, b);
+            k += 1;
+        } else {
+            return DigitsRead { value, end: at + k };
+        }
+    }
+    read_rest(s, at + FIRST, value)
+}
+
+// The digits that stand at the place `at` of a text.
+fn read_digits(s: &[u8], at: usize) -> DigitsRead
+    ensures { λ r. ⌜ r ≡ digitsAt (now (s .entry)) at ⌝ }
+{
+    if at < s.len() {
+        if FIRST <= s.len() - at {
+            return read_first(s, at);
+        }
+    }
+    read_rest(s, at, 0)
 }
 
 // The number that starts at the place `at` of a text.

@@ -4,7 +4,7 @@ use native.Mathlib.Numerals.{add-one}
 use native.Mathlib.Decide.{decLt, ℕ-discrete}
 use native.Mathlib.Omega.{arith}
 use mathlib.Core.Path.{_≡_, refl, sym, ap, subst, _∙_}
-use mathlib.Core.Bool.{Bool, true, false, not, _&&_}
+use mathlib.Core.Bool.{Bool, true, false, not, _&&_, _||_}
 use mathlib.Core.List.{List, [], _∷_}
 use lib.ListN.{length, drop, getD, length-drop, drop-of-length-le}
 use lib.Seq.{drop-cons, getD-drop}
@@ -222,20 +222,18 @@ module _ (s : List ℕ) (at : ℕ) where
       (subst (λ (v : Bool). HeadIs 45 v (scan (drop at s))) e (head-is (drop at s) 45 (λ q. omega arith) (λ q. omega arith)))
 
   module _ (e : byteIs (drop at s) 45 ≡ true) where
-    pub field-unsigned : Broken ≡ fieldAt s at false
-    unfolding fieldAt
-    field-unsigned = head-unsigned (scan (drop (at + 1) s)) at ∙ ap (λ (g : Scan). headField false g at) (sym (minus-scan s at e))
-
     head-of : (v : Bool) → byteIs (drop (at + 1) s) 48 ≡ v → pickField (not v) (headEnded true (scan (drop (at + 1) s)) (at + 1)) Broken ≡ headField true (scan (drop at s)) at
     head-of v d =
         head-minus v (scan (drop (at + 1) s)) at
         (subst (λ (w : Bool). HeadIs 48 w (scan (drop (at + 1) s))) d (head-is (drop (at + 1) s) 48 (λ q. omega arith) (λ q. omega arith)))
         ∙ ap (λ (g : Scan). headField true g at) (sym (minus-scan s at e))
 
-    pub field-zero : byteIs (drop (at + 1) s) 48 ≡ true → Broken ≡ fieldAt s at true
+    pub field-barred : (signed : Bool) → (not signed || byteIs (drop (at + 1) s) 48) ≡ true → Broken ≡ fieldAt s at signed
     unfolding fieldAt
-    field-zero d = head-of true d
+    field-barred true d = head-of true d
+    field-barred false d = head-unsigned (scan (drop (at + 1) s)) at ∙ ap (λ (g : Scan). headField false g at) (sym (minus-scan s at e))
 
-    pub field-minus : byteIs (drop (at + 1) s) 48 ≡ false → endedAt s (at + 1) true ≡ fieldAt s at true
+    pub field-minus : (signed : Bool) → (not signed || byteIs (drop (at + 1) s) 48) ≡ false → endedAt s (at + 1) true ≡ fieldAt s at signed
     unfolding endedAt fieldAt
-    field-minus d = head-of false d
+    field-minus true d = head-of false d
+    field-minus false d = cc

@@ -1,6 +1,6 @@
 // Lines of a text: `key=value`, the values decimal numbers joined by commas, each line ended by byte 10.
 ghost use mathlib.Core.Path.{_≡_};
-ghost use mathlib.Core.Bool.{true, _||_};
+ghost use mathlib.Core.Bool.{true, not, _||_};
 ghost use Prim.Native.Nat.{ℕ, _+_, _≤_, _<_};
 ghost use lib.ListN.{length, drop, set};
 ghost use Rattle.decimal.specs.Reading.{cap};
@@ -154,21 +154,29 @@ fn read_unsigned(s: &[u8], at: usize, minus: bool) -> Field
     }
 }
 
+// Whether no minus may stand before the place `from`: the value may not carry one, or a 0 stands there.
+fn bars_minus(s: &[u8], from: usize, signed: bool) -> bool
+    ensures { λ r. ⌜ r ≡ (not signed || byteIs (drop from (now (s .entry))) 48) ⌝ }
+{
+    if signed {
+        return byte_is(s, from, 48);
+    }
+    true
+}
+
 // The value that starts at `at`, which may carry a minus where `signed` is true.
 fn read_field(s: &[u8], at: usize, signed: bool) -> Field
     ensures { λ r. ⌜ r ≡ fieldAt (now (s .entry)) at signed ⌝ }
 {
-    if byte_is(s, at, 45) {
-        if signed {
-            let from = at + 1;
-            if byte_is(s, from, 48) {
-                return Field::Broken;
-            }
-            return read_unsigned(s, from, true);
+    let minus = byte_is(s, at, 45);
+    let mut from = at;
+    if minus {
+        from = at + 1;
+        if bars_minus(s, from, signed) {
+            return Field::Broken;
         }
-        return Field::Broken;
     }
-    read_unsigned(s, at, false)
+    read_unsigned(s, from, minus)
 }
 
 // Stores v at k where k is within out.

@@ -1,7 +1,9 @@
 use borrow.Author.Needs.{needs}
 use native.Mathlib.Omega.{arith}
 use mathlib.Core.Path.{sym, _∙_}
-use Rattle.text.proofs.Fields.{byte-inside, field-plain, field-unsigned, field-zero, field-minus}
+use mathlib.Core.Logic.{⊎-elim}
+use Rattle.text.specs.Scan.{endedAt}
+use Rattle.text.proofs.Fields.{byte-inside, field-plain, field-barred, field-minus}
 use Rattle.text.proofs.read_field.Statement.{statement}
 use Rattle.text.proofs.read_field.Tie as tie
 
@@ -10,38 +12,32 @@ byte-is-requires c κs = search needs
 
 add-from : tie.Need-add-from
 add-from c =
-    let a = c .before .before .before .before .args in
-    let h = byte-inside (a .s .now) (a .at) 45 (sym (c .before .before .byte-is .ensures) ∙ c .before .if1 .taken) in
+    let a = c .before .before .before .args in
+    let h = byte-inside (a .s .now) (a .at) 45 (sym (c .before .byte-is .ensures) ∙ c .if1 .taken) in
     omega arith
 
-byte-is-requires-2 : tie.Need-byte-is-requires-2
-byte-is-requires-2 c κs = search needs
+bars-minus-requires : tie.Need-bars-minus-requires
+bars-minus-requires c κs = search needs
 
 returns : tie.Need-returns
 returns c =
-    let a = c .before .before .before .before .before .before .args in
-    rw (c .before .before .if2 .taken) (field-zero (a .s .now) (a .at) (sym (c .before .before .before .before .byte-is .ensures) ∙ c .before .before .before .if1 .taken) (sym (c .before .byte-is2 .ensures) ∙ c .if3 .taken))
+    let m = c .before .before in
+    let a = m .before .before .before .args in
+    field-barred (a .s .now) (a .at) (sym (m .before .byte-is .ensures) ∙ m .if1 .taken) (a .signed) (sym (c .before .bars-minus .ensures) ∙ c .if2 .taken)
 
 read-unsigned-requires : tie.Need-read-unsigned-requires
 read-unsigned-requires c κs = search needs
 
 returns-2 : tie.Need-returns-2
 returns-2 c =
-    let a = c .before .before .before .before .before .before .before .args in
-    c .read-unsigned .ensures ∙ rw (c .before .before .before .if2 .taken) (field-minus (a .s .now) (a .at) (sym (c .before .before .before .before .before .byte-is .ensures) ∙ c .before .before .before .before .if1 .taken) (sym (c .before .before .byte-is2 .ensures) ∙ c .before .if3 .left))
-
-returns-3 : tie.Need-returns-3
-returns-3 c =
-    let a = c .before .before .before .before .args in
-    rw (c .if2 .left) (field-unsigned (a .s .now) (a .at) (sym (c .before .before .byte-is .ensures) ∙ c .before .if1 .taken))
-
-read-unsigned-requires-2 : tie.Need-read-unsigned-requires-2
-read-unsigned-requires-2 c κs = search needs
-
-returns-4 : tie.Need-returns-4
-returns-4 c =
-    let a = c .before .before .before .before .args in
-    c .read-unsigned2 .ensures ∙ field-plain (a .s .now) (a .at) (a .signed) (sym (c .before .before .byte-is .ensures) ∙ c .before .if1 .left)
+    let b = c .before .before in
+    let a = b .before .before .args in
+    let is = sym (b .byte-is .ensures) in
+    c .read-unsigned .ensures
+    ∙ ⊎-elim
+    (λ w. (λ j. endedAt (a .s .now) (w .3 j) (w .0 .taken j)) ∙ field-minus (a .s .now) (a .at) (is ∙ w .0 .taken) (a .signed) (sym (w .1 .ensures) ∙ w .2 .left))
+    (λ w. (λ j. endedAt (a .s .now) (w .1 j) (w .0 .left j)) ∙ field-plain (a .s .now) (a .at) (a .signed) (is ∙ w .0 .left))
+    (c .before .if1 .came)
 
 pub read-field-spec : {M : Type 1} → statement M
 read-field-spec =
@@ -49,10 +45,7 @@ read-field-spec =
     (tie.spec
     byte-is-requires
     add-from
-    byte-is-requires-2
+    bars-minus-requires
     returns
     read-unsigned-requires
-    returns-2
-    returns-3
-    read-unsigned-requires-2
-    returns-4)
+    returns-2)
