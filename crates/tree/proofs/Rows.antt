@@ -9,7 +9,7 @@ use lib.ListN.{length, drop, length-drop, length-append, take}
 use Rattle.model.specs.Instance.{Instance, _at_}
 use Rattle.model.specs.Tree.{Multipliers}
 use Rattle.text.specs.Lines.{Line, ended, bytesOf, later, linesOf, lineAt}
-use Rattle.text.specs.Forms.{Form, plain, numbers-of, good, after, rowOf, padded, form-tests}
+use Rattle.text.specs.Forms.{Form, plain, numbers-of, good, after, rowOf, form-tests}
 use Rattle.text.specs.Course.{refused}
 use Rattle.text.specs.Tests.{Test, found}
 use Rattle.text.specs.declared.Row.{Row}
@@ -18,7 +18,7 @@ use Rattle.text.proofs.Cuts.{text-ended, later-fewer}
 use Rattle.text.proofs.Plain.{plain-was}
 use Rattle.text.proofs.PlainRows.{plain-row}
 use Rattle.text.proofs.Fills.{PlainFilled}
-use Rattle.text.proofs.Verdicts.{verdict-refused, verdict-good, values-good, good-ended, good-next, form-refused}
+use Rattle.text.proofs.Verdicts.{verdict-refused, verdict-good, good-ended, good-next, form-refused}
 use Rattle.tree.specs.NodeLines.{named}
 use Rattle.tree.specs.Reading.{LineRefused, Moved}
 use Rattle.tree.proofs.Lines.{was-multipliers}
@@ -56,9 +56,6 @@ module _ (f : Form) (text : List ℕ) (here : ℕ) (row : Row) (is : row ≡ row
 
     next-is : next ≡ after (lineAt text here) here
     next-is = verdict-good f (lineAt text here) here row is next e .1
-
-    pub row-values : row .values ≡ padded (numbers-of f (lineAt text here))
-    row-values = values-good f (lineAt text here) here row is row-good
 
     pub row-moved : Moved text here next
     row-moved = line-moved f text here next row-good next-is

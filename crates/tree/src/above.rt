@@ -1,4 +1,5 @@
-// The statuses that the splits above a node fix, a byte each; those of a unit begin at its number, from 0, times the periods.
+// The statuses that the splits above a node fix, a byte each: OFF, ON, or neither. Those of a unit begin at its number, from 0,
+// times the periods.
 ghost use mathlib.Core.Path.{_≡_};
 ghost use Rattle.least.specs.Marks.{mark-of};
 ghost use Rattle.tree.specs.NodeLines.{is-fixed};

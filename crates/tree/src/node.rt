@@ -43,7 +43,7 @@ fn find_kind(text: &[u8], at: usize) -> NodeKind
     NodeKind::Price
 }
 
-// The tree whose first line starts at `at` and has this number, with the statuses fixed above it.
+// The tree whose first line starts at `at` and has this number, with the statuses fixed above it, which are left as they were.
 pub fn read_node(
     numbers: &[u64],
     text: &[u8],
@@ -79,7 +79,8 @@ pub fn read_node(
     }
 }
 
-// The two trees of a split on the status at a place, the first of which starts at `at` with this line.
+// The two trees of a split on the status at a place, the first of which starts at `at` with this line. The status is off for the
+// first and on for the second, and is left as it was.
 fn read_split(
     numbers: &[u64],
     text: &[u8],

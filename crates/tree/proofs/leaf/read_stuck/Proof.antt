@@ -58,7 +58,7 @@ is-unit-stuck-requires : tie.Need-is-unit-stuck-requires
 is-unit-stuck-requires c κs =
     let s = start (c .before .before .before) in
     let P = instance-in (s .args .numbers .now) in
-    (s .pre .0, (names (c .before) .2, rw (s .pre .1 .0) (statuses-fit P (s .pre .0 .well-formed))))
+    (s .pre .0, (omega (arith, names (c .before) .2), rw (s .pre .1 .0) (statuses-fit P (s .pre .0 .well-formed))))
 
 add-t17 : tie.Need-add-t17
 add-t17 c = search needs
