@@ -1,11 +1,11 @@
 // What lodging a text answers, and the line that shows it.
 ghost use mathlib.Core.Path.{_≡_};
 ghost use mathlib.Core.List.{[], _∷_, _++_};
-ghost use Prim.Native.Nat.{ℕ, _≤_};
+ghost use Prim.Native.Nat.{_≤_};
 ghost use lib.ListN.{length};
 ghost use Rattle.writer.specs.Written.{over, figure};
 ghost use Rattle.tree.specs.Coded.{bound-of};
-ghost use Rattle.answer.specs.Answers.{its-cost, refused, tree-values, stated};
+ghost use Rattle.answer.specs.Answers.{its-cost, tree-values, stated};
 ghost use Rattle.answer.specs.AnswerLines.{bound-figure, values-of, ending, answer-line};
 use refusal::Refusal;
 use tree::figures::Bound;

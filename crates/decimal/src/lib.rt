@@ -1,7 +1,7 @@
 // Decimal numbers in bytes: the number that starts at a place of a text.
 ghost use mathlib.Core.Path.{_≡_};
 ghost use mathlib.Core.Bool.{true};
-ghost use Prim.Native.Nat.{ℕ, _+_, _-_, _*_, _≤_, min};
+ghost use Prim.Native.Nat.{_+_, _-_, _*_, _≤_, min};
 ghost use lib.ListN.{length};
 ghost use Rattle.decimal.specs.Decimal.{isDigit};
 ghost use Rattle.decimal.specs.Reading.{cap, digitsAfter, digitsAt, numberAt};

@@ -3,18 +3,15 @@
 use mathlib.Core.Path.{_≡_, refl, sym, ap, subst, _∙_}
 use mathlib.Core.Bool.{Bool, true, false}
 use mathlib.Core.List.{List}
-use mathlib.Core.Logic.{_↔_, inl, inr}
-use mathlib.Core.Option.{Option, none, some}
-use Prim.Native.Nat.{ℕ, _+_}
+use mathlib.Core.Logic.{_↔_}
+use Prim.Native.Nat.{ℕ}
 use native.Mathlib.Omega.{arith}
 use lib.Dec.{ltb}
 use lib.ListN.{length}
-use borrow.Author.Tests.{leb-true, leb-false}
 use Rattle.model.specs.Instance.{Instance}
 use Rattle.model.specs.Held.{view, blank-problem}
 use Rattle.refusal.specs.declared.Refusal.{Refusal}
-use Rattle.refusal.specs.Refusals.{refusalOf, carriesLine, carriesUnit, carriesPeriod}
-use Rattle.report.specs.Report.{written-at, placed-at, has-room}
+use Rattle.report.specs.Report.{has-room}
 use Rattle.report.specs.Answers as report-answers
 use Rattle.text.specs.Lines.{lineAt, kindOf}
 use Rattle.text.specs.declared.Kind.{Kind}

@@ -26,7 +26,7 @@ use Rattle.schedule.proofs.Wholes.{render-is-schedule, render-injective}
 use Rattle.tree.specs.Rendering as tree-text
 use Rattle.tree.proofs.Unique.{tree-once}
 use Rattle.answer.specs.Answers as answers
-use Rattle.answer.specs.Answers.{Values, no-values, its-cost, its-bound, Stated, stated, Carries}
+use Rattle.answer.specs.Answers.{Values, no-values, its-cost, its-bound, Stated, Carries}
 use Rattle.docket.specs.Docket.{every}
 use Rattle.docket.specs.Verdicts.{Verdict, refused, problem, schedule, tree, schedules, trees, known-after, known-at-end}
 use Rattle.docket.specs.Texts.{Short, Is, Are, too-long, no-kind, second-problem, schedule-early, tree-early, problem-refused, a-problem, schedule-refused, a-schedule, tree-refused, a-tree}

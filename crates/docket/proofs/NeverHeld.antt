@@ -8,7 +8,6 @@ use Rattle.model.specs.Instance.{Instance}
 use Rattle.model.specs.Ranges.{ordered}
 use Rattle.model.specs.Leaf.{available, is-stuck}
 use Rattle.model.specs.Tree.{never}
-use Rattle.model.specs.declared.generator.Generator.{Generator}
 use Rattle.refusal.specs.Refusals.{refusalOf, carriesLine, carriesUnit, carriesPeriod}
 use Rattle.text.specs.Lines.{kindOf}
 use Rattle.text.specs.Course.{judged-from}

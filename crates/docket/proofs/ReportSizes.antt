@@ -8,7 +8,6 @@ use lib.IntN.{ℤ, pos, negsuc, _-ℤ_}
 use lib.Signed.{mag}
 use lib.ListN.{length}
 use borrow.Author.Tests.{ltb-true}
-use Rattle.decimal.specs.Decimal.{digits}
 use Rattle.decimal.proofs.Digits.{width-below}
 use Rattle.writer.specs.Written.{figure, figureOf}
 use Rattle.writer.specs.declared.Figure.the-variants.{Number}

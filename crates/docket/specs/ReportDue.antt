@@ -11,7 +11,7 @@ use Rattle.model.specs.Tree.{Bound, never, number}
 use Rattle.model.specs.Best.{FirstLeast, FirstHighest}
 use Rattle.writer.specs.Written.{figureOf}
 use Rattle.writer.specs.declared.Figure.{Figure}
-use Rattle.writer.specs.declared.Figure.the-variants.{Missing, Never, Number}
+use Rattle.writer.specs.declared.Figure.the-variants.{Missing, Number}
 use Rattle.answer.specs.AnswerLines.{bound-figure}
 use Rattle.report.specs.Report.{report-lines}
 use Rattle.report.specs.declared.Figures as shown

@@ -15,7 +15,7 @@ use Rattle.docket.specs.declared.held.CostBy.{CostBy}
 use Rattle.docket.specs.declared.held.HeldCost.the-variants as cost
 use Rattle.docket.specs.declared.held.HeldBound.{HeldBound}
 use Rattle.docket.specs.declared.held.HeldBound.the-variants as bound
-use Rattle.answer.specs.Answers.{Values, its-cost, its-bound, Stated, refused, held, passed, stated, Carries}
+use Rattle.answer.specs.Answers.{its-cost, its-bound, Stated, refused, held, passed, stated, Carries}
 use Rattle.docket.specs.Verdicts.{Verdict, tree, known-at-end}
 use Rattle.docket.specs.Texts.{Short, Is, Accepted, Are}
 use Rattle.docket.specs.Demand3.{Lodging, reached}

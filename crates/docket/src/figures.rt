@@ -1,7 +1,7 @@
 // What a report shows of what is held.
 ghost use mathlib.Core.Path.{_≡_};
 ghost use mathlib.Core.Bool.{true};
-ghost use Prim.Native.Nat.{ℕ, _<_};
+ghost use Prim.Native.Nat.{_<_};
 ghost use lib.IntN.{pos, _-ℤ_};
 ghost use Rattle.writer.specs.Written.{figureOf};
 ghost use Rattle.docket.specs.Docket.{small-number, small-cost, small-bound, size-limit};

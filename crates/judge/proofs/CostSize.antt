@@ -1,19 +1,17 @@
 -- A row's cost, and that of a whole schedule, fits 64 bits with room to spare.
 use mathlib.Core.Path.{_≡_}
 use mathlib.Core.List.{List}
-use Prim.Native.Nat.{ℕ, _+_, _*_, _≤_, _<_}
+use Prim.Native.Nat.{ℕ, _+_, _≤_, _<_}
 use native.Mathlib.Omega.{arith}
 use lib.ListN.{length}
 use Rattle.model.specs.declared.arrays.Problem.{Problem}
 use Rattle.model.specs.declared.generator.Generator.{Generator}
 use Rattle.model.specs.Instance.{_at_, sum}
 use Rattle.model.specs.Ranges.{All, InRange, GoodOutput}
-use Rattle.model.specs.Held.{view}
-use Rattle.model.specs.Cost.{fuel-cost, row-cost, cost}
-use Rattle.judge.specs.Rows.{schedule-of, Fitting}
+use Rattle.model.specs.Cost.{fuel-cost, row-cost}
+use Rattle.judge.specs.Rows.{Fitting}
 use Rattle.judge.specs.Walk.{switch-in}
-use Rattle.judge.proofs.Units.{unit, part, periods-most, units-most, part-long, part-outputs, unit-in}
-use Rattle.judge.proofs.Sums.{sum-most, cost-is}
+use Rattle.judge.proofs.Units.{unit, part, periods-most, part-long, part-outputs, unit-in}
 use Rattle.judge.proofs.Fuel.{ons, outputs, squares, fuel-sum, ons-most, outputs-most, squares-most, a-most, b-most, c-most}
 use Rattle.judge.proofs.Walk.{switches-are, switches-most}
 
@@ -43,9 +41,3 @@ module _ (p : Problem) (l : List ℕ) (F : Fitting p l) (many : length (p .gener
   part-cost-most i h =
       let n = part-long p l F i h in
       rw n at (row-most (unit p i) (unit-in p l F many i h) (part p l i) (part-outputs p l F i) (omega (arith, periods-most p l F)))
-
-  pub cost-most : cost (view p) (schedule-of p l) ≤ 1692672000000000
-  cost-most =
-      let m : sum (p .units) (λ i. row-cost (p .periods) (unit p i) (part p l i)) ≤ p .units * 52896000000000 =
-      sum-most (p .units) 52896000000000 _ part-cost-most in
-      omega (arith, cost-is p l F many, m, units-most p l F)

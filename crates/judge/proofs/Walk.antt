@@ -14,7 +14,7 @@ use Rattle.model.specs.Rules.{on, statuses, permits, spent}
 use Rattle.model.specs.Cost.{switch-cost, switch-costs}
 use Rattle.judge.specs.declared.tallies.Walk.{Walk}
 use Rattle.judge.specs.Before.{status-before, spent-before}
-use Rattle.judge.specs.Counts.{bit, barred, breaches}
+use Rattle.judge.specs.Counts.{bit, barred}
 use Rattle.judge.specs.Walk.{passed, Room, switch-in, walk-to}
 use Rattle.judge.proofs.Sums.{sum-more, sum-most}
 use Rattle.judge.proofs.Counts.{breaches-most}

@@ -1,7 +1,7 @@
 // The cost of a row, by (1) and (13) to (19).
 ghost use mathlib.Core.Path.{_≡_};
 ghost use mathlib.Core.Bool.{not};
-ghost use Prim.Native.Nat.{ℕ, _≤_};
+ghost use Prim.Native.Nat.{_≤_};
 ghost use lib.ListN.{length};
 ghost use Rattle.model.specs.Instance.{_at_, sum};
 ghost use Rattle.model.specs.Ranges.{InRange, All, GoodOutput};

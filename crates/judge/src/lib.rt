@@ -1,7 +1,6 @@
 // A schedule's judgement under a held problem: the first rule that it breaks, or its cost. Units and periods count from 0 in
 // the code, and from 1 in what it answers.
 ghost use mathlib.Core.Path.{_≡_};
-ghost use Prim.Native.Nat.{ℕ};
 ghost use Rattle.model.specs.Held.{view};
 ghost use Rattle.judge.specs.Judgement.{judgement, named};
 ghost use Rattle.judge.specs.Rows.{schedule-of, Fitting};

@@ -1,6 +1,6 @@
 // 22 and 23: demand and spare, by (2) and (3).
 ghost use mathlib.Core.Path.{_≡_};
-ghost use Prim.Native.Nat.{ℕ, _<_};
+ghost use Prim.Native.Nat.{_<_};
 ghost use Rattle.model.specs.Held.{view};
 ghost use Rattle.model.specs.Rules.{output, if-on, on};
 ghost use Rattle.model.specs.Breach.{place22, place23};

@@ -1,6 +1,6 @@
 // One pass over the units: in how many places each of 21, 24 and 25 is broken, and what the schedule costs.
 ghost use mathlib.Core.Path.{_≡_};
-ghost use Prim.Native.Nat.{ℕ, _≤_};
+ghost use Prim.Native.Nat.{_≤_};
 ghost use lib.ListN.{length};
 ghost use Rattle.model.specs.Ranges.{InRange, All, GoodOutput};
 ghost use Rattle.judge.specs.Rows.{Fitting};

@@ -1,7 +1,7 @@
 // 24: up and down times, by (5) to (10).
 ghost use mathlib.Core.Path.{_≡_};
 ghost use mathlib.Core.Bool.{not};
-ghost use Prim.Native.Nat.{ℕ, _<_, _≤_};
+ghost use Prim.Native.Nat.{_<_, _≤_};
 ghost use lib.ListN.{length};
 ghost use Rattle.model.specs.Held.{view};
 ghost use Rattle.model.specs.Instance.{_at_};

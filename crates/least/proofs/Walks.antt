@@ -15,7 +15,7 @@ use Rattle.model.specs.declared.generator.Generator.{Generator}
 use Rattle.model.specs.Instance.{_at_}
 use Rattle.model.specs.Ranges.{GoodUnit}
 use Rattle.model.specs.Above.{Mark, allows}
-use Rattle.model.specs.Walk.{plus, lesser, Values, back, walk, cap, Settled}
+use Rattle.model.specs.Walk.{lesser, Values, back, walk, cap, Settled}
 use Rattle.model.specs.Table.{kept, leave, enter, chain-at, values}
 use Rattle.model.proofs.Coded.{lesser-comm, lesser-none}
 use Rattle.model.proofs.LeafSizes.{all-at}

@@ -7,7 +7,6 @@ use native.Mathlib.Omega.{arith}
 use lib.Dec.{T, leb, leb→le, nleb→lt}
 use borrow.Author.Tests.{le-leb, lt-leb}
 use Rattle.model.specs.declared.generator.Generator.{Generator}
-use Rattle.model.specs.Rules.{spent}
 use Rattle.model.specs.Above.{Mark}
 use Rattle.model.specs.Walk.{Values, back, walk, cap, Settled}
 use Rattle.model.proofs.WalkRuns.{later}
@@ -44,9 +43,3 @@ settled-cap g X h b k = go (leb k (cap g b)) (λ t. leb→le k (cap g b) t) (λ 
 pub walk-cap : (n : ℕ) (g : Generator) (m : ℕ → Mark) (w : ℕ → Bool → ℕ) (b : Bool) (k : ℕ)
     → walk n g m w b (min k (cap g b)) ≡ walk n g m w b k
 walk-cap n g m w b k = settled-cap g (walk n g m w) (walk-settled n g m w) b k
-
--- so one period back may look at capped states alone
-pub back-cap : (g : Generator) (m : Mark) (w : Bool → ℕ) (X : Values) → Settled g X → (b : Bool) (k : ℕ)
-    → back g m w (λ b k. X b (min k (cap g b))) b k ≡ back g m w X b k
-unfolding back
-back-cap g m w X h b k = rw (settled-cap g X h false (spent b k false), settled-cap g X h true (spent b k true))

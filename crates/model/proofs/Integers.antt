@@ -1,11 +1,11 @@
 -- The integers read in naturals: z is `up z` less `down z`. A law of `≤ℤ` or `+ℤ` is then one of sums and orders of naturals.
-use mathlib.Core.Path.{_≡_, refl, ap}
+use mathlib.Core.Path.{_≡_, ap}
 use mathlib.Core.Bool.{Bool, true, false, not, cond}
 use mathlib.Core.List.{List, [], _∷_, List·Memᴰ, List·Memᴰ·not-nil, List·Memᴰ·cases-cons, List·Memᴰ·eq-of-singleton}
 use mathlib.Core.Logic.{_⊎_, inl, inr}
 use Prim.Native.Nat.{ℕ, zero, suc, _+_, _-_, _≤_, _<_, min}
 use native.Mathlib.Omega.{arith}
-use lib.Dec.{T, leb, ltb, leb→le, le→leb, nleb→lt, ltb→lt, lt→ltb, nltb→le}
+use lib.Dec.{T, ltb, leb→le, le→leb, nleb→lt, ltb→lt, lt→ltb, nltb→le}
 use lib.IntN.{ℤ, pos, negsuc, subℕ, _+ℤ_, _-ℤ_}
 use lib.Signed.{leZ, ltZ, _≤ℤ_, ≤ℤ-refl, leZ-yes, ltZ-no}
 use Rattle.model.specs.Leaf.{minℤ, least}
@@ -56,9 +56,6 @@ pub -ℤ-nat : (a b : ℕ) → up (pos a -ℤ pos b) + b ≡ a + down (pos a -�
 
 pub ≤ℤ-trans : (x y z : ℤ) → x ≤ℤ y → y ≤ℤ z → x ≤ℤ z
 ≤ℤ-trans x y z h k = nat→le x z (omega (arith, le→nat x y h, le→nat y z k))
-
-pub +ℤ-mono : (x x′ y y′ : ℤ) → x ≤ℤ x′ → y ≤ℤ y′ → (x +ℤ y) ≤ℤ (x′ +ℤ y′)
-+ℤ-mono x x′ y y′ h k = nat→le (x +ℤ y) (x′ +ℤ y′) (omega (arith, le→nat x x′ h, le→nat y y′ k, +ℤ-nat x y, +ℤ-nat x′ y′))
 
 -- the test fails only where the order is the other way
 total : (x y : ℤ) → T (not (leZ x y)) → y ≤ℤ x

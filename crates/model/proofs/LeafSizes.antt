@@ -78,18 +78,6 @@ module _ (P : Instance) (W : WellFormed P) (q s : ℕ → ℕ) (hq : (t : ℕ) �
         sum-most (P .periods) 960_000_000_000_000 (λ t. q t * P .demand at t + s t * (P .demand at t + P .spare at t)) period-requirement-fits,
       )
 
-  -- both sides of the leaf's one subtraction
-  pub leaf-sums-fit : (m : Marks)
-      → (price-walks (P .periods) q s (P .units) m + requirement P q s ≤ 80_000_000_000_000_000) × (offsets (P .periods) q s (P .units) ≤ 32_000_000_000_000_000)
-  leaf-sums-fit m =
-      let k : length (P .units) ≤ 32 = W .units-in .1 in
-      omega (
-        arith,
-        price-walks-fit (P .periods) (W .periods-in .1) q s hq hs (P .units) (W .units-good) m,
-        offsets-fit (P .periods) (W .periods-in .1) q s hq hs (P .units) (W .units-good),
-        requirement-fits,
-      )
-
   pub leaf-value-fits : (m : Marks) → (up (leaf-value P m q s) ≤ 80_000_000_000_000_000) × (down (leaf-value P m q s) ≤ 32_000_000_000_000_000)
   unfolding leaf-value
   leaf-value-fits m =

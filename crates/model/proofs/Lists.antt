@@ -8,8 +8,7 @@ use mathlib.Core.List.{List, [], _∷_, _++_, append-assoc, append-nil, List·Me
 use Prim.Native.Nat.{ℕ}
 use native.Mathlib.Omega.{arith}
 use lib.Dec.{T, ltb, ltb→lt, lt→ltb, nltb→le}
-use lib.Signed.{ltZ}
-use Rattle.model.specs.Best.{First, higher, FirstLeast, FirstHighest}
+use Rattle.model.specs.Best.{First, higher}
 use Rattle.model.specs.Tree.{Bound, never, number}
 use Rattle.model.proofs.Integers.{ltZ→nat, nat→ltZ, nltZ→nat}
 

@@ -13,8 +13,7 @@ use borrow.Author.Tests.{eq-eqb, ne-eqb, le-leb, lt-leb}
 use Rattle.model.specs.declared.generator.Generator.{Generator}
 use Rattle.model.specs.Above.{Mark, allows}
 use Rattle.model.specs.Walk.{plus, lesser, Values, back, walk, cap, Settled}
-use Rattle.model.specs.Prices.{worth, price-walk}
-use Rattle.model.specs.Table.{values, price-values, Tabled, leave, enter, chain-at, Chained}
+use Rattle.model.specs.Table.{values, Tabled, leave, enter, chain-at, Chained}
 use Rattle.model.proofs.Coded.{lesser-comm}
 use Rattle.model.proofs.Caps.{settled-cap}
 use Rattle.model.proofs.WalkPeriods.{values-end, values-back, values-start, values-settled}
@@ -142,11 +141,3 @@ module _ (n : ℕ) (g : Generator) (m : ℕ → Mark) (w : ℕ → Bool → ℕ)
   pub tabled-start : (b : Bool) (l : List ℕ) → Tabled g (values n g m w 0) b l → (k : ℕ) → 0 < k → 0 < cap g b
       → getD l (min k (cap g b) - 1) 0 ≡ walk n g m w b k
   tabled-start b l E k i j = tabled-at g (values n g m w 0) b l (values-settled n g m w 0) E k i j ∙ values-start n g m w b k
-
--- in prices, from the state before period 1
-pub tabled-price-walk : (n : ℕ) (q s : ℕ → ℕ) (g : Generator) (m : ℕ → Mark) (b : Bool) (l : List ℕ) → Tabled g (price-values n q s g m 0) b l
-    → g .on ≡ b → 0 < g .since → 0 < cap g b → getD l (min (g .since) (cap g b) - 1) 0 ≡ price-walk n q s g m
-unfolding price-walk
-tabled-price-walk n q s g m b l E e i j =
-    tabled-start n g m (λ t. worth g (q t) (s t)) b l E (g .since) i j
-    ∙ ap (λ (b : Bool). walk n g m (λ t. worth g (q t) (s t)) b (g .since)) (sym e)

@@ -2,19 +2,17 @@
 -- last.
 use mathlib.Core.Path.{_≡_, refl, ap, ap₂, fun-ext}
 use mathlib.Core.Bool.{Bool, true, false}
-use Prim.Native.Nat.{ℕ, zero, suc, _+_, _-_, _≤_, _<_}
+use Prim.Native.Nat.{ℕ, zero, suc, _+_, _-_, _<_}
 use native.Mathlib.Nat.{zero-add, add-zero}
 use native.Mathlib.Omega.{arith}
 use Rattle.model.specs.declared.generator.Generator.{Generator}
-use Rattle.model.specs.Ranges.{GoodUnit, GoodPrice}
 use Rattle.model.specs.Rules.{spent}
 use Rattle.model.specs.Above.{Mark}
 use Rattle.model.specs.Walk.{back, walk, Settled}
 use Rattle.model.specs.Prices.{worth, price-walk}
-use Rattle.model.specs.Table.{values, price-values}
+use Rattle.model.specs.Table.{values}
 use Rattle.model.proofs.WalkRuns.{later}
 use Rattle.model.proofs.Caps.{walk-settled}
-use Rattle.model.proofs.WalkSizes.{walk-fits}
 
 -- ---- periods past the last
 
@@ -81,10 +79,3 @@ module _ (n : ℕ) (g : Generator) (m : ℕ → Mark) (w : ℕ → Bool → ℕ)
   pub values-settled : (t : ℕ) → Settled g (values n g m w t)
   unfolding values
   values-settled t = walk-settled (n - t) g (from t m) (from t w)
-
--- in prices
-pub price-values-fit : (n : ℕ) (q s : ℕ → ℕ) (g : Generator) (m : ℕ → Mark) → GoodUnit g → n ≤ 48 → ((t : ℕ) → t < n → GoodPrice (q t))
-    → ((t : ℕ) → t < n → GoodPrice (s t)) → (t : ℕ) (b : Bool) (k : ℕ) → price-values n q s g m t b k ≤ 1_000_000_000_000_000
-unfolding values
-price-values-fit n q s g m good h hq hs t b k =
-    walk-fits g good (n - t) (omega arith) (λ i. q (t + i)) (λ i. s (t + i)) (λ i l. hq (t + i) (omega arith)) (λ i l. hs (t + i) (omega arith)) (from t m) b k

@@ -1,6 +1,6 @@
 -- Document 01, Texts and Rules for a leaf: trees, their limits, their leaves' rules, their bound and counts.
 use mathlib.Core.Path.{_≡_}
-use mathlib.Core.Bool.{Bool, true, false, not}
+use mathlib.Core.Bool.{true, false, not}
 use mathlib.Core.List.{List}
 use Prim.Native.Nat.{ℕ, suc, _+_, _≤_, _<_, max}
 use lib.Dec.{T}

@@ -1,18 +1,17 @@
 -- Document 01, Specimens and Wrong turns: what the definitions of leaves and trees give on numbers. Every line is found by
 -- computing, a price leaf's value by trying every row.
 use mathlib.Core.Path.{_≡_, refl, subst, subst⁻¹}
-use mathlib.Core.Bool.{Bool, true, false, not}
-use mathlib.Core.List.{List, [], _∷_, map, List·Memᴰ·eq-of-singleton}
+use mathlib.Core.Bool.{true, false, not}
+use mathlib.Core.List.{[], _∷_, map, List·Memᴰ·eq-of-singleton}
 use Prim.Native.Nat.{ℕ}
 use lib.Dec.{T, ltb, lit<, lit≤, lt→ltb, le→leb}
-use lib.IntN.{ℤ, pos, negℤ}
+use lib.IntN.{pos, negℤ}
 use lib.ListN.{getD, replicate}
-use Rattle.model.specs.declared.generator.Generator.{Generator}
 use Rattle.model.specs.Instance.{Instance, _at_}
 use Rattle.model.specs.Cost.{row-cost}
 use Rattle.model.specs.Above.{Mark, free, fixed, root, fix}
 use Rattle.model.specs.Leaf.{available, rows-of, is-stuck, revenue, value, unit-least, units-least, requirement, leaf-value}
-use Rattle.model.specs.Tree.{Tree, split, short, stuck, price, Limits, Holds, Bound, never, number, bound, splits, leaves, depth}
+use Rattle.model.specs.Tree.{Tree, split, short, stuck, price, Limits, Holds, never, number, bound, splits, leaves, depth}
 use Rattle.model.specs.Best.{higher, FirstLeast}
 use Rattle.model.specs.Examples.{line, with-spare, example, timed, square, three}
 

@@ -1,6 +1,5 @@
 // A problem in arrays.
 ghost use mathlib.Core.Path.{_≡_};
-ghost use Prim.Native.Nat.{ℕ};
 ghost use Rattle.model.specs.Held.{blank-problem};
 use crate::generator::Generator;
 

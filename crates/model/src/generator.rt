@@ -1,6 +1,5 @@
 // A generator, and the ranges of its numbers.
 ghost use mathlib.Core.Path.{_≡_};
-ghost use Prim.Native.Nat.{ℕ};
 ghost use mathlib.Core.Bool.{_&&_};
 ghost use Rattle.model.specs.Ranges.{between, costs-in-range, outputs-in-range, times-in-range, in-range, ordered};
 ghost use Rattle.model.specs.Held.{blank-generator};

@@ -1,6 +1,6 @@
 // The report: seven lines that show five figures, written into a lent buffer from a place that the caller gives.
 ghost use mathlib.Core.Path.{_≡_};
-ghost use Prim.Native.Nat.{ℕ, _≤_};
+ghost use Prim.Native.Nat.{_≤_};
 ghost use lib.ListN.{length};
 ghost use Rattle.writer.specs.Written.{over};
 ghost use Rattle.report.specs.Report.{report-lines, written-at, placed-at};

@@ -114,9 +114,6 @@ module _ (f : Form) (l : Line) (at : ℕ) where
     pub values-good : good f l ≡ true → r .values ≡ padded (sizes (valuesOf f l))
     values-good g = ap (λ (x : Row). x .values) (read ∙ row-read g)
 
-    pub minus-good : good f l ≡ true → r .minus ≡ anyMinus (valuesOf f l)
-    minus-good g = ap (λ (x : Row). x .minus) (read ∙ row-read g)
-
 -- ---- from line to line
 
 pub good-ended : (f : Form) (l : Line) → good f l ≡ true → l ≡ ended (bytesOf l)

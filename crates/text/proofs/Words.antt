@@ -33,9 +33,6 @@ word-is w missing e = absurd (let z : _≡_ {A = ℕ} 0 1 = cc in omega arith)
 word-is w (unended b) e = absurd (let z : _≡_ {A = ℕ} 0 1 = cc in omega arith)
 word-is w (ended b) e = ap ended (same-is w b e)
 
-pub is-word : (w : List ℕ) (l : Line) → l ≡ ended w → isLine w l ≡ true
-is-word w l e = ap (isLine w) e ∙ same-self w
-
 -- ---- the word at the beginning of a text
 
 longer-empty : (c : ℕ) (l : Line) → isLine [] (longer c l) ≡ false

@@ -1,7 +1,7 @@
 // Lines of a text: `key=value`, the values decimal numbers joined by commas, each line ended by byte 10.
 ghost use mathlib.Core.Path.{_≡_};
 ghost use mathlib.Core.Bool.{true, not, _||_};
-ghost use Prim.Native.Nat.{ℕ, _+_, _≤_, _<_};
+ghost use Prim.Native.Nat.{_+_, _≤_, _<_};
 ghost use lib.ListN.{length, drop, set};
 ghost use Rattle.decimal.specs.Reading.{cap};
 ghost use Rattle.text.specs.Lines.{oneLine, begins, linesOf, lineAt, isLine, kindOf};

@@ -1,7 +1,5 @@
 -- A text of a tree within the limits is accepted exactly where every leaf meets its rule, and then with the tree's figures.
-use mathlib.Core.Path.{_≡_, refl, sym, ap, subst, _∙_}
-use mathlib.Core.Bool.{true}
-use mathlib.Core.List.{List, _∷_}
+use mathlib.Core.Path.{_≡_, sym, ap, subst, _∙_}
 use mathlib.Core.Logic.{_↔_}
 use Prim.Native.Nat.{ℕ}
 use Rattle.model.specs.Instance.{Instance}
@@ -13,7 +11,7 @@ use Rattle.text.proofs.FirstLine.{tree-is}
 use Rattle.text.specs.Course.{accepted}
 use Rattle.tree.specs.Rendering.{render}
 use Rattle.tree.specs.Due.{Figures, IsTree, judged}
-use Rattle.tree.specs.Answers.{figures-of, Accepted}
+use Rattle.tree.specs.Answers.{figures-of}
 use Rattle.tree.proofs.Written.{render-lines}
 use Rattle.tree.proofs.Unique.{tree-once}
 use Rattle.tree.proofs.Complete.{tree-accepted}

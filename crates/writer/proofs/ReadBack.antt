@@ -1,19 +1,18 @@
 -- What is written is read back: the digits of a number as the number, and a line of a number as the rendering of the number.
-use Prim.Native.Nat.{ℕ, suc, _+_, _≤_, _<_, min}
+use Prim.Native.Nat.{ℕ, _+_, _≤_, min}
 use native.Mathlib.Nat.{zero-add}
 use native.Mathlib.Omega.{arith}
 use mathlib.Core.Path.{_≡_, refl, sym, ap, _∙_}
-use mathlib.Core.Bool.{Bool, true, false}
+use mathlib.Core.Bool.{true, false}
 use mathlib.Core.List.{List, [], _∷_, _++_, append-assoc}
-use lib.ListN.{length, drop, getD}
+use lib.ListN.{length, drop}
 use Rattle.decimal.specs.Decimal.{digits}
 use Rattle.decimal.specs.Reading.{cap, run, numberAt}
 use Rattle.decimal.specs.declared.Number.the-variants.{Value}
 use Rattle.decimal.proofs.Numerals.{read-digits}
-use Rattle.text.specs.Lines.{ended, due, linesOf, lineAt, oneLine}
+use Rattle.text.specs.Lines.{due, lineAt, oneLine}
 use Rattle.text.specs.Forms.{plain, after, padded, rowOf}
 use Rattle.text.specs.Rendering.{rendered}
-use Rattle.text.specs.declared.Row.{Row}
 use Rattle.text.specs.declared.Verdict.the-variants.{Good}
 use Rattle.text.proofs.Accepted.{rendered-read, rendered-cut, renderedLine}
 use Rattle.text.proofs.Plain.{plain-fits, one-between}

@@ -1,8 +1,7 @@
 // Numbers, words and lines, written at the front of a lent buffer. Whoever writes on lends the part after them.
 ghost use mathlib.Core.Path.{_≡_};
-ghost use Prim.Native.Nat.{ℕ, _+_, _≤_};
+ghost use Prim.Native.Nat.{_+_, _≤_};
 ghost use lib.ListN.{length};
-ghost use lib.IntN.{ℤ};
 ghost use Rattle.decimal.specs.Decimal.{digits};
 ghost use Rattle.writer.specs.Written.{over, figureOf, figure, line};
 

@@ -1,7 +1,6 @@
 -- `write_cost` meets its contract: the key, then the cost.
 use borrow.Author.Needs.{needs}
 use native.Mathlib.Omega.{arith}
-use mathlib.Core.List.{[], _∷_}
 use Rattle.answer.specs.Answers.{its-cost}
 use Rattle.answer.specs.AnswerLines.{values-of, ending}
 use Rattle.answer.proofs.InTurn.{first-fits, place-fits, second-fits, both-many, both-written}

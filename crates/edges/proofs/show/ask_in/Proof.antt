@@ -1,5 +1,5 @@
 -- `ask_in` meets its contract: a report leaves the docket as it is.
-use mathlib.Core.Path.{_≡_, ap}
+use mathlib.Core.Path.{ap}
 use borrow.Author.Needs.{needs}
 use Rattle.docket.specs.Report.{report-of}
 use Rattle.docket.specs.declared.Reported.{Reported}

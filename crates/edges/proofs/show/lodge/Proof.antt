@@ -1,5 +1,5 @@
 -- `lodge` meets its contract: the docket is that of what lodging the text gives.
-use mathlib.Core.Path.{_≡_, ap}
+use mathlib.Core.Path.{ap}
 use borrow.Author.Needs.{needs}
 use Rattle.docket.specs.declared.Lodged.{Lodged}
 use Rattle.edges.proofs.show.lodge.Statement.{statement}

@@ -1,6 +1,6 @@
 -- `fill_states` meets its contract. The loop's invariant: the states from the first to this one are written, and no other.
 use mathlib.Core.Path.{_≡_, refl}
-use Prim.Native.Nat.{ℕ, _-_, _≤_, _<_}
+use Prim.Native.Nat.{_-_, _≤_}
 use native.Mathlib.Omega.{arith}
 use Rattle.least.specs.Steps.{Written}
 use Rattle.least.proofs.Chains.{written-none, written-more}

@@ -1,11 +1,9 @@
 -- `keep_states` meets its contract. The loop's invariant: the states from the first to this one are written, and no other.
 use mathlib.Core.Path.{_≡_, _∙_, ap}
-use Prim.Native.Nat.{ℕ, _+_, _-_, _≤_, _<_}
+use Prim.Native.Nat.{ℕ, _+_, _-_, _≤_}
 use native.Mathlib.Omega.{arith}
-use borrow.Author.Needs.{needs}
-use lib.ListN.{length}
 use Rattle.model.specs.Instance.{_at_}
-use Rattle.model.specs.Walk.{plus, lesser}
+use Rattle.model.specs.Walk.{plus}
 use Rattle.least.specs.Steps.{Written}
 use Rattle.least.proofs.Chains.{written-none, written-more}
 use Rattle.least.proofs.chain.keep_states.Statement.{statement}

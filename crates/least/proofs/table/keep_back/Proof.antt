@@ -1,7 +1,6 @@
 -- `keep_back` meets its contract: the three runs one after the other, the last state's value being read before any is written.
 use mathlib.Core.Path.{_∙_, ap}
 use mathlib.Core.Bool.{true}
-use Prim.Native.Nat.{ℕ}
 use native.Mathlib.Omega.{arith}
 use Rattle.model.specs.Walk.{lesser}
 use Rattle.least.proofs.Chains.{backed-is}

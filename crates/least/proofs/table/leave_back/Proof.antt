@@ -1,5 +1,5 @@
 -- `leave_back` meets its contract: the three runs one after the other; of leaving and a value that is not there, the lesser is leaving.
-use mathlib.Core.Path.{sym, _∙_}
+use mathlib.Core.Path.{sym}
 use mathlib.Core.Bool.{false}
 use Rattle.model.proofs.Coded.{lesser-none}
 use Rattle.least.proofs.Chains.{written-ext, backed-is}

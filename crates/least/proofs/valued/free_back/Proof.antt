@@ -1,7 +1,7 @@
 -- `free_back` meets its contract: every value that is added to is there, and the values of leaving and starting are read from the old
 -- lists, before either changes.
 use native.Mathlib.Omega.{arith}
-use Prim.Native.Nat.{_+_, _<_}
+use Prim.Native.Nat.{_+_}
 use Rattle.model.specs.Instance.{_at_}
 use Rattle.model.proofs.Coded.{plus-some}
 use borrow.Author.Needs.{needs}

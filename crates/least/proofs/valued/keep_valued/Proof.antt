@@ -1,6 +1,6 @@
 -- `keep_valued` meets its contract. The loop's invariant: the states up to this one are written, and no other.
 use mathlib.Core.Path.{_≡_, ap}
-use Prim.Native.Nat.{ℕ, _+_, _-_, _≤_, _<_}
+use Prim.Native.Nat.{ℕ, _+_, _-_, _≤_}
 use native.Mathlib.Omega.{arith}
 use Rattle.model.specs.Instance.{_at_}
 use Rattle.least.specs.Steps.{Written}

@@ -1,5 +1,4 @@
 -- `on_valued` meets its contract: the states that cannot be left and the last are the states one period back.
-use mathlib.Core.Path.{sym}
 use Prim.Native.Nat.{_-_}
 use native.Mathlib.Omega.{arith}
 use lib.ListN.{length}

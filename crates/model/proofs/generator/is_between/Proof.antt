@@ -1,5 +1,4 @@
 -- `is_between` meets its contract: each return rewrites with the test that led there.
-use borrow.Author.Needs.{needs}
 use borrow.Author.Tests.{le-leb, lt-leb}
 use Rattle.model.proofs.generator.is_between.Statement.{statement}
 use Rattle.model.proofs.generator.is_between.Tie as tie
