@@ -19,7 +19,7 @@ extern "C" {
 /* The answer to an output of fewer bytes. No listing is as long. */
 #define DOCKET_OUTPUT_TOO_SMALL SIZE_MAX
 
-/* Stack enough for a call. A tree of the greatest depth uses 861,000 bytes of it, measured; no proof covers the stack. On a thread
+/* Stack enough for a call. A tree of the greatest depth uses 237,000 bytes of it, measured; no proof covers the stack. On a thread
  * with less the process ends at the stack's guard page. */
 #define DOCKET_STACK_BYTES ((size_t)1048576)
 

@@ -1,7 +1,7 @@
 //! What is timed: the listing of an input on bytes, and its pieces lodged in turn.
 
 extern "C" {
-    fn bench_list(input: *const u8, n: usize, output: *mut u8, room: usize) -> usize;
+    fn docket_listing(input: *const u8, n: usize, output: *mut u8, room: usize) -> usize;
 
     fn bench_lodge_list(
         s: *const u8,
@@ -45,7 +45,7 @@ impl Room {
 fn proved_listing(input: &[u8], room: &mut Room) -> usize {
     let output = &mut room.listing;
     unsafe {
-        bench_list(
+        docket_listing(
             input.as_ptr(),
             input.len(),
             output.as_mut_ptr(),

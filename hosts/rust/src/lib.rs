@@ -11,7 +11,7 @@ pub const MOST_INPUT: usize = 65_536;
 /// The output must have so many bytes or more: every listing fits.
 pub const OUTPUT_BYTES: usize = 1_048_576;
 
-/// Stack enough for a call: a tree of the greatest depth uses 861,000 bytes of it, measured. A thread of the standard library has
+/// Stack enough for a call: a tree of the greatest depth uses 237,000 bytes of it, measured. A thread of the standard library has
 /// twice as much, unless its builder says otherwise; on one with less the process ends at the stack's guard page.
 pub const STACK_BYTES: usize = 1_048_576;
 
