@@ -10,7 +10,7 @@ ghost use Rattle.decimal.specs.Reading.{cap, digitsAfter, digitsAt, numb
 const CAP: u64 = 10_000_000_000;
 
 // So many digits are read first, where the text has so many bytes: in a loop of a fixed count, with no test for the text's end.
-// Most numbers have no more, and none of so many digits reaches the cap.
+// Most numbers have no more.
 const FIRST: usize = 5;
 
 // What stands at a place of a text: no number without leading zeros, or one, with its value and the place after it.

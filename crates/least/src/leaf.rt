@@ -27,7 +27,7 @@ fn add(x: i64, y: i64) -> i64
 }
 
 // The sum of the units' least values, or that one of them is stuck; unit u's fixed statuses begin at u times the periods.
-pub fn units_least(numbers: &[u64], q: &[u64], s: &[u64], fixed: &[u8]) -> Least
+fn units_least(numbers: &[u64], q: &[u64], s: &[u64], fixed: &[u8]) -> Least
     requires { ⌜ Laid (now numbers) ⌝ }
     requires { ⌜ GoodPrices (instance-in (now numbers) .periods) (now q) (now s) ⌝ }
     requires { ⌜ length (instance-in (now numbers) .units) * instance-in (now numbers) .periods ≤ length (now fixed) ⌝ }
@@ -65,7 +65,7 @@ fn required(q: u64, s: u64, demand: u64, spare: u64) -> u64
 }
 
 // What all periods require.
-pub fn sum_requirement(numbers: &[u64], q: &[u64], s: &[u64]) -> u64
+fn sum_requirement(numbers: &[u64], q: &[u64], s: &[u64]) -> u64
     requires { ⌜ Laid (now numbers) ⌝ }
     requires { ⌜ GoodPrices (instance-in (now numbers) .periods) (now q) (now s) ⌝ }
     ensures { λ r. ⌜ r ≡ requirement (instance-in (now (numbers .entry))) (λ t. (now (q .entry)) at t) (λ t. (now (s .entry)) at t) ⌝ }

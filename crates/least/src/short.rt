@@ -23,7 +23,7 @@ fn available_of(mark: u8, high: u64) -> u64
 }
 
 // The pU of the units not fixed off in period t.
-pub fn sum_available(numbers: &[u64], t: usize, fixed: &[u8]) -> u64
+fn sum_available(numbers: &[u64], t: usize, fixed: &[u8]) -> u64
     requires { ⌜ Laid (now numbers) ⌝ }
     requires { ⌜ t < instance-in (now numbers) .periods ⌝ }
     requires { ⌜ length (instance-in (now numbers) .units) * instance-in (now numbers) .periods ≤ length (now fixed) ⌝ }

@@ -12,7 +12,7 @@ use numbers::generator_at;
 use numbers::periods_in;
 
 // Whether no run of the unit obeys (5) to (10) and agrees with the fixed statuses.
-pub fn is_stuck(g: Generator, fixed: &[u8]) -> bool
+fn is_stuck(g: Generator, fixed: &[u8]) -> bool
     requires { ⌜ GoodUnit g ⌝ }
     requires { ⌜ Between 1 (length (now fixed)) 48 ⌝ }
     ensures { λ r. ⌜ r ≡ is-stuck (length (now (fixed .entry))) g (marks-of (now (fixed .entry))) ⌝ }

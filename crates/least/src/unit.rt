@@ -38,7 +38,7 @@ fn fill_costs(g: Generator, q: &[u64], s: &[u64], on: &mut [u64], off: &mut [u64
 }
 
 // The unit's walk at the prices, coded.
-pub fn price_value(g: Generator, q: &[u64], s: &[u64], fixed: &[u8]) -> u64
+fn price_value(g: Generator, q: &[u64], s: &[u64], fixed: &[u8]) -> u64
     requires { ⌜ GoodUnit g ⌝ }
     requires { ⌜ GoodPrices (length (now q)) (now q) (now s) × (length (now fixed) ≡ length (now q)) ⌝ }
     ensures { λ r. ⌜ r ≡ price-walk (length (now (q .entry))) (λ t. (now (q .entry)) at t) (λ t. (now (s .entry)) at t) g (marks-of (now (fixed .entry))) ⌝ }
@@ -51,7 +51,7 @@ pub fn price_value(g: Generator, q: &[u64], s: &[u64], fixed: &[u8]) -> u64
 }
 
 // What was added in all periods.
-pub fn sum_offset(g: Generator, q: &[u64], s: &[u64]) -> u64
+fn sum_offset(g: Generator, q: &[u64], s: &[u64]) -> u64
     requires { ⌜ GoodUnit g ⌝ }
     requires { ⌜ GoodPrices (length (now q)) (now q) (now s) ⌝ }
     ensures { λ r. ⌜ r ≡ offset (length (now (q .entry))) (λ t. (now (q .entry)) at t) (λ t. (now (s .entry)) at t) g ⌝ }

@@ -96,7 +96,8 @@ unfoldable pub keyedAt : List ℕ → List ℕ → ℕ → ℕ → List ℕ → 
 keyedAt key s at m o = pickOutcome (begins key (drop at s)) (valuesAt s (at + length key) m o) (wrong o)
 
 -- what a row that holds o holds once the line that starts at the place `at` with the key is read into it, no value with a
--- minus: of a good line its numbers, of one that is refused those that came before the fault and fit
+-- minus: the values up to the first malformed one, or all, as far as they fit, one above the cap as the cap; its other places
+-- stay. Of a good line these are its numbers
 abbrev pub storedAt : List ℕ → List ℕ → ℕ → List ℕ → List ℕ
 storedAt key s at o = keyedAt key s at 0 o .out
 

@@ -25,8 +25,8 @@ enum Field {
     },
 }
 
-// The values up to a line's end: one is malformed or no end is there, or how many they are, the next line's start, and
-// whether one has a minus.
+// The values up to a line's end: the key is not there, one is malformed or no end is there; or how many they are, the next
+// line's start, and whether one has a minus.
 enum Values {
     Wrong,
     Read {
@@ -330,8 +330,8 @@ fn has_minus(v: Values) -> bool
     }
 }
 
-// What the line is that starts at `at` with key and has a value for each of lows, none with a minus. The values are stored
-// in out.
+// What the line is that starts at `at` with key and has a value for each of lows, none with a minus. Those read are
+// stored in out, as far as they fit.
 pub fn fill_line(
     s: &[u8],
     at: usize,
@@ -349,8 +349,8 @@ pub fn fill_line(
     judge_values(v, out.len(), within)
 }
 
-// What the line is that starts at `at` with key and has a value for each place of out, each from lo to hi. The values are
-// stored in out.
+// What the line is that starts at `at` with key and has a value for each place of out, each from lo to hi. Those read
+// are stored in out, as far as they fit.
 pub fn fill_row(s: &[u8], at: usize, key: &[u8], lo: u64, hi: u64, out: &mut [u64]) -> Verdict
     requires { ⌜ (oneLine (now key) ≡ true) × ((length (now out) ≤ 48) × (hi < cap)) ⌝ }
     ensures answer { λ r. ⌜ r ≡ rowOf (plain (now (key .entry)) (length (now (out .entry))) lo hi) (lineAt (now (s .entry)) at) at .verdict ⌝ }

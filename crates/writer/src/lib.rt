@@ -14,7 +14,7 @@ pub enum Figure {
 }
 
 // How many digits n has.
-pub fn width(n: u64) -> usize
+fn width(n: u64) -> usize
     ensures { λ r. ⌜ r ≡ length (digits n) ⌝ }
     ensures { λ r. ⌜ r ≤ 20 ⌝ }
 {
@@ -37,7 +37,7 @@ pub fn write_bytes(buf: &mut [u8], bytes: &[u8]) -> usize
 }
 
 // How many bytes were written: the digits of n, at the front of buf.
-pub fn write_number(buf: &mut [u8], n: u64) -> usize
+fn write_number(buf: &mut [u8], n: u64) -> usize
     requires { ⌜ length (digits n) ≤ length (now buf) ⌝ }
     ensures { λ r. ⌜ r ≡ length (digits n) ⌝ }
     ensures { λ _. ⌜ now (buf .exit) ≡ over (digits n) (now (buf .entry)) ⌝ }
@@ -97,13 +97,6 @@ pub fn write_figure(buf: &mut [u8], f: Figure) -> usize
             w + 1
         }
     }
-}
-
-// How many bytes the line of key and f has, with its byte 10.
-pub fn line_width(key: &[u8], f: Figure) -> usize
-    ensures { λ r. ⌜ r ≡ length (line (now (key .entry)) f) ⌝ }
-{
-    key.len() + figure_width(f) + 1
 }
 
 // How many bytes were written: the line of key and f, at the front of buf.

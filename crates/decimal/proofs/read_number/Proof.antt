@@ -1,3 +1,4 @@
+-- `read_number` meets its contract: no digit, a leading zero, or a number.
 use borrow.Author.Needs.{needs}
 use native.Mathlib.Omega.{arith}
 use mathlib.Core.Path.{ap}

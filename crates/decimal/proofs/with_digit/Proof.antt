@@ -1,3 +1,4 @@
+-- `with_digit` meets its contract: below a tenth of the cap the value itself, and else the cap.
 use borrow.Author.Needs.{needs}
 use native.Mathlib.Omega.{arith}
 use Rattle.decimal.proofs.Digits.{is-digit}

@@ -1,3 +1,4 @@
+-- `read_from_runs` meets its contract. The invariant: what is left to read, with the rows stored so far, gives what the whole gives.
 use Prim.Native.Nat.{ℕ, suc, _-_, _*_, _≤_}
 use native.Mathlib.Omega.{arith}
 use mathlib.Core.Path.{_≡_, refl, sym, ap, _∙_}

@@ -1,3 +1,4 @@
+-- `bars_minus` meets its contract, by whether a minus may stand there and then by the byte after it.
 use borrow.Author.Needs.{needs}
 use mathlib.Core.Path.{_∙_}
 use Rattle.text.proofs.bars_minus.Statement.{statement}

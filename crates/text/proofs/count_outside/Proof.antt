@@ -1,3 +1,4 @@
+-- `count_outside` meets its contract. The invariant: those counted and those left are all.
 use borrow.Author.Needs.{needs}
 use Prim.Native.Nat.{_+_, _-_, _≤_}
 use native.Mathlib.Omega.{arith}

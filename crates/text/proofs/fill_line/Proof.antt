@@ -1,3 +1,4 @@
+-- `fill_line` meets its contract: the verdict is by the values read and their ranges (verdict-is).
 use borrow.Author.Needs.{needs}
 use mathlib.Core.Path.{_∙_}
 use Rattle.text.proofs.Fills.{fill-verdict}

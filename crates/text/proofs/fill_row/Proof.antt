@@ -1,3 +1,4 @@
+-- `fill_row` meets its contract: none is out of range where the count of those outside is 0, and the verdict is as for a line.
 use borrow.Author.Needs.{needs}
 use mathlib.Core.Path.{_≡_, sym, ap, _∙_}
 use lib.ListN.{length, replicate, length-replicate}

@@ -1,3 +1,4 @@
+-- `judge_values` meets its contract, case by case: 12, 14, 13, good.
 use borrow.Author.Needs.{needs}
 use borrow.Author.Tests.{eq-eqb, ne-eqb}
 use Rattle.text.proofs.judge_values.Statement.{statement}

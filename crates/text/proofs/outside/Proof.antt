@@ -1,3 +1,4 @@
+-- `outside` meets its contract: below lo and above hi count 1.
 use Rattle.text.proofs.Ranges.{below, above, between}
 use Rattle.text.proofs.outside.Statement.{statement}
 use Rattle.text.proofs.outside.Tie as tie

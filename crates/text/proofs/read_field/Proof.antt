@@ -1,3 +1,4 @@
+-- `read_field` meets its contract: behind a minus, where one may stand, or without one.
 use borrow.Author.Needs.{needs}
 use native.Mathlib.Omega.{arith}
 use mathlib.Core.Path.{sym, _∙_}

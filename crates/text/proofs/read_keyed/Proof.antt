@@ -1,3 +1,4 @@
+-- `read_keyed` meets its contract: the values behind the key, or none where it does not stand there.
 use borrow.Author.Needs.{needs}
 use native.Mathlib.Omega.{arith}
 use mathlib.Core.Path.{sym, _∙_}

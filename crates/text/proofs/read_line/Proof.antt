@@ -1,3 +1,4 @@
+-- `read_line` meets its contract: the row of a good line holds its numbers, that of a refused one zeros.
 use borrow.Author.Needs.{needs}
 use native.Mathlib.Omega.{arith}
 use mathlib.Core.Path.{_≡_, sym, _∙_}

@@ -1,3 +1,4 @@
+-- `read_row` meets its contract: what is stored in the front of the array is the line, and zeros stand behind it.
 use borrow.Author.Needs.{needs}
 use native.Mathlib.Omega.{arith}
 use mathlib.Core.Path.{_≡_, sym, ap, _∙_}

@@ -1,3 +1,4 @@
+-- `count_on` meets its contract: an output above 0 counts 1.
 use mathlib.Core.Path.{refl}
 use borrow.Author.Needs.{needs}
 use Rattle.judge.proofs.Tests.{is-on}

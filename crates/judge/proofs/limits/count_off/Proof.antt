@@ -1,3 +1,4 @@
+-- `count_off` meets its contract: below low and above high count 1, off counts 0.
 use borrow.Author.Needs.{needs}
 use Rattle.judge.proofs.Counts.{off-low, off-high, off-none}
 use Rattle.judge.proofs.limits.count_off.Statement.{statement}

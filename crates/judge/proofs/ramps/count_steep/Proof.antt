@@ -1,3 +1,4 @@
+-- `count_steep` meets its contract: a rise above up and a fall above down count 1, where both outputs are above 0.
 use borrow.Author.Needs.{needs}
 use Rattle.judge.proofs.Counts.{steep-was-off, steep-is-off, steep-rises, steep-falls, steep-none}
 use Rattle.judge.proofs.ramps.count_steep.Statement.{statement}

@@ -1,3 +1,4 @@
+-- `count_barred` meets its contract: a status left before TU, or TD, periods counts 1.
 use Rattle.judge.proofs.Counts.{barred-off, allowed-off, barred-on, allowed-on}
 use Rattle.judge.proofs.updown.count_barred.Statement.{statement}
 use Rattle.judge.proofs.updown.count_barred.Tie as tie

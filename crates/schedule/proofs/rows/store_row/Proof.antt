@@ -1,3 +1,4 @@
+-- `store_row` meets its contract. The invariant: the first t values are stored.
 use Prim.Native.Nat.{_-_, _≤_}
 use native.Mathlib.Numerals.{add-one}
 use native.Mathlib.Omega.{arith}
