@@ -1,19 +1,16 @@
--- What is stored piece by piece is the problem's: a piece leaves what stands before it, and each generator is had again from its
--- numbers.
+-- The problem's numbers are stored piece by piece, each piece where the one before it ends, and the problem is had again from them.
 use mathlib.Core.Path.{_≡_, refl, sym, ap, _∙_}
 use mathlib.Core.Bool.{Bool, true, false, not, cond}
-use mathlib.Core.List.{List, _++_, append-assoc}
-use Prim.Native.Nat.{ℕ, _+_, _*_, _≤_, _<_}
+use mathlib.Core.List.{List, [], _∷_, _++_}
+use Prim.Native.Nat.{ℕ, zero, suc, _+_, _*_, _≤_, _<_}
 use native.Mathlib.Omega.{arith}
-use borrow.Author.Count.{below-more}
 use lib.Dec.{eqb}
-use lib.ListN.{length, getD, set, take, drop, length-set, length-drop, List·getD-append}
-use lib.Seq.{paste, length-paste, length-take-le, take-length, drop-at, ext-getD, getD-take, getD-drop, getD-set-same, getD-set-other}
+use lib.ListN.{length, getD, set, take, drop, replicate, length-append, take-append-drop}
+use lib.Seq.{paste, length-paste, take-paste, length-take-le, take-length, take-all, take-add, take-at, take-append-le, drop-at, drop-drop, ext-getD, getD-take}
 use Rattle.model.specs.declared.generator.Generator.{Generator}
 use Rattle.model.specs.declared.arrays.Problem.{Problem}
-use Rattle.model.specs.Instance.{_at_}
 use Rattle.model.specs.Held.{view, Valid, blank-generator}
-use Rattle.numbers.specs.Numbers.{numbers-of, generator-of, generator-in, generators-in, instance-in, Laid}
+use Rattle.numbers.specs.Numbers.{numbers-of, all-numbers, laid-out, generator-of, generator-in, generators-in, instance-in, Laid}
 use Rattle.numbers.proofs.Readings.{generators-long, generators-at}
 
 -- ---- a piece
@@ -22,27 +19,43 @@ use Rattle.numbers.proofs.Readings.{generators-long, generators-at}
 abbrev pub stored : List ℕ → ℕ → List ℕ → List ℕ
 stored d k s = paste d k s (length s)
 
-module _ (d : List ℕ) (k : ℕ) (s : List ℕ) (room : k + length s ≤ length d) where
-  pub stored-long : length (stored d k s) ≡ length d
-  stored-long = length-paste d k s (length s) room (omega arith)
+-- v is as long as all, and the first k are those of all
+pub record Begun (all : List ℕ) (k : ℕ) (v : List ℕ) : Type 0 where
+  pub long : length v ≡ length all
+  pub begins : take k v ≡ take k all
 
-  stored-from : drop k (stored d k s) ≡ s ++ drop (k + length s) d
-  stored-from =
-      ap (drop k) (append-assoc (take k d) (take (length s) s) (drop (k + length s) d))
-      ∙ drop-at (take k d) (take (length s) s ++ drop (k + length s) d) k (length-take-le k d (omega arith))
-      ∙ ap (λ (l : List ℕ). l ++ drop (k + length s) d) (take-length s)
+-- the piece that all has next, up to m
+begun-more : (all : List ℕ) (k m : ℕ) (v s after : List ℕ) → Begun all k v → k + length s ≡ m → m ≤ length all → drop k all ≡ s ++ after
+    → Begun all m (stored v k s)
+begun-more all k m v s after B ends room e =
+    let n = length s in
+    record {
+      long = length-paste v k s n (omega (arith, B .long)) (omega arith) ∙ B .long;
+      begins =
+          ap (λ (i : ℕ). take i (stored v k s)) (sym ends)
+          ∙ take-paste v k s n (omega (arith, B .long)) (omega arith)
+          ∙ ap (λ (l : List ℕ). l ++ take n s) (B .begins)
+          ∙ ap (λ (l : List ℕ). take k all ++ l) (take-length s ∙ sym (ap (take n) e ∙ take-at s after n refl))
+          ∙ sym (take-add k n all)
+          ∙ ap (λ (i : ℕ). take i all) ends;
+    }
 
-  stored-at : (j : ℕ) → j < length s → stored d k s at (k + j) ≡ s at j
-  stored-at j h =
-      sym (getD-drop k (stored d k s) j 0) ∙ ap (λ (l : List ℕ). l at j) stored-from ∙ List·getD-append s (drop (k + length s) d) 0 j h
+pub begun-whole : (all : List ℕ) (k : ℕ) (v : List ℕ) → Begun all k v → length all ≤ k → v ≡ all
+begun-whole all k v B h = sym (take-all k v (omega (arith, B .long))) ∙ B .begins ∙ take-all k all h
 
-  stored-before : (j : ℕ) → j < k → stored d k s at j ≡ d at j
-  stored-before j h =
-      ap (λ (l : List ℕ). l at j) (append-assoc (take k d) (take (length s) s) (drop (k + length s) d))
-      ∙ List·getD-append (take k d) (take (length s) s ++ drop (k + length s) d) 0 j (omega (arith, length-take-le k d (omega arith)))
-      ∙ getD-take k d j 0 h
+-- ---- the generators
 
--- ---- a generator
+all-long : (gs : List Generator) → length (all-numbers gs) ≡ length gs * 15
+all-long [] = refl
+all-long (g ∷ gs) = omega (arith, all-long gs, length-append (numbers-of g) (all-numbers gs))
+
+all-from : (gs : List Generator) (u : ℕ) → u < length gs
+    → drop (u * 15) (all-numbers gs) ≡ numbers-of (getD gs u blank-generator) ++ all-numbers (drop (suc u) gs)
+all-from [] u h = absurd (omega arith)
+all-from (g ∷ gs) zero h = refl
+all-from (g ∷ gs) (suc u) h =
+    let e : suc u * 15 ≡ 15 + u * 15 = omega arith in
+    rw e (sym (drop-drop (u * 15) 15 (all-numbers (g ∷ gs))) ∙ all-from gs u (omega arith))
 
 status-back : (b : Bool) → not (eqb (cond b 1 0) 0) ≡ b
 status-back true = refl
@@ -51,136 +64,88 @@ status-back false = refl
 generator-back : (g : Generator) (l : List ℕ) → generator-of (numbers-of g ++ l) ≡ g
 generator-back g l = rw (status-back (g .on)) refl
 
-generator-ext : (v w : List ℕ) → ((j : ℕ) → j < 15 → v at j ≡ w at j) → generator-of v ≡ generator-of w
-generator-ext v w h =
-    rw (
-      h 0 (omega arith),
-      h 1 (omega arith),
-      h 2 (omega arith),
-      h 3 (omega arith),
-      h 4 (omega arith),
-      h 5 (omega arith),
-      h 6 (omega arith),
-      h 7 (omega arith),
-      h 8 (omega arith),
-      h 9 (omega arith),
-      h 10 (omega arith),
-      h 11 (omega arith),
-      h 12 (omega arith),
-      h 13 (omega arith),
-      h 14 (omega arith),
-    ) refl
+-- ---- the problem
 
--- ---- what stands before the generators
+module _ (p : Problem) (demand-long : length (p .demand) ≡ 48) (spare-long : length (p .spare) ≡ 48) (units-long : length (p .generators) ≡ 32) where
+  pub laid-long : length (laid-out p) ≡ 578
+  unfolding laid-out
+  laid-long =
+      omega (
+        arith,
+        demand-long,
+        spare-long,
+        units-long,
+        all-long (p .generators),
+        length-append (p .spare) (all-numbers (p .generators)),
+        length-append (p .demand) (p .spare ++ all-numbers (p .generators)),
+      )
 
-pub record Front (p : Problem) (v : List ℕ) : Type 0 where
-  pub periods : v at 0 ≡ p .periods
-  pub units : v at 1 ≡ p .units
-  pub demand : (t : ℕ) → t < 48 → v at (2 + t) ≡ p .demand at t
-  pub spare : (t : ℕ) → t < 48 → v at (50 + t) ≡ p .spare at t
+  -- what stands from 50 on, and from 98 on
+  from-spare : drop 50 (laid-out p) ≡ p .spare ++ all-numbers (p .generators)
+  unfolding laid-out
+  from-spare = drop-at (p .demand) (p .spare ++ all-numbers (p .generators)) 48 demand-long
 
--- z is what the numbers are stored in
-module _ (p : Problem) (z : List ℕ) (long : length z ≡ 578) (demand-long : length (p .demand) ≡ 48) (spare-long : length (p .spare) ≡ 48) where
+  from-generators : drop 98 (laid-out p) ≡ all-numbers (p .generators)
+  from-generators =
+      sym (drop-drop 48 50 (laid-out p)) ∙ ap (drop 48) from-spare ∙ drop-at (p .spare) (all-numbers (p .generators)) 48 spare-long
+
+  from-unit : (u : ℕ) → u < 32
+      → drop (98 + u * 15) (laid-out p) ≡ numbers-of (getD (p .generators) u blank-generator) ++ all-numbers (drop (suc u) (p .generators))
+  from-unit u h =
+      sym (drop-drop (u * 15) 98 (laid-out p)) ∙ ap (drop (u * 15)) from-generators ∙ all-from (p .generators) u (omega (arith, units-long))
+
+  generators-are : (n : ℕ) → n ≤ 32 → generators-in (laid-out p) 0 n ≡ take n (p .generators)
+  generators-are n few =
+      ext-getD blank-generator (generators-in (laid-out p) 0 n) (take n (p .generators))
+      (generators-long (laid-out p) 0 n ∙ sym (length-take-le n (p .generators) (omega (arith, units-long))))
+      (λ i h.
+      let less : i < n = omega (arith, generators-long (laid-out p) 0 n) in
+      let same : 0 + i ≡ i = omega arith in
+      generators-at (laid-out p) 0 n i blank-generator less
+      ∙ ap (λ (k : ℕ). generator-in (laid-out p) k) same
+      ∙ ap generator-of (from-unit i (omega arith))
+      ∙ generator-back (getD (p .generators) i blank-generator) (all-numbers (drop (suc i) (p .generators)))
+      ∙ sym (getD-take n (p .generators) i blank-generator less))
+
+  -- the problem is had again
+  pub laid-is : Valid p → instance-in (laid-out p) ≡ view p
+  unfolding instance-in view laid-out
+  laid-is valid =
+      let few : p .periods ≤ 48 = valid .well-formed .periods-in .1 in
+      rw (
+        take-append-le (p .periods) (p .demand) (p .spare ++ all-numbers (p .generators)) (omega (arith, demand-long)),
+        from-spare,
+        take-append-le (p .periods) (p .spare) (all-numbers (p .generators)) (omega (arith, spare-long)),
+        generators-are (p .units) (valid .units-fit),
+      ) refl
+
+  -- and it is well-formed
+  pub laid : Valid p → Laid (laid-out p)
+  laid valid = record { long = laid-long; well-formed = rw (laid-is valid) (valid .well-formed) }
+
+  -- what is stored before the generators
   abbrev counted : List ℕ
-  counted = set (set z 0 (p .periods)) 1 (p .units)
+  counted = set (set (replicate 578 0) 0 (p .periods)) 1 (p .units)
 
-  abbrev loaded : List ℕ
-  loaded = stored (stored counted 2 (p .demand)) 50 (p .spare)
+  counts-begun : Begun (laid-out p) 2 counted
+  unfolding laid-out
+  counts-begun = record { long = sym laid-long; begins = refl }
 
-  counted-long : length counted ≡ 578
-  counted-long = length-set (set z 0 (p .periods)) 1 (p .units) ∙ length-set z 0 (p .periods) ∙ long
+  pub demand-begun : Begun (laid-out p) 50 (stored (set (set (replicate 578 0) 0 (p .periods)) 1 (p .units)) 2 (p .demand))
+  unfolding laid-out
+  demand-begun =
+      begun-more (laid-out p) 2 50 counted (p .demand) (p .spare ++ all-numbers (p .generators)) counts-begun (omega (arith, demand-long)) (omega (arith, laid-long)) refl
 
-  demand-room : 2 + length (p .demand) ≤ length counted
-  demand-room = omega (arith, counted-long)
+  pub spare-begun : (v : List ℕ) → Begun (laid-out p) 50 v → Begun (laid-out p) 98 (stored v 50 (p .spare))
+  spare-begun v B =
+      begun-more (laid-out p) 50 98 v (p .spare) (all-numbers (p .generators)) B (omega (arith, spare-long)) (omega (arith, laid-long)) from-spare
 
-  pub demand-stored-long : length (stored (set (set z 0 (p .periods)) 1 (p .units)) 2 (p .demand)) ≡ 578
-  demand-stored-long = stored-long counted 2 (p .demand) demand-room ∙ counted-long
+  -- the numbers to come, by those before the generators and the generators
+  pub front-whole : (v : List ℕ) → Begun (laid-out p) 98 v → take 98 v ++ all-numbers (p .generators) ≡ laid-out p
+  front-whole v B = rw (B .begins, ← from-generators) (take-append-drop 98 (laid-out p))
 
-  spare-room : 50 + length (p .spare) ≤ length (stored counted 2 (p .demand))
-  spare-room = omega (arith, demand-stored-long)
-
-  pub front-long : length (stored (stored (set (set z 0 (p .periods)) 1 (p .units)) 2 (p .demand)) 50 (p .spare)) ≡ 578
-  front-long = stored-long (stored counted 2 (p .demand)) 50 (p .spare) spare-room ∙ demand-stored-long
-
-  before : (j : ℕ) → j < 2 → loaded at j ≡ counted at j
-  before j h =
-      stored-before (stored counted 2 (p .demand)) 50 (p .spare) spare-room j (omega arith)
-      ∙ stored-before counted 2 (p .demand) demand-room j h
-
-  pub front-stored : Front p (stored (stored (set (set z 0 (p .periods)) 1 (p .units)) 2 (p .demand)) 50 (p .spare))
-  front-stored =
-      record {
-        periods =
-            before 0 (omega arith) ∙ getD-set-other (set z 0 (p .periods)) 1 0 (p .units) 0 (λ e. omega arith) ∙ getD-set-same z 0 (p .periods) 0 (omega arith);
-        units = before 1 (omega arith) ∙ getD-set-same (set z 0 (p .periods)) 1 (p .units) 0 (omega (arith, length-set z 0 (p .periods)));
-        demand = λ t h.
-            stored-before (stored counted 2 (p .demand)) 50 (p .spare) spare-room (2 + t) (omega arith)
-            ∙ stored-at counted 2 (p .demand) demand-room t (omega arith);
-        spare = λ t h. stored-at (stored counted 2 (p .demand)) 50 (p .spare) spare-room t (omega arith);
-      }
-
--- ---- the generators, one after another
-
--- v is v₀ with the first u of gs
-pub record Filled (gs : List Generator) (v₀ : List ℕ) (u : ℕ) (v : List ℕ) : Type 0 where
-  pub long : length v ≡ 578
-  pub front : (j : ℕ) → j < 98 → v at j ≡ v₀ at j
-  pub generators : (k : ℕ) → k < u → generator-in v k ≡ getD gs k blank-generator
-
-pub filled-none : (gs : List Generator) (v : List ℕ) → length v ≡ 578 → Filled gs v 0 v
-filled-none gs v e = record { long = e; front = λ j h. refl; generators = λ k h. absurd (omega arith) }
-
-pub filled-more : (gs : List Generator) (v₀ : List ℕ) (u : ℕ) (v : List ℕ) → u < 32 → Filled gs v₀ u v
-    → Filled gs v₀ (u + 1) (stored v (98 + u * 15) (numbers-of (getD gs u blank-generator)))
-filled-more gs v₀ u v h F =
-    let s = numbers-of (getD gs u blank-generator) in
-    let room : 98 + u * 15 + length s ≤ length v = omega (arith, F .long) in
-    let w = stored v (98 + u * 15) s in
-    record {
-      long = stored-long v (98 + u * 15) s room ∙ F .long;
-      front = λ j l. stored-before v (98 + u * 15) s room j (omega arith) ∙ F .front j l;
-      generators =
-          below-more (λ (k : ℕ). generator-in w k ≡ getD gs k blank-generator) u
-          (λ k l. generator-ext (drop (98 + k * 15) w) (drop (98 + k * 15) v) (λ j i.
-          getD-drop (98 + k * 15) w j 0 ∙ stored-before v (98 + u * 15) s room (98 + k * 15 + j) (omega arith) ∙ sym (getD-drop (98 + k * 15) v j 0))
-          ∙ F .generators k l)
-          (ap generator-of (stored-from v (98 + u * 15) s room) ∙ generator-back (getD gs u blank-generator) (drop (98 + u * 15 + length s) v));
-    }
-
--- ---- all of them
-
-loads-are : (n k : ℕ) (v l : List ℕ) → n ≤ 48 → k + 48 ≤ length v → length l ≡ 48 → ((t : ℕ) → t < 48 → v at (k + t) ≡ l at t)
-    → take n (drop k v) ≡ take n l
-loads-are n k v l h room long e =
-    let left : length (take n (drop k v)) ≡ n = length-take-le n (drop k v) (omega (arith, length-drop k v)) in
-    let right : length (take n l) ≡ n = length-take-le n l (omega arith) in
-    ext-getD 0 (take n (drop k v)) (take n l) (left ∙ sym right)
-    (λ i inside. let less : i < n = omega arith in getD-take n (drop k v) i 0 less ∙ getD-drop k v i 0 ∙ e i (omega arith) ∙ sym (getD-take n l i 0 less))
-
-generators-are : (n : ℕ) (v : List ℕ) (gs : List Generator) → n ≤ length gs → ((k : ℕ) → k < n → generator-in v k ≡ getD gs k blank-generator)
-    → generators-in v 0 n ≡ take n gs
-generators-are n v gs room e =
-    let long = generators-long v 0 n in
-    ext-getD blank-generator (generators-in v 0 n) (take n gs) (long ∙ sym (length-take-le n gs room))
-    (λ i h.
-    let less : i < n = omega arith in
-    let same : 0 + i ≡ i = omega arith in
-    generators-at v 0 n i blank-generator less ∙ ap (λ (k : ℕ). generator-in v k) same ∙ e i less ∙ sym (getD-take n gs i blank-generator less))
-
--- the problem is had again
-pub filled-is : (p : Problem) → Valid p → length (p .demand) ≡ 48 → length (p .spare) ≡ 48 → length (p .generators) ≡ 32
-    → (v₀ v : List ℕ) → Front p v₀ → Filled (p .generators) v₀ 32 v → instance-in v ≡ view p
-unfolding instance-in view
-filled-is p valid demand-long spare-long units-long v₀ v H F =
-    let few : p .periods ≤ 48 = valid .well-formed .periods-in .1 in
-    rw (
-      F .front 0 (omega arith) ∙ H .periods,
-      F .front 1 (omega arith) ∙ H .units,
-      loads-are (p .periods) 2 v (p .demand) few (omega (arith, F .long)) demand-long (λ t h. F .front (2 + t) (omega arith) ∙ H .demand t h),
-      loads-are (p .periods) 50 v (p .spare) few (omega (arith, F .long)) spare-long (λ t h. F .front (50 + t) (omega arith) ∙ H .spare t h),
-      generators-are (p .units) v (p .generators) (omega (arith, valid .units-fit)) (λ k h. F .generators k (omega (arith, valid .units-fit))),
-    ) refl
-
--- and it is well-formed
-pub filled-laid : (p : Problem) → Valid p → (v : List ℕ) → length v ≡ 578 → instance-in v ≡ view p → Laid v
-filled-laid p valid v long e = record { long = long; well-formed = rw e (valid .well-formed) }
+  -- a generator more
+  pub unit-begun : (u : ℕ) (v : List ℕ) → u < 32 → Begun (laid-out p) (98 + u * 15) v
+      → Begun (laid-out p) (98 + (u + 1) * 15) (stored v (98 + u * 15) (numbers-of (getD (p .generators) u blank-generator)))
+  unit-begun u v h B =
+      begun-more (laid-out p) (98 + u * 15) (98 + (u + 1) * 15) v (numbers-of (getD (p .generators) u blank-generator)) (all-numbers (drop (suc u) (p .generators))) B (omega arith) (omega (arith, laid-long)) (from-unit u h)

@@ -1,12 +1,14 @@
 -- A problem's numbers in one list of 578: the periods T, the units, 48 demands, 48 spares, and 15 numbers for each of 32
--- generators, on being 0 or 1. Of the demands, the spares and the generators the first are the problem's.
+-- generators, on being 0 or 1. Of the demands and the spares the
+-- first T are the problem's, of the generators as many as it has units.
 use mathlib.Core.Path.{_≡_}
 use mathlib.Core.Bool.{not, cond}
-use mathlib.Core.List.{List, [], _∷_}
+use mathlib.Core.List.{List, [], _∷_, _++_}
 use Prim.Native.Nat.{ℕ, zero, suc, _+_, _*_}
 use lib.Dec.{eqb}
 use lib.ListN.{length, take, drop}
 use Rattle.model.specs.declared.generator.Generator.{Generator}
+use Rattle.model.specs.declared.arrays.Problem.{Problem}
 use Rattle.model.specs.Instance.{Instance, _at_}
 use Rattle.model.specs.Ranges.{WellFormed}
 
@@ -14,6 +16,15 @@ use Rattle.model.specs.Ranges.{WellFormed}
 abbrev pub numbers-of : Generator → List ℕ
 numbers-of g =
     g .a ∷ g .b ∷ g .c ∷ g .pL ∷ g .pU ∷ g .TU ∷ g .TD ∷ cond (g .on) 1 0 ∷ g .since ∷ g .DR ∷ g .UR ∷ g .Hsc ∷ g .Csc ∷ g .Tcold ∷ g .Dc ∷ []
+
+-- the generators' numbers, one after another
+abbrev pub all-numbers : List Generator → List ℕ
+all-numbers [] = []
+all-numbers (g ∷ gs) = numbers-of g ++ all-numbers gs
+
+-- the numbers that a problem's arrays hold, with what stands past its periods and units
+unfoldable pub laid-out : Problem → List ℕ
+laid-out p = p .periods ∷ p .units ∷ (p .demand ++ (p .spare ++ all-numbers (p .generators)))
 
 -- the generator whose numbers the list begins with
 abbrev pub generator-of : List ℕ → Generator

@@ -6,7 +6,7 @@ ghost use lib.ListN.{length, getD};
 ghost use lib.Seq.{paste};
 ghost use Rattle.model.specs.Instance.{_at_};
 ghost use Rattle.model.specs.Held.{view, Valid, blank-generator};
-ghost use Rattle.numbers.specs.Numbers.{numbers-of, generator-of, instance-in, Laid};
+ghost use Rattle.numbers.specs.Numbers.{numbers-of, laid-out, generator-of, instance-in, Laid};
 use model::arrays::Problem;
 use model::generator::Generator;
 
@@ -59,7 +59,8 @@ fn store(numbers: &mut [u64; 578], from: usize, values: &[u64])
 // The problem's numbers.
 pub fn lay_out(problem: Problem) -> [u64; 578]
     requires { ⌜ Valid problem ⌝ }
-    ensures { λ r. ⌜ Laid r × (instance-in r ≡ view problem) ⌝ }
+    ensures whole { λ r. ⌜ r ≡ laid-out problem ⌝ }
+    ensures read { λ r. ⌜ Laid r × (instance-in r ≡ view problem) ⌝ }
 {
     let demand = problem.demand;
     let spare = problem.spare;
