@@ -1,10 +1,12 @@
 -- The numbers of a problem of two periods and two generators, and the problem that they are.
 use mathlib.Core.Path.{_≡_, refl}
 use mathlib.Core.Bool.{true, false}
-use mathlib.Core.List.{[], _∷_, _++_}
+use mathlib.Core.List.{List, [], _∷_, _++_}
+use Prim.Native.Nat.{ℕ}
 use Rattle.model.specs.declared.generator.Generator.{Generator}
-use Rattle.model.specs.Held.{pad}
-use Rattle.numbers.specs.Numbers.{numbers-of, instance-in}
+use Rattle.model.specs.Instance.{Instance}
+use Rattle.model.specs.Held.{pad, held}
+use Rattle.numbers.specs.Numbers.{numbers-of, problem-in, instance-in}
 
 -- a generator that has been on, and one that has been off
 abbrev first : Generator
@@ -13,7 +15,17 @@ first = record { a = 100; b = 10; c = 0; pL = 20; pU = 80; TU = 2; TD = 2; on = 
 abbrev second : Generator
 second = record { a = 40; b = 14; c = 0; pL = 10; pU = 50; TU = 1; TD = 1; on = false; since = 2; DR = 50; UR = 50; Hsc = 20; Csc = 60; Tcold = 0; Dc = 0 }
 
-pub two-units : instance-in (pad 0 578 (2 ∷ 2 ∷ pad 0 48 (60 ∷ 100 ∷ []) ++ pad 0 48 (10 ∷ 11 ∷ []) ++ numbers-of first ++ numbers-of second))
-    ≡ record { periods = 2; demand = 60 ∷ 100 ∷ []; spare = 10 ∷ 11 ∷ []; units = first ∷ second ∷ [] }
+abbrev two-units : Instance
+two-units = record { periods = 2; demand = 60 ∷ 100 ∷ []; spare = 10 ∷ 11 ∷ []; units = first ∷ second ∷ [] }
+
+abbrev two-numbers : List ℕ
+two-numbers = 2 ∷ 2 ∷ pad 0 48 (60 ∷ 100 ∷ []) ++ pad 0 48 (10 ∷ 11 ∷ []) ++ numbers-of first ++ numbers-of second
+
+pub two-units-in : instance-in (pad 0 578 two-numbers) ≡ two-units
 unfolding pad instance-in
-two-units = refl
+two-units-in = refl
+
+-- its arrays, where the list goes on
+pub two-units-again : problem-in (pad 0 578 two-numbers ++ (7 ∷ [])) ≡ held two-units
+unfolding pad problem-in held
+two-units-again = refl

@@ -55,6 +55,16 @@ abbrev pub generators-in : List ℕ → ℕ → ℕ → List Generator
 generators-in v u zero = []
 generators-in v u (suc n) = generator-in v u ∷ generators-in v (suc u) n
 
+-- the problem as its arrays hold it, with what stands past its periods and units, well-formed or not; the list may go on
+unfoldable pub problem-in : List ℕ → Problem
+problem-in v = record {
+  periods = v at 0;
+  units = v at 1;
+  demand = take 48 (drop 2 v);
+  spare = take 48 (drop 50 v);
+  generators = generators-in v 0 32;
+}
+
 -- the problem
 unfoldable pub instance-in : List ℕ → Instance
 instance-in v = record {

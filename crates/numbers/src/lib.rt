@@ -1,14 +1,17 @@
 // A problem's numbers in one array, so that they can be lent.
 ghost use mathlib.Core.Path.{_≡_};
 ghost use mathlib.Core.Bool.{cond};
-ghost use Prim.Native.Nat.{_+_, _≤_, _<_};
+ghost use Prim.Native.Nat.{_≤_, _<_};
 ghost use lib.ListN.{length, getD};
-ghost use lib.Seq.{paste};
 ghost use Rattle.model.specs.Instance.{_at_};
 ghost use Rattle.model.specs.Held.{view, Valid, blank-generator};
 ghost use Rattle.numbers.specs.Numbers.{numbers-of, laid-out, generator-of, instance-in, Laid};
+use crate::copies::store;
 use model::arrays::Problem;
 use model::generator::Generator;
+
+pub mod copies;
+pub mod reading;
 
 // 1 for on, 0 for off.
 fn status_number(on: bool) -> u64
@@ -43,24 +46,10 @@ fn generator_numbers(g: Generator) -> [u64; 15]
     ]
 }
 
-// Stores these values from `from` on.
-fn store(numbers: &mut [u64; 578], from: usize, values: &[u64])
-    requires { ⌜ (from + length (now values) ≤ 578) × (length (now numbers) ≡ 578) ⌝ }
-    ensures { λ _. ⌜ now (numbers .exit) ≡ paste (now (numbers .entry)) from (now (values .entry)) (length (now (values .entry))) ⌝ }
-{
-    let n = values.len();
-    let mut i = 0;
-    while i < n {
-        numbers[from + i] = values[i];
-        i += 1;
-    }
-}
-
-// The problem's numbers.
+// The problem's numbers; a well-formed problem is had again from them.
 pub fn lay_out(problem: Problem) -> [u64; 578]
-    requires { ⌜ Valid problem ⌝ }
     ensures whole { λ r. ⌜ r ≡ laid-out problem ⌝ }
-    ensures read { λ r. ⌜ Laid r × (instance-in r ≡ view problem) ⌝ }
+    ensures read { λ r. ⌜ (Valid problem → Laid r × (instance-in r ≡ view problem)) ⌝ }
 {
     let demand = problem.demand;
     let spare = problem.spare;

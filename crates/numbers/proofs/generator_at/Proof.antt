@@ -1,12 +1,9 @@
 -- `generator_at` meets its contract: the numbers from the generator's on.
 use mathlib.Core.Path.{sym, ap, _∙_}
-use Prim.Native.Nat.{_+_, _*_, _-_}
-use native.Mathlib.Omega.{arith}
+use Prim.Native.Nat.{_+_, _*_}
 use borrow.Author.Needs.{needs}
-use lib.ListN.{length, drop, length-drop}
-use lib.Seq.{take-all}
 use Rattle.numbers.specs.Numbers.{generator-of}
-use Rattle.numbers.proofs.Readings.{unit-at}
+use Rattle.numbers.proofs.Readings.{from-whole, unit-at}
 use Rattle.numbers.proofs.generator_at.Statement.{statement}
 use Rattle.numbers.proofs.generator_at.Tie as tie
 
@@ -35,9 +32,8 @@ returns : tie.Need-returns
 returns c =
     let s = c .before .before .before in
     let v = s .args .numbers .now in
-    let from = 98 + s .args .u * 15 in
-    c .generator-of .ensures ∙ ap generator-of (take-all (length v - from) (drop from v) (omega (arith, length-drop from v)))
-    ∙ sym (unit-at v (s .args .u) (s .pre .1))
+    let u = s .args .u in
+    c .generator-of .ensures ∙ ap generator-of (from-whole v (98 + u * 15)) ∙ sym (unit-at v u (s .pre .1))
 
 pub generator-at-spec : {M : Type 1} → statement M
 generator-at-spec =

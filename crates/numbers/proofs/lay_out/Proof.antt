@@ -1,18 +1,16 @@
 -- `lay_out` meets its contract. The loop's invariant: the first 98 + u * 15 numbers are stored.
-use mathlib.Core.Path.{_≡_, sym, ap, _∙_}
-use mathlib.Core.List.{List, _++_}
-use Prim.Native.Nat.{ℕ, _+_, _*_, _-_, _≤_}
+use mathlib.Core.Path.{_≡_, sym, _∙_}
+use Prim.Native.Nat.{_-_, _≤_}
 use native.Mathlib.Omega.{arith}
 use borrow.Author.Needs.{needs}
-use lib.ListN.{length, getD, set, take, replicate, length-map, length-replicate}
-use Rattle.model.specs.Held.{blank-generator}
-use Rattle.numbers.specs.Numbers.{numbers-of, all-numbers, laid-out}
-use Rattle.numbers.proofs.Stored.{stored, Begun, begun-whole, laid-long, laid-is, laid, demand-begun, spare-begun, front-whole, unit-begun}
+use lib.ListN.{length, length-map}
+use Rattle.numbers.proofs.Again.{laid-is, laid}
+use Rattle.numbers.proofs.Stored.{begun, begun-none, begun-more, begun-all}
 use Rattle.numbers.proofs.lay_out.Statement.{statement}
 use Rattle.numbers.proofs.lay_out.Tie as tie
 
 abbrev Inv-loop : tie.InvT-loop
-Inv-loop generators numbers₀ u₀ numbers u = (u ≤ 32) × Begun (take 98 numbers₀ ++ all-numbers generators) (98 + u * 15) numbers
+Inv-loop generators numbers₀ u₀ numbers u = (u ≤ 32) × (length numbers ≡ 578) × (numbers ≡ begun numbers₀ generators u)
 
 abbrev μ-loop : tie.MeasureT-loop
 μ-loop generators numbers₀ u₀ numbers u = 32 - u
@@ -22,23 +20,12 @@ longs : (c : tie.Start Inv-loop μ-loop) →
     (length (c .args .problem .demand) ≡ 48) × (length (c .args .problem .spare) ≡ 48) × (length (c .args .problem .generators) ≡ 32)
 longs c = (search needs, search needs, sym (length-map (c .args .problem .generators) _) ∙ c .good .0 .1 .1 .1 .1 .1 .1 .0 .1 .0 .1)
 
--- what stands before the generators
-front : (c : tie.After-store2 Inv-loop μ-loop) → Begun (laid-out (c .before .before .before .before .before .before .before .before .before .args .problem)) 98 (c .store2 .last .0)
-front c =
-    let s = c .before .before .before .before .before .before .before .before .before in
-    let p = s .args .problem in
-    let l = longs s in
-    let e : c .store2 .last .0 ≡ stored (stored (set (set (replicate 578 0) 0 (p .periods)) 1 (p .units)) 2 (p .demand)) 50 (p .spare) =
-    c .store2 .ensures ∙ ap (λ (v : List ℕ). stored v 50 (p .spare)) (c .before .before .before .store .ensures) in
-    rw e (spare-begun p (l .0) (l .1) (l .2) _ (demand-begun p (l .0) (l .1) (l .2)))
+abbrev start : tie.After-store2 Inv-loop μ-loop → tie.Start Inv-loop μ-loop
+start c = c .before .before .before .before .before .before .before .before .before .before
 
--- the numbers to come
-whole : (c : tie.After-store2 Inv-loop μ-loop) → take 98 (c .store2 .last .0) ++ all-numbers (c .before .before .before .before .before .before .before .before .before .args .problem .generators)
-    ≡ laid-out (c .before .before .before .before .before .before .before .before .before .args .problem)
-whole c =
-    let s = c .before .before .before .before .before .before .before .before .before in
-    let l = longs s in
-    front-whole (s .args .problem) (l .0) (l .1) (l .2) (c .store2 .last .0) (front c)
+-- the array after what stands before the generators is stored
+long : (c : tie.After-store2 Inv-loop μ-loop) → length (c .store2 .last .0) ≡ 578
+long c = search needs
 
 array-write-numbers : tie.Need-array-write-numbers Inv-loop μ-loop
 array-write-numbers c = search needs
@@ -49,21 +36,27 @@ array-write-numbers-2 c = search needs
 slice-aggregate-store : tie.Need-slice-aggregate-store Inv-loop μ-loop
 slice-aggregate-store c = search needs
 
-store-requires : tie.Need-store-requires Inv-loop μ-loop
-store-requires c κs = (omega (arith, longs (c .before .before .before .before .before)), length-replicate {A = ℕ} 578 0)
-
 slice-aggregate-store-2 : tie.Need-slice-aggregate-store-2 Inv-loop μ-loop
 slice-aggregate-store-2 c = search needs
 
+store-requires : tie.Need-store-requires Inv-loop μ-loop
+store-requires c κs = omega (arith, longs (c .before .before .before .before .before))
+
+slice-aggregate-store-3 : tie.Need-slice-aggregate-store-3 Inv-loop μ-loop
+slice-aggregate-store-3 c = search needs
+
+slice-aggregate-store-4 : tie.Need-slice-aggregate-store-4 Inv-loop μ-loop
+slice-aggregate-store-4 c = search needs
+
 store-requires-2 : tie.Need-store-requires-2 Inv-loop μ-loop
 store-requires-2 c κs =
-    let s = c .before .before .before .before .before .before .before .before in
-    let l = longs s in
-    let p = s .args .problem in
-    (omega (arith, l), ap length (c .before .before .store .ensures) ∙ demand-begun p (l .0) (l .1) (l .2) .long ∙ laid-long p (l .0) (l .1) (l .2))
+    let n : length (c .before .before .before .store .last .0) ≡ 578 = search needs in
+    omega (arith, longs (c .before .before .before .before .before .before .before .before .before))
 
 loop-holds : tie.Need-loop-holds Inv-loop μ-loop
-loop-holds c = (omega arith, rw (whole c) (front c))
+loop-holds c =
+    let front = c .before in
+    (omega arith, long front, begun-none (front .store2 .last .0) (start front .args .problem .generators) (omega (arith, long front)))
 
 mul-generator-numbers : tie.Need-mul-generator-numbers Inv-loop μ-loop
 mul-generator-numbers c = search needs
@@ -74,22 +67,20 @@ array-copy-out-generator-numbers c = search needs
 generator-numbers-requires : tie.Need-generator-numbers-requires Inv-loop μ-loop
 generator-numbers-requires c κs = search needs
 
+slice-aggregate-store-5 : tie.Need-slice-aggregate-store-5 Inv-loop μ-loop
+slice-aggregate-store-5 c = sym (c .before .before .before .before .loop .inv .1)
+
 mul-store : tie.Need-mul-store Inv-loop μ-loop
 mul-store c = search needs
 
 add-store : tie.Need-add-store Inv-loop μ-loop
 add-store c = search needs
 
-slice-aggregate-store-3 : tie.Need-slice-aggregate-store-3 Inv-loop μ-loop
-slice-aggregate-store-3 c = search needs
+slice-aggregate-store-6 : tie.Need-slice-aggregate-store-6 Inv-loop μ-loop
+slice-aggregate-store-6 c = search needs
 
 store-requires-3 : tie.Need-store-requires-3 Inv-loop μ-loop
-store-requires-3 c κs =
-    let loop = c .before .before .before .before .before in
-    let s = loop .before .before .before .before .before .before .before .before .before .before in
-    let l = longs s in
-    let long = loop .loop .inv .1 .long ∙ ap length (whole (loop .before)) ∙ laid-long (s .args .problem) (l .0) (l .1) (l .2) in
-    (rw (c .before .before .generator-numbers .ensures) (omega arith), long)
+store-requires-3 c κs = rw (c .before .before .generator-numbers .ensures) (omega arith)
 
 add-u : tie.Need-add-u Inv-loop μ-loop
 add-u c = search needs
@@ -99,26 +90,25 @@ loop-less c = search needs
 
 loop-again : tie.Need-loop-again Inv-loop μ-loop
 loop-again c =
-    let loop = c .before .before .before .before .before .before in
-    let s = loop .before .before .before .before .before .before .before .before .before .before in
-    let p = s .args .problem in
-    let l = longs s in
-    let u = loop .loop .u in
-    let v = loop .loop .numbers in
-    let e : c .store3 .last .0 ≡ stored v (98 + u * 15) (numbers-of (getD (p .generators) u blank-generator)) =
-    c .store3 .ensures ∙ ap (λ (l : List ℕ). stored v (98 + u * 15) l) (c .before .before .before .generator-numbers .ensures) in
-    let B = rw (whole (loop .before)) at (loop .loop .inv .1) in
-    (omega arith, rw (e, whole (loop .before)) (unit-begun p (l .0) (l .1) (l .2) u v (c .before .before .before .before .before .loop-test .taken) B))
+    let loop = c .before .before .before .before .before .before .before in
+    let front = loop .before .before in
+    let values = c .before .before .before .before .generator-numbers .ensures in
+    let same : length (c .before .store3 .last .0) ≡ 578 = search needs in
+    let more =
+    begun-more (front .store2 .last .0) (start front .args .problem .generators) (omega (arith, long front)) _ _ _ (loop .loop .u) (omega (arith, longs (start front)))
+    (loop .loop .inv .2) values (c .before .store3 .ensures) in
+    (omega arith, same, more)
 
 returns : tie.Need-returns Inv-loop μ-loop
 returns c =
     let loop = c .before in
-    let s = loop .before .before .before .before .before .before .before .before .before .before in
-    let p = s .args .problem in
-    let l = longs s in
-    let B = rw (whole (loop .before)) at (loop .loop .inv .1) in
-    let e = begun-whole (laid-out p) (98 + loop .loop .u * 15) (loop .loop .numbers) B (omega (arith, laid-long p (l .0) (l .1) (l .2))) in
-    (e, rw e (laid p (l .0) (l .1) (l .2) (s .pre), laid-is p (l .0) (l .1) (l .2) (s .pre)))
+    let front = loop .before .before in
+    let p = start front .args .problem in
+    let l = longs (start front) in
+    let e =
+    begun-all p (l .0) (l .1) (l .2) _ _ (front .before .before .before .before .store .ensures) (front .store2 .ensures) (loop .loop .numbers) (loop .loop .u)
+    (omega arith) (long front) (loop .loop .inv .2) in
+    (e, λ valid. rw e (laid p (l .0) (l .1) (l .2) valid, laid-is p (l .0) (l .1) (l .2) valid))
 
 pub lay-out-spec : {M : Type 1} → statement M
 lay-out-spec =
@@ -129,16 +119,19 @@ lay-out-spec =
     array-write-numbers
     array-write-numbers-2
     slice-aggregate-store
-    store-requires
     slice-aggregate-store-2
+    store-requires
+    slice-aggregate-store-3
+    slice-aggregate-store-4
     store-requires-2
     loop-holds
     mul-generator-numbers
     array-copy-out-generator-numbers
     generator-numbers-requires
+    slice-aggregate-store-5
     mul-store
     add-store
-    slice-aggregate-store-3
+    slice-aggregate-store-6
     store-requires-3
     add-u
     loop-less

@@ -33,7 +33,7 @@ array-read-writer : tie.Need-array-read-writer
 array-read-writer c = search needs
 
 lay-out-requires : tie.Need-lay-out-requires
-lay-out-requires c κs = c .before .before .before .before .before .before .before .pre .0
+lay-out-requires c κs = search needs
 
 slice-aggregate-read-node : tie.Need-slice-aggregate-read-node
 slice-aggregate-read-node c = search needs
@@ -52,7 +52,7 @@ read-node-requires c κs =
     let s = r .before .before .before in
     let v = good .verdict2 .given in
     let e = c .none .ensures in (
-      o .lay-out .ensures .1 .0,
+      o .lay-out .ensures .1 (s .pre .0) .0,
       (rw e (tree-placed (view (s .args .problem)) (s .args .text .now) (r .read-row .result) (r .read-row .ensures) (v .0 .0) (v .1) (s .pre .1 .0)), (omega arith, refl)),
     )
 
@@ -81,7 +81,7 @@ returns-2 c =
     let text = s .args .text .now in
     let v = good .verdict2 .given in
     let w = r .read-row .result .values at 0 in
-    let tree = subst (λ (Q : Instance). NodeRead Q text (v .0 .0) 3 (n .before .none .result) (above-of (Q .periods) (replicate 1536 0)) 0 (n .read-node .result)) (o .lay-out .ensures .1 .1) (n .read-node .ensures .0) in
+    let tree = subst (λ (Q : Instance). NodeRead Q text (v .0 .0) 3 (n .before .none .result) (above-of (Q .periods) (replicate 1536 0)) 0 (n .read-node .result)) (o .lay-out .ensures .1 (s .pre .0) .1) (n .read-node .ensures .0) in
     let node = rw (root-is (P .periods), n .before .none .ensures) at tree in
     c .read-end .ensures
     ∙ ended-read P text w (n .read-node .result)
