@@ -1,4 +1,4 @@
--- How long the line of an answer is: with the figures that lodging a text of the listing can give, at most 64 bytes.
+-- How long the line of an answer is: with the figures that lodging a text can give, at most 64 bytes.
 use Prim.Native.Nat.{ℕ, suc, _+_, _≤_, _<_, _^_}
 use native.Mathlib.Omega.{arith}
 use mathlib.Core.Path.{_≡_, ap}
@@ -16,15 +16,15 @@ use Rattle.answer.specs.AnswerLines.{bound-figure, values-of, ending, an
 
 -- ---- small figures
 
--- a cost below 10^18, a bound that fits, counts below 10^6
+-- a cost below 10^18, a bound that fits, counts below 10^7
 abbrev pub SmallValues : Values → Type 0
 SmallValues no-values = Unit {0}
 SmallValues (its-cost c) = c < 1_000_000_000_000_000_000
-SmallValues (its-bound b m n) = Fits b × ((m < 1_000_000) × (n < 1_000_000))
+SmallValues (its-bound b m n) = Fits b × ((m < 10_000_000) × (n < 10_000_000))
 
--- a number, a unit and a period below 100, a line below 10^6
+-- a number, a unit and a period below 100, a line below 10^7
 abbrev pub Small : Stated → Type 0
-Small (refused n l u t) = (n < 100) × ((l < 1_000_000) × ((u < 100) × (t < 100)))
+Small (refused n l u t) = (n < 100) × ((l < 10_000_000) × ((u < 100) × (t < 100)))
 Small (held v) = SmallValues v
 Small (passed v) = SmallValues v
 
@@ -46,7 +46,7 @@ bound-width (number (negsuc n)) h = omega (arith, width-below 17 (suc n) (omega 
 ending-more : (f : Figure) (fs : List Figure) → length (ending (f ∷ fs)) ≡ suc (length (figure f) + length (ending fs))
 ending-more f fs = ap suc (length-append (figure f) (ending fs))
 
-ending-fits : (v : Values) → SmallValues v → length (ending (values-of v)) ≤ 36
+ending-fits : (v : Values) → SmallValues v → length (ending (values-of v)) ≤ 37
 ending-fits no-values s = omega arith
 ending-fits (its-cost c) s = omega (arith, ending-more (Number c) [], number-width 17 c s)
 ending-fits (its-bound b m n) s =
@@ -56,8 +56,8 @@ ending-fits (its-bound b m n) s =
       ending-more (Number m) (Number n ∷ []),
       ending-more (Number n) [],
       bound-width b (s .0),
-      number-width 5 m (s .1 .0),
-      number-width 5 n (s .1 .1),
+      number-width 6 m (s .1 .0),
+      number-width 6 n (s .1 .1),
     )
 
 -- document 01, The listing program: at most 64 bytes
@@ -71,7 +71,7 @@ line-fits (refused n l u t) s =
       ending-more (Number u) (Number t ∷ []),
       ending-more (Number t) [],
       number-width 1 n (s .0),
-      number-width 5 l (s .1 .0),
+      number-width 6 l (s .1 .0),
       number-width 1 u (s .1 .1 .0),
       number-width 1 t (s .1 .1 .1),
     )

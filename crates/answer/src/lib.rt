@@ -11,6 +11,8 @@ use refusal::Refusal;
 use tree::figures::Bound;
 use writer::Figure;
 
+pub mod values;
+
 // What an accepted tree gives: its bound, its split lines and its leaves.
 pub struct TreeFigures {
     pub bound: Bound,

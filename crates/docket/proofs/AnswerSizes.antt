@@ -1,5 +1,6 @@
--- The line that shows an answer to a text of at most 65,536 bytes has at most 64: a refusal's numbers are small because its line is one of the text's
--- and its unit and period are the problem's, a cost and a bound because they fit, split lines and leaves because each has its line.
+-- The line that shows an answer has at most 64 bytes. A text above 1,048,576 bytes is refused by its length alone; of any other a refusal's numbers are
+-- small because its line is one of the text's and its unit and period are the problem's, a cost and a bound because they fit, split lines and leaves
+-- because each has its line.
 use mathlib.Core.Path.{_≡_, refl, ap, subst, _∙_}
 use mathlib.Core.Bool.{Bool, true, false}
 use mathlib.Core.List.{List, [], _∷_, _++_}
@@ -72,11 +73,11 @@ carried n l k e c = number-small n (suc k) (subst (λ (x : ℕ). refusalOf n x 0
     two k = omega arith
 
 -- a refusal with its line, no unit and no period
-at-line-small : (n l : ℕ) → n < 100 → l < 1_000_000 → Small (answers.refused n l 0 0)
+at-line-small : (n l : ℕ) → n < 100 → l < 10_000_000 → Small (answers.refused n l 0 0)
 at-line-small n l h k = (h, (k, (omega arith, omega arith)))
 
 -- of a line after some lines of the text
-module _ (text : List ℕ) (short : length text ≤ 65536) where
+module _ (text : List ℕ) (short : length text ≤ 1048576) where
   line-small : (n l : ℕ) (before after : List Line) → n < 100 → l ≡ 2 + length before → later (linesOf text) ≡ before ++ after
       → Small (answers.refused n l 0 0)
   line-small n l before after h e p =
@@ -106,10 +107,10 @@ module _ (P : Instance) (W : WellFormed P) (s : Schedule) where
 
 -- ---- every verdict
 
-module _ (text : List ℕ) (short : length text ≤ 65536) where
-  schedule-small : (P : Instance) → WellFormed P → (r : Refusal) → RefusedFor P text r → SmallVerdict (refused r)
-  schedule-small P W r (by-line n l a) = line-small text short n l (a .before) (a .rest) (carried n l (length (a .before)) (a .place) (schedules.refused-carries P text n l a)) (a .place) (a .parts)
-  schedule-small P W r (by-rule b a) = rule-small P W (a .rows) b (a .broken)
+module _ (text : List ℕ) where
+  schedule-small : length text ≤ 1048576 → (P : Instance) → WellFormed P → (r : Refusal) → RefusedFor P text r → SmallVerdict (refused r)
+  schedule-small short P W r (by-line n l a) = line-small text short n l (a .before) (a .rest) (carried n l (length (a .before)) (a .place) (schedules.refused-carries P text n l a)) (a .place) (a .parts)
+  schedule-small short P W r (by-rule b a) = rule-small P W (a .rows) b (a .broken)
 
   pub verdict-small : (o : Option Instance) → Fine o → (v : Verdict) → Is o text v → SmallVerdict v
   verdict-small o W v (too-long h) = at-line-small 11 0 (omega arith) (omega arith)
@@ -118,16 +119,16 @@ module _ (text : List ℕ) (short : length text ≤ 65536) where
   verdict-small o W v (schedule-early h b) = at-line-small 42 0 (omega arith) (omega arith)
   verdict-small o W v (tree-early h b) = at-line-small 42 0 (omega arith) (omega arith)
   verdict-small o W v (problem-refused n l h b r) =
-      line-small text short n l (r .before) (r .rest) (carried n l (length (r .before)) (r .place) (problems.refused-carries n l text r)) (r .place) (r .parts)
+      line-small text h n l (r .before) (r .rest) (carried n l (length (r .before)) (r .place) (problems.refused-carries n l text r)) (r .place) (r .parts)
   verdict-small o W v (a-problem P h e G) = tt
-  verdict-small (some P) W v (schedule-refused r h b f) = schedule-small P W r f
+  verdict-small (some P) W v (schedule-refused r h b f) = schedule-small h P W r f
   verdict-small (some P) W v (a-schedule w s h e ok rows meets) = omega (arith, cost-fits P W s (meets-small P W s meets))
   verdict-small (some P) W v (tree-refused n l h b r) =
-      line-small text short n l (r .before) (r .rest) (carried n l (length (r .before)) (r .place) (trees-read.refused-carries P text n l r)) (r .place) (r .parts)
+      line-small text h n l (r .before) (r .rest) (carried n l (length (r .before)) (r .place) (trees-read.refused-carries P text n l r)) (r .place) (r .parts)
   verdict-small (some P) W v (a-tree w t h e ok within holds) =
       let k = tree-count w t in
       let m : length text ≡ length (trees.render w t) = ap length e in
-      (bound-fits P W root 0 t within, (omega (arith, k, m, short), omega (arith, k, m, short)))
+      (bound-fits P W root 0 t within, (omega (arith, k, m, h), omega (arith, k, m, h)))
 
 -- ---- the answer that lodging gives to it
 
@@ -149,11 +150,11 @@ answer-small was d (tree F) s = go (is-higher (F .bound) (d .held .bound))
     go false = b
 
 -- where o is the problem that is known
-pub verdict-fits : (o : Option Instance) → Fine o → (text : List ℕ) → length text ≤ 65536 → (was d : Docket)
+pub verdict-fits : (o : Option Instance) → Fine o → (text : List ℕ) (was d : Docket)
     → length (answer-line (stated (hold was d (verdict-of o text) .answer))) ≤ 64
-verdict-fits o W text h was d =
+verdict-fits o W text was d =
     line-fits (stated (hold was d (verdict-of o text) .answer))
-    (answer-small was d (verdict-of o text) (verdict-small text h o W (verdict-of o text) (verdict-is o W text)))
+    (answer-small was d (verdict-of o text) (verdict-small text o W (verdict-of o text) (verdict-is o W text)))
 
 -- ---- by any docket, whose arrays have the lengths of the struct's
 
@@ -170,19 +171,19 @@ unknown-any P Q text = go (ltb 1048576 (length text)) (kindOf (lineAt text 0))
     go false kind.Tree = refl
 
 module _ (d : Docket) (many : length (d .problem .demand) ≡ 48) (more : length (d .problem .spare) ≡ 48) (units : length (d .problem .generators) ≡ 32)
-    (text : List ℕ) (h : length text ≤ 65536) where
+    (text : List ℕ) where
   judged-fits : (known : Bool) → sound d ≡ true → d .known ≡ known → length (answer-line (stated (hold d d (judged known (view (d .problem)) text) .answer))) ≤ 64
   judged-fits true e k =
       let ok = passes-valid (d .problem) many more units (sound-valid d e k) in
-      verdict-fits (some (view (d .problem))) (ok .well-formed) text h d d
+      verdict-fits (some (view (d .problem))) (ok .well-formed) text d d
   judged-fits false e k =
       subst (λ (v : Verdict). length (answer-line (stated (hold d d v .answer))) ≤ 64) (unknown-any (view blank-problem) (view (d .problem)) text)
-      (verdict-fits none tt text h d d)
+      (verdict-fits none tt text d d)
 
-  -- a line for the answer to a text of the listing has at most 64 bytes
+  -- the line for the answer to any text has at most 64 bytes
   pub answer-fits : length (answer-line (stated (lodge-of d text .answer))) ≤ 64
   answer-fits = go (sound d) refl
     where
       go : (t : Bool) → sound d ≡ t → length (answer-line (stated (lodge-of d text .answer))) ≤ 64
       go true e = rw (lodge-sound d text e) (judged-fits (d .known) e refl)
-      go false e = rw (lodge-unsound d text e) (verdict-fits none tt text h d fresh-docket)
+      go false e = rw (lodge-unsound d text e) (verdict-fits none tt text d fresh-docket)

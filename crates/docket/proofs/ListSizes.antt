@@ -6,7 +6,6 @@ use Prim.Native.Nat.{ℕ, _*_, _≤_}
 use native.Mathlib.Omega.{arith}
 use lib.ListN.{length, length-append}
 use Rattle.model.specs.Instance.{Instance}
-use Rattle.model.specs.Ranges.{All}
 use Rattle.answer.specs.Answers.{stated}
 use Rattle.answer.specs.AnswerLines.{answer-line}
 use Rattle.docket.specs.declared.Docket.{Docket}
@@ -31,32 +30,31 @@ fine : (o : Option Instance) (past : List Verdict) → Proper o past → Fine o
 fine none past p = tt
 fine (some P) past p = p .0
 
-next-fits : (o : Option Instance) (past : List Verdict) → Proper o past → (text : List ℕ) → length text ≤ 65536 → LineFits (docket-of o past) text
-next-fits o past p text h =
+next-fits : (o : Option Instance) (past : List Verdict) → Proper o past → (text : List ℕ) → LineFits (docket-of o past) text
+next-fits o past p text =
     subst (λ (l : Lodged). length (answer-line (stated (l .answer))) ≤ 64) (sym (lodge-is o past p text))
-    (verdict-fits o (fine o past p) text h (docket-of o past) (docket-of o past))
+    (verdict-fits o (fine o past p) text (docket-of o past) (docket-of o past))
 
 -- the line for one text more
-pub reached-fits : (texts : List (List ℕ)) (text : List ℕ) → length text ≤ 65536 → LineFits (docket-after lodge-of fresh-docket texts) text
-reached-fits texts text h =
+pub reached-fits : (texts : List (List ℕ)) (text : List ℕ) → LineFits (docket-after lodge-of fresh-docket texts) text
+reached-fits texts text =
     let r = lodges none [] (refl, refl) texts in
     let vs = verdicts-of none texts in
-    subst (λ (d : Docket). LineFits d text) (sym (r .docket-is)) (next-fits (known-at-end none vs) vs (r .proper) text h)
+    subst (λ (d : Docket). LineFits d text) (sym (r .docket-is)) (next-fits (known-at-end none vs) vs (r .proper) text)
 
 abbrev LinesFit : Docket → List (List ℕ) → Type 0
 LinesFit d texts = length (answer-lines (answers-to lodge-of d texts)) ≤ 64 * length texts
 
-lines-from : (o : Option Instance) (past : List Verdict) → Proper o past → (texts : List (List ℕ)) → All (λ (t : List ℕ). length t ≤ 65536) texts
-    → LinesFit (docket-of o past) texts
-lines-from o past p [] a = omega arith
-lines-from o past p (text ∷ texts) a =
+lines-from : (o : Option Instance) (past : List Verdict) → Proper o past → (texts : List (List ℕ)) → LinesFit (docket-of o past) texts
+lines-from o past p [] = omega arith
+lines-from o past p (text ∷ texts) =
     let r = lodges o past p (text ∷ []) in
     let v = verdict-of o text in
     let l = lodge-of (docket-of o past) text in
     let rest : LinesFit (l .docket) texts =
-    subst (λ (d : Docket). LinesFit d texts) (sym (r .docket-is)) (lines-from (known-after o v) (past ++ (v ∷ [])) (r .proper) texts (a .1)) in
-    omega (arith, length-append (answer-line (stated (l .answer))) (answer-lines (answers-to lodge-of (l .docket) texts)), next-fits o past p text (a .0), rest)
+    subst (λ (d : Docket). LinesFit d texts) (sym (r .docket-is)) (lines-from (known-after o v) (past ++ (v ∷ [])) (r .proper) texts) in
+    omega (arith, length-append (answer-line (stated (l .answer))) (answer-lines (answers-to lodge-of (l .docket) texts)), next-fits o past p text, rest)
 
 -- the lines for all
-pub lines-fit : (texts : List (List ℕ)) → All (λ (t : List ℕ). length t ≤ 65536) texts → LinesFit fresh-docket texts
-lines-fit texts a = lines-from none [] (refl, refl) texts a
+pub lines-fit : (texts : List (List ℕ)) → LinesFit fresh-docket texts
+lines-fit texts = lines-from none [] (refl, refl) texts

@@ -5,7 +5,7 @@ use native.Mathlib.Omega.{arith}
 use mathlib.Core.Path.{_≡_, refl, sym, ap, _∙_}
 use mathlib.Core.Bool.{true}
 use mathlib.Core.List.{List, [], _∷_, _++_, append-assoc, append-nil}
-use lib.ListN.{length, take, drop, length-append, length-take, length-drop}
+use lib.ListN.{length, take, drop, length-append}
 use lib.Seq.{take-at, drop-at, drop-drop}
 use Rattle.pieces.specs.Pieces.{pieces, piece-after}
 use Rattle.pieces.proofs.Places.{pieces-none, piece-there, piece-moves, piece-within, piece-long}
@@ -96,11 +96,8 @@ text-at input place = take (piece-after input place - place) (drop place input)
 
 module _ (input room : List ℕ) (limit : length input ≤ 65536) (large : 1048576 ≤ length room)
     (d : Docket) (n place : ℕ) (output : List ℕ) (s : SoFar input room d n place output) (h : place < length input) where
-  text-short : length (text-at input place) ≤ 65536
-  text-short = omega (arith, length-take (piece-after input place - place) (drop place input), length-drop place input)
-
   short : length (line-of (s .past) (text-at input place)) ≤ 64
-  short = reached-fits (s .past) (text-at input place) text-short
+  short = reached-fits (s .past) (text-at input place)
 
   fit : length (lines-of-texts (s .past)) + length (line-of (s .past) (text-at input place)) ≤ length room
   fit = omega (arith, short, s .fits h, s .many)

@@ -8,7 +8,6 @@ use mathlib.Core.List.{List, [], _∷_}
 use lib.Dec.{ltb}
 use borrow.Author.Tests.{ltb-false}
 use lib.ListN.{length, length-append}
-use Rattle.model.specs.Ranges.{All}
 use Rattle.pieces.specs.Pieces.{pieces}
 use Rattle.pieces.specs.Cut.{joined, Cut}
 use Rattle.pieces.proofs.TheCut.{joined-pieces, pieces-cut, first-some, first-long, cut-later}
@@ -31,22 +30,14 @@ pieces-few (p ∷ []) k = omega (arith, first-some p [] k, length-append p [])
 pieces-few (p ∷ q ∷ ps) k =
     omega (arith, first-long p q ps k, pieces-few (q ∷ ps) (cut-later p (q ∷ ps) k), length-append p (joined (q ∷ ps)))
 
--- no piece is longer than the input
-pieces-short : (most : ℕ) (ps : List (List ℕ)) → length (joined ps) ≤ most → All (λ (t : List ℕ). length t ≤ most) ps
-pieces-short most [] h = tt
-pieces-short most (p ∷ ps) h =
-    (omega (arith, h, length-append p (joined ps)), pieces-short most ps (omega (arith, h, length-append p (joined ps))))
-
 listed-fits : (input : List ℕ) → length input ≤ 65536 → length (listed (pieces input)) ≤ 1048576
 listed-fits input h =
     let texts = pieces input in
-    let same = ap length (joined-pieces input) in
-    let lines = lines-fit texts (pieces-short 65536 texts (omega (arith, same, h))) in
     omega (
       arith,
       h,
-      same,
-      lines,
+      ap length (joined-pieces input),
+      lines-fit texts,
       pieces-few texts (pieces-cut input),
       reached-most texts,
       ap length (shown-reached texts),
