@@ -119,7 +119,7 @@ module _ (texts : List (List ℕ)) (vs : List Verdict) (are : Are none texts vs)
       go (some P) h p = by-bound P (after texts .held .bound) (h .bound-held)
 
   module _ (P : Instance) (known : given vs ≡ some P) where
-    under : HoldsUnder P vs (after texts)
+    pub under : HoldsUnder P vs (after texts)
     under = subst (λ (o : Option Instance). Holding o vs (after texts)) known holding
 
     module _ (by : CostBy) (e : after texts .held .cost ≡ cost.Number by) where

@@ -17,7 +17,7 @@ pub mod held;
 mod holding;
 pub mod listing;
 mod lodging;
-mod sound;
+pub mod sound;
 
 // A problem if one is known, what is held under it, and the held schedule's rows: row u from u times T on, zeros after the last.
 pub struct Docket {

@@ -1,0 +1,28 @@
+-- Slices that hold a docket hold a sound one.
+use mathlib.Core.Path.{_≡_, refl, sym, ap, _∙_}
+use mathlib.Core.Bool.{Bool, true, false}
+use mathlib.Core.List.{List}
+use Prim.Native.Nat.{ℕ}
+use lib.Dec.{eqb}
+use Rattle.model.specs.Instance.{_at_}
+use Rattle.docket.specs.declared.Docket.{Docket}
+use Rattle.docket.specs.Docket.{sound}
+use Rattle.docket.specs.Lodging.{pick}
+use Rattle.state.specs.declared.Opened.{Opened}
+use Rattle.state.specs.Layout.{mark, docket-in}
+use Rattle.state.specs.Kept.{holds, opened}
+use Rattle.state.proofs.Room.{clash}
+
+module _ (v w : List ℕ) where
+  holds-sound : holds v w ≡ true → sound (docket-in v w) ≡ true
+  unfolding holds
+  holds-sound e = go (eqb (v at 0) mark) e
+    where
+      go : (t : Bool) → pick t (sound (docket-in v w)) false ≡ true → sound (docket-in v w) ≡ true
+      go true k = k
+      go false k = clash k
+
+  -- a docket that was opened
+  pub held-sound : (x : Opened) → x ≡ opened v w → x .is ≡ true → sound (x .docket) ≡ true
+  held-sound x e i =
+      ap (λ (y : Opened). sound (y .docket)) e ∙ holds-sound (ap (λ (y : Opened). y .is) (sym e) ∙ i)
