@@ -1,3 +1,8 @@
 -- What a host may rely on.
 pub mod ListingSizes
 pub mod HostAnswers
+pub mod Calls
+pub mod Hosted
+pub mod Contracts
+pub mod Examples
+pub mod HostPromises

@@ -1,13 +1,166 @@
-// The listing for programs in C and Rust: one function on bytes, in the archive libdocket_host.a (hosts/).
+// The docket for programs in C, Rust and Python (hosts/), in the archive libdocket_host.a: a docket that stays open, whose state lies in two
+// slices that the caller lends and keeps between calls; and the listing, one function on bytes.
 ghost use mathlib.Core.Path.{_≡_};
 ghost use Rattle.docket.specs.Listing.{listed-of, output-of};
+ghost use Rattle.state.specs.Layout.{numbers-count, rows-count};
 ghost use Rattle.docket_host.specs.HostAnswer.{host-answer};
+ghost use Rattle.docket_host.specs.Calls.{rules, fresh-answer, fresh-numbers, fresh-rows, lodge-room, lodge-answer, lodge-numbers, lodge-rows, lodge-line, lodge-values, report-number, report-answer, report-bytes, outputs-room, outputs-answer, outputs-rows};
+use docket::Docket;
 use docket::listing::Listed;
+use report::ReportAnswer;
 
-// The answer where the output has fewer than 1,048,576 bytes: DOCKET_OUTPUT_TOO_SMALL of hosts/c/docket.h.
-pub const OUTPUT_TOO_SMALL: usize = 18446744073709551615;
+// What a call answers where it does nothing (hosts/c/docket.h): too little is lent; the state holds no docket.
+pub const TOO_SMALL: usize = 18446744073709551615;
 
-// How many bytes of the output hold the input's listing; or OUTPUT_TOO_SMALL, with the output as it was.
+pub const NO_DOCKET: usize = 18446744073709551614;
+
+// The number of the rules by which texts are judged.
+#[no_mangle]
+pub extern "C" fn docket_rules() -> usize
+    ensures { λ r. ⌜ r ≡ rules ⌝ }
+{
+    1
+}
+
+// How many numbers the first slice of a state has.
+#[no_mangle]
+pub extern "C" fn docket_numbers() -> usize
+    ensures { λ r. ⌜ r ≡ numbers-count ⌝ }
+{
+    586
+}
+
+// How many numbers its second slice has.
+#[no_mangle]
+pub extern "C" fn docket_rows() -> usize
+    ensures { λ r. ⌜ r ≡ rows-count ⌝ }
+{
+    1536
+}
+
+// 0, and the state is that of a docket that holds nothing; or TOO_SMALL, and nothing is changed.
+#[no_mangle]
+pub extern "C" fn docket_fresh(numbers: &mut [u64], rows: &mut [u16]) -> usize
+    ensures answer { λ r. ⌜ r ≡ fresh-answer (now (numbers .entry)) (now (rows .entry)) ⌝ }
+    ensures numbers { λ _. ⌜ now (numbers .exit) ≡ fresh-numbers (now (numbers .entry)) (now (rows .entry)) ⌝ }
+    ensures rows { λ _. ⌜ now (rows .exit) ≡ fresh-rows (now (numbers .entry)) (now (rows .entry)) ⌝ }
+{
+    if state::is_long(numbers, rows) {
+        let docket = Docket::fresh();
+        state::keep(docket, numbers, rows);
+        return 0;
+    }
+    TOO_SMALL
+}
+
+// Whether as much is lent as `docket_lodge` asks for.
+fn has_lodge_room(numbers: &[u64], rows: &[u16], line: &[u8], values: &[u64]) -> bool
+    ensures { λ r. ⌜ r ≡ lodge-room (now (numbers .entry)) (now (rows .entry)) (now (line .entry)) (now (values .entry)) ⌝ }
+{
+    if state::is_long(numbers, rows) {
+        if line.len() < 128 {
+            return false;
+        }
+        return 16 <= values.len();
+    }
+    false
+}
+
+// How many bytes of `line` hold the line of the answer to the text, whose numbers `values` begins with; the state is that of the docket
+// after the text. Or TOO_SMALL or NO_DOCKET, and nothing is changed.
+#[no_mangle]
+pub extern "C" fn docket_lodge(
+    numbers: &mut [u64],
+    rows: &mut [u16],
+    text: &[u8],
+    line: &mut [u8],
+    values: &mut [u64],
+) -> usize
+    ensures answer { λ r. ⌜ r ≡ lodge-answer (now (numbers .entry)) (now (rows .entry)) (now (text .entry)) (now (line .entry)) (now (values .entry)) ⌝ }
+    ensures numbers { λ _. ⌜ now (numbers .exit) ≡ lodge-numbers (now (numbers .entry)) (now (rows .entry)) (now (text .entry)) (now (line .entry)) (now (values .entry)) ⌝ }
+    ensures rows { λ _. ⌜ now (rows .exit) ≡ lodge-rows (now (numbers .entry)) (now (rows .entry)) (now (text .entry)) (now (line .entry)) (now (values .entry)) ⌝ }
+    ensures line { λ _. ⌜ now (line .exit) ≡ lodge-line (now (numbers .entry)) (now (rows .entry)) (now (text .entry)) (now (line .entry)) (now (values .entry)) ⌝ }
+    ensures values { λ _. ⌜ now (values .exit) ≡ lodge-values (now (numbers .entry)) (now (rows .entry)) (now (text .entry)) (now (line .entry)) (now (values .entry)) ⌝ }
+{
+    if has_lodge_room(numbers, rows, line, values) {
+        let opened = state::opened_in(numbers, rows);
+        if opened.is {
+            let docket = opened.docket;
+            let lodged = docket.lodge(text);
+            let answer = lodged.answer;
+            state::keep_held(lodged, numbers, rows);
+            let figures = answer::values::answer_numbers(answer);
+            numbers::copies::store(values, 0, &figures);
+            return answer::write_answer(line, answer);
+        }
+        return NO_DOCKET;
+    }
+    TOO_SMALL
+}
+
+// The report's answer as one number.
+fn report_number(answer: ReportAnswer) -> usize
+    ensures { λ r. ⌜ r ≡ report-number answer ⌝ }
+{
+    match answer {
+        ReportAnswer::Refused(_) => TOO_SMALL,
+        ReportAnswer::Written(n) => n,
+    }
+}
+
+// How many bytes of the buffer from `at` on hold the docket's report. Or TOO_SMALL (43, or a short state) or NO_DOCKET, and nothing is changed.
+#[no_mangle]
+pub extern "C" fn docket_report(
+    numbers: &[u64],
+    rows: &[u16],
+    buffer: &mut [u8],
+    at: usize,
+) -> usize
+    ensures answer { λ r. ⌜ r ≡ report-answer (now (numbers .entry)) (now (rows .entry)) (now (buffer .entry)) at ⌝ }
+    ensures bytes { λ _. ⌜ now (buffer .exit) ≡ report-bytes (now (numbers .entry)) (now (rows .entry)) (now (buffer .entry)) at ⌝ }
+{
+    if state::is_long(numbers, rows) {
+        let opened = state::opened_in(numbers, rows);
+        if opened.is {
+            let docket = opened.docket;
+            let reported = docket.report(buffer, at);
+            let answer = reported.answer;
+            return report_number(answer);
+        }
+        return NO_DOCKET;
+    }
+    TOO_SMALL
+}
+
+// Whether as much is lent as `docket_outputs` asks for.
+fn has_outputs_room(numbers: &[u64], rows: &[u16], outputs: &[u16]) -> bool
+    ensures { λ r. ⌜ r ≡ outputs-room (now (numbers .entry)) (now (rows .entry)) (now (outputs .entry)) ⌝ }
+{
+    if state::is_long(numbers, rows) {
+        return 1536 <= outputs.len();
+    }
+    false
+}
+
+// How many outputs the held schedule has, 0 where none is held; they stand at the front of `outputs`, unit u's from u times T on. Or TOO_SMALL or
+// NO_DOCKET, and nothing is changed.
+#[no_mangle]
+pub extern "C" fn docket_outputs(numbers: &[u64], rows: &[u16], outputs: &mut [u16]) -> usize
+    ensures answer { λ r. ⌜ r ≡ outputs-answer (now (numbers .entry)) (now (rows .entry)) (now (outputs .entry)) ⌝ }
+    ensures rows { λ _. ⌜ now (outputs .exit) ≡ outputs-rows (now (numbers .entry)) (now (rows .entry)) (now (outputs .entry)) ⌝ }
+{
+    if has_outputs_room(numbers, rows, outputs) {
+        let opened = state::opened_in(numbers, rows);
+        if opened.is {
+            let docket = opened.docket;
+            return state::copy_outputs(docket, outputs);
+        }
+        return NO_DOCKET;
+    }
+    TOO_SMALL
+}
+
+// How many bytes of the output hold the input's listing; or TOO_SMALL, with the output as it was.
 #[no_mangle]
 pub extern "C" fn docket_listing(input: &[u8], output: &mut [u8]) -> usize
     ensures answer { λ r. ⌜ r ≡ host-answer (listed-of (now (input .entry)) (now (output .entry))) ⌝ }
@@ -15,7 +168,7 @@ pub extern "C" fn docket_listing(input: &[u8], output: &mut [u8]) -> usize
 {
     let listed = docket::listing::list(input, output);
     match listed {
-        Listed::TooSmall => OUTPUT_TOO_SMALL,
+        Listed::TooSmall => TOO_SMALL,
         Listed::Written(n) => n,
     }
 }

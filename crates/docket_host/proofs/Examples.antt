@@ -1,0 +1,29 @@
+-- What the calls ask for, by computation: as much as the header says, and not one less.
+use mathlib.Core.Path.{_≡_, refl}
+use mathlib.Core.Bool.{true, false}
+use Prim.Native.Nat.{_-_, _^_}
+use lib.ListN.{replicate}
+use Rattle.docket_host.specs.HostAnswer.{too-small}
+use Rattle.docket_host.specs.Calls.{no-docket, lodge-room, outputs-room}
+
+lodge-enough : lodge-room (replicate 586 0) (replicate 1536 0) (replicate 128 0) (replicate 16 0) ≡ true
+lodge-enough = refl
+
+line-short : lodge-room (replicate 586 0) (replicate 1536 0) (replicate 127 0) (replicate 16 0) ≡ false
+line-short = refl
+
+values-short : lodge-room (replicate 586 0) (replicate 1536 0) (replicate 128 0) (replicate 15 0) ≡ false
+values-short = refl
+
+state-short : lodge-room (replicate 585 0) (replicate 1536 0) (replicate 128 0) (replicate 16 0) ≡ false
+state-short = refl
+
+outputs-enough : outputs-room (replicate 586 0) (replicate 1536 0) (replicate 1536 0) ≡ true
+outputs-enough = refl
+
+outputs-short : outputs-room (replicate 586 0) (replicate 1536 0) (replicate 1535 0) ≡ false
+outputs-short = refl
+
+-- SIZE_MAX and SIZE_MAX - 1
+the-numbers : (too-small ≡ 2 ^ 64 - 1) × (no-docket ≡ 2 ^ 64 - 2)
+the-numbers = (refl, refl)

@@ -1,0 +1,143 @@
+-- What a host is promised, on one page. A state is two slices, `numbers` and `rows`; v and w are what they hold. `after-calls (fresh-state v w) calls` is the
+-- state after `docket_fresh` on any two slices that are long enough and then calls of `docket_lodge`, each with a text and with a line and values that
+-- are lent for its answer; `after texts` and `answer texts text` are the docket and the answer of the page of promises
+-- (crates/docket/proofs/Promises.antt), so that all of that page holds of them.
+use mathlib.Core.Path.{_≡_, refl, sym, ap, _∙_}
+use mathlib.Core.Bool.{true, false}
+use mathlib.Core.List.{List, []}
+use mathlib.Core.Option.{none, some}
+use Prim.Native.Nat.{ℕ, _+_, _≤_, _<_}
+use native.Mathlib.Omega.{arith}
+use lib.ListN.{length}
+use Rattle.model.specs.Instance.{Instance}
+use Rattle.model.specs.Ranges.{All}
+use Rattle.model.specs.Best.{FirstLeast}
+use Rattle.judge.specs.Rows.{joined}
+use Rattle.writer.specs.Written.{over}
+use Rattle.answer.specs.Answers.{Stated, stated}
+use Rattle.answer.specs.AnswerLines.{answer-line}
+use Rattle.answer.specs.AnswerNumbers.{answer-numbers}
+use Rattle.answer.proofs.NumbersTell as numbers
+use Rattle.docket.specs.declared.Docket.{Docket}
+use Rattle.docket.specs.declared.held.CostBy.{CostBy}
+use Rattle.docket.specs.declared.held.HeldCost.the-variants as cost
+use Rattle.docket.specs.Verdicts.{Costed, Verdict, schedules}
+use Rattle.docket.specs.Texts.{Are}
+use Rattle.docket.specs.Lodging.{lodge-of}
+use Rattle.docket.specs.Demand3.{Unheld}
+use Rattle.docket.specs.ReportDue.{ReportDue}
+use Rattle.docket.specs.Promised.{after, answer, given}
+use Rattle.state.specs.Layout.{docket-in}
+use Rattle.state.specs.Kept.{long, holds, kept-numbers, kept-rows, State, Holds, outputs-of}
+use Rattle.state.proofs.Fits.{Fits}
+use Rattle.state.proofs.Again as again
+use Rattle.state.proofs.ReachedFits as reached
+use Rattle.state.proofs.Lodged as state
+use Rattle.state.proofs.Outputs as held
+use Rattle.docket_host.specs.HostAnswer.{too-small}
+use Rattle.docket_host.specs.Calls.{no-docket, lodge-room, fresh-answer, fresh-numbers, fresh-rows, lodge-answer, lodge-numbers, lodge-rows, lodge-line, lodge-values, report-answer, report-bytes, outputs-room, outputs-answer, outputs-rows}
+use Rattle.docket_host.specs.Lending.{Lending, Enough, texts-of, fresh-state, after-calls, HostReport}
+use Rattle.docket_host.proofs.Calls as call
+use Rattle.docket_host.proofs.Hosted as hosted
+use Rattle.docket_host.proofs.docket_fresh.Statement as fresh
+use Rattle.docket_host.proofs.docket_fresh.Met as fresh-met
+use Rattle.docket_host.proofs.docket_lodge.Statement as lodge
+use Rattle.docket_host.proofs.docket_lodge.Met as lodge-met
+use Rattle.docket_host.proofs.docket_report.Statement as report
+use Rattle.docket_host.proofs.docket_report.Met as report-met
+use Rattle.docket_host.proofs.docket_outputs.Statement as outputs
+use Rattle.docket_host.proofs.docket_outputs.Met as outputs-met
+use Rattle.docket_host.proofs.docket_listing.Statement as listing
+use Rattle.docket_host.proofs.docket_listing.Met as listing-met
+
+-- ---- Every call comes to its end and does nothing undefined, whatever slices it is lent. The theorems ask nothing of the caller and fix all that comes
+-- back (Contracts.antt), so that the definitions named below (specs/Calls.antt) are what the calls do
+
+pub calls-end : {M : Type 1} → fresh.statement M × lodge.statement M × report.statement M × outputs.statement M × listing.statement M
+calls-end = (fresh-met.met, lodge-met.met, report-met.met, outputs-met.met, listing-met.met)
+
+-- ---- Of any slices: with too little room, or where the state holds no docket, a call says so and leaves all
+
+pub fresh-short : (v w : List ℕ) → long v w ≡ false → (too-small ≡ fresh-answer v w) × ((v ≡ fresh-numbers v w) × (w ≡ fresh-rows v w))
+fresh-short = call.fresh-short
+
+pub lodge-short : (v w text line values : List ℕ) → lodge-room v w line values ≡ false
+    → (too-small ≡ lodge-answer v w text line values) × ((v ≡ lodge-numbers v w text line values) × ((w ≡ lodge-rows v w text line values)
+    × ((line ≡ lodge-line v w text line values) × (values ≡ lodge-values v w text line values))))
+lodge-short = call.lodge-short
+
+pub lodge-none : (v w text line values : List ℕ) → lodge-room v w line values ≡ true → holds v w ≡ false
+    → (no-docket ≡ lodge-answer v w text line values) × ((v ≡ lodge-numbers v w text line values) × ((w ≡ lodge-rows v w text line values)
+    × ((line ≡ lodge-line v w text line values) × (values ≡ lodge-values v w text line values))))
+lodge-none = call.lodge-none
+
+pub report-none : (v w b : List ℕ) (k : ℕ) → long v w ≡ true → holds v w ≡ false → (no-docket ≡ report-answer v w b k) × (b ≡ report-bytes v w b k)
+report-none = call.report-none
+
+pub outputs-none : (v w o : List ℕ) → outputs-room v w o ≡ true → holds v w ≡ false → (no-docket ≡ outputs-answer v w o) × (o ≡ outputs-rows v w o)
+outputs-none = call.outputs-none
+
+-- Of slices that hold a docket, whoever wrote them: a length is never one of the two numbers, and a refused or passed text leaves the state as it was
+
+pub length-apart : (v w text line values : List ℕ) → lodge-room v w line values ≡ true → holds v w ≡ true → lodge-answer v w text line values < no-docket
+length-apart = call.length-apart
+
+pub unheld-leaves : (v w text line values : List ℕ) → Unheld (stated (lodge-of (docket-in v w) text .answer))
+    → (lodge-numbers v w text line values ≡ v) × (lodge-rows v w text line values ≡ w)
+unheld-leaves = call.unheld-leaves
+
+-- A docket that texts lead to, kept in slices, is had again whole
+pub docket-again : (texts : List (List ℕ)) (v w : List ℕ) → docket-in (kept-numbers (after texts) v) (kept-rows (after texts) w) ≡ after texts
+docket-again texts = again.docket-again (after texts) (reached.reached-fits texts)
+
+-- Equal values, equal answers
+pub values-tell : (s t : Stated) → answer-numbers s ≡ answer-numbers t → s ≡ t
+values-tell = numbers.numbers-tell
+
+-- ---- After every list of calls that are lent enough, from a fresh state
+
+module _ (v w : List ℕ) (room : long v w ≡ true) (calls : List Lending) (enough : All Enough calls) where
+  abbrev s : State
+  s = after-calls (fresh-state v w) calls
+
+  abbrev texts : List (List ℕ)
+  texts = texts-of calls
+
+  -- the state holds the docket after the texts
+  pub state-holds : Holds s (after texts)
+  state-holds = hosted.holds-after v w room calls enough
+
+  -- One call more: the length and the line of the answer, and its values
+  module _ (c : Lending) (e : Enough c) where
+    pub answer-length : lodge-answer (s .numbers) (s .rows) (c .text) (c .line) (c .values) ≡ length (answer-line (answer texts (c .text)))
+    answer-length = hosted.length-is s (after texts) state-holds c e
+
+    pub answer-is : lodge-line (s .numbers) (s .rows) (c .text) (c .line) (c .values) ≡ over (answer-line (answer texts (c .text))) (c .line)
+    answer-is = hosted.line-is s (after texts) state-holds c e
+
+    pub answer-values : lodge-values (s .numbers) (s .rows) (c .text) (c .line) (c .values) ≡ over (answer-numbers (answer texts (c .text))) (c .values)
+    answer-values = hosted.values-are s (after texts) state-holds c e
+
+  -- The outputs that are told are the held schedule's
+  pub outputs-told : (o : List ℕ) → 1536 ≤ length o
+      → (outputs-answer (s .numbers) (s .rows) o ≡ length (outputs-of (after texts))) × (outputs-rows (s .numbers) (s .rows) o ≡ over (outputs-of (after texts)) o)
+  outputs-told = hosted.outputs-told s texts state-holds
+
+  -- so let vs be what the texts are
+  module _ (vs : List Verdict) (are : Are none texts vs) where
+    -- A report, at every buffer and place: the seven lines due to the accepted texts stand there, or it is 43, and too little room is said
+    pub reports : (b : List ℕ) (k : ℕ) → (lines : List ℕ) × ReportDue vs lines
+        × HostReport lines b k (report-answer (s .numbers) (s .rows) b k) (report-bytes (s .numbers) (s .rows) b k)
+    reports = hosted.report-due s texts state-holds vs are
+
+    -- every report fits the 256 bytes that the header says to lend
+    pub report-fits : (b : List ℕ) (k : ℕ) → k + 256 ≤ length b → report-answer (s .numbers) (s .rows) b k ≤ 171
+    report-fits = hosted.report-fits s texts state-holds
+
+    -- The outputs held: none while no schedule was accepted; else the rows, one after the other, of the first accepted schedule with the least cost
+    pub no-outputs : after texts .held .cost ≡ cost.Nothing → outputs-of (after texts) ≡ []
+    no-outputs = held.no-outputs (after texts)
+
+    pub held-outputs : (P : Instance) → given vs ≡ some P → (by : CostBy) → after texts .held .cost ≡ cost.Number by
+        → (x : Costed) × FirstLeast (λ x. x .cost) x (schedules vs) × (outputs-of (after texts) ≡ joined (x .rows))
+    held-outputs = held.outputs-after texts vs are

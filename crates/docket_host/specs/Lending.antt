@@ -1,0 +1,44 @@
+-- Calls of `docket_lodge` one after the other on one state, and what a report asked of it gives.
+use mathlib.Core.Path.{_≡_}
+use mathlib.Core.List.{List, [], _∷_, _++_}
+use mathlib.Core.Logic.{_⊎_}
+use Prim.Native.Nat.{ℕ, _+_, _≤_, _<_}
+use lib.ListN.{length, take, drop}
+use Rattle.state.specs.Kept.{State}
+use Rattle.docket_host.specs.HostAnswer.{too-small}
+use Rattle.docket_host.specs.Calls.{fresh-numbers, fresh-rows, lodge-numbers, lodge-rows}
+
+-- a text, and what is lent for its answer
+pub record Lending : Type 0 where
+  pub text : List ℕ
+  pub line : List ℕ
+  pub values : List ℕ
+
+-- as much is lent as the call asks for
+abbrev pub Enough : Lending → Type 0
+Enough c = (128 ≤ length (c .line)) × (16 ≤ length (c .values))
+
+abbrev pub texts-of : List Lending → List (List ℕ)
+texts-of [] = []
+texts-of (c ∷ cs) = c .text ∷ texts-of cs
+
+-- the state after `docket_fresh`
+abbrev pub fresh-state : List ℕ → List ℕ → State
+fresh-state v w = record { numbers = fresh-numbers v w; rows = fresh-rows v w }
+
+-- and after a call, and after calls
+abbrev pub called : State → Lending → State
+called s c = record {
+  numbers = lodge-numbers (s .numbers) (s .rows) (c .text) (c .line) (c .values);
+  rows = lodge-rows (s .numbers) (s .rows) (c .text) (c .line) (c .values);
+}
+
+abbrev pub after-calls : State → List Lending → State
+after-calls s [] = s
+after-calls s (c ∷ cs) = after-calls (called s c) cs
+
+-- a report of these lines at the place k of the buffer b: their length, and they stand there, the bytes outside as they were; or, exactly where from the
+-- place on the buffer has no room for them, too little room, and the buffer is as it was
+abbrev pub HostReport : (lines b : List ℕ) (k r : ℕ) (b′ : List ℕ) → Type 0
+HostReport lines b k r b′ = ((k + length lines ≤ length b) × (r ≡ length lines) × (b′ ≡ take k b ++ (lines ++ drop (k + length lines) b)))
+    ⊎ ((length b < k + length lines) × (r ≡ too-small) × (b′ ≡ b))
