@@ -1,5 +1,5 @@
 #!/usr/bin/env bash
-# Tests the docket's listing from Rust and C over the proved archive, which is built first where it is missing or older than the
+# Tests the docket from Rust, C and Python over the proved archive, which is built first where it is missing or older than the
 # crates. The last line is 'N passed, 0 failed'; any failure makes the exit status non-zero. SEED=7 repeats the inputs of seed 7.
 set -u
 export LC_ALL=C
@@ -25,6 +25,34 @@ count() {
   fi
 }
 
+# counted NAME COMMAND..: a command whose last line is 'N passed, M failed'
+counted() {
+  local name=$1 status
+  shift
+  say "$name"
+  "$@" | tee "$work/log"
+  status=${PIPESTATUS[0]}
+  if [[ $(tail -n 1 "$work/log") =~ ^([0-9]+)\ passed,\ ([0-9]+)\ failed$ ]]; then
+    count "${BASH_REMATCH[1]}" "${BASH_REMATCH[2]}" "$name"
+    if [ "$status" -ne 0 ] && [ "${BASH_REMATCH[2]}" -eq 0 ]; then count 0 1; fi
+  else
+    count 0 1
+    echo "no last line: $name"
+  fi
+}
+
+# check NAME COMMAND..: a command that succeeds
+check() {
+  local name=$1
+  shift
+  if "$@"; then
+    count 1 0
+  else
+    count 0 1
+    echo "failed: $name"
+  fi
+}
+
 # finish: the last line
 finish() {
   say 'done'
@@ -41,13 +69,24 @@ build_archive() {
   [ -f "$archive" ]
 }
 
-# The archive defines one function for others, keeps no data that can be written, and calls the C library's memory functions alone.
+# The archive defines the calls of the header for others and nothing else, keeps no data that can be written, and calls the C
+# library's memory functions alone.
 symbols() {
   say 'the archive'
-  nm "$archive" | awk 'NF > 1 { print $(NF - 1), $NF }' >"$work/symbols"
-  if [ "$(grep '^[A-TV-Z] ' "$work/symbols")" = 'T docket_listing' ]; then count 1 0; else count 0 1; cat "$work/symbols"; fi
-  if grep -q '^[BbCDdGgSs] ' "$work/symbols"; then count 0 1; cat "$work/symbols"; else count 1 0; fi
-  if grep '^U ' "$work/symbols" | grep -qvxE 'U (memcpy|memset)'; then count 0 1; cat "$work/symbols"; else count 1 0; fi
+  nm "$archive" | awk 'NF > 1 { print $(NF - 1), $NF }' | sort >"$work/symbols"
+  grep '^[A-TV-Z] ' "$work/symbols" >"$work/defined"
+  sed -n 's/^size_t \(docket_[a-z_]*\)(.*/T \1/p' hosts/c/docket.h | sort >"$work/declared"
+  check 'the header declares calls' [ -s "$work/declared" ]
+  check 'the archive defines the calls of the header' diff "$work/declared" "$work/defined"
+  check 'the archive keeps no data' lacks '^[BbCDdGgSs] '
+  check 'the archive calls memcpy and memset alone' lacks '^U ' -vxE 'U (memcpy|memset)'
+}
+
+# lacks PATTERN [WORD..]: no symbol matches, or none of those that grep WORD.. finds
+lacks() {
+  local pattern=$1
+  shift
+  ! grep "${@:-.}" "$work/symbols" | grep "$pattern"
 }
 
 rust() {
@@ -66,28 +105,98 @@ rust() {
   count "$good" "$bad" 'cargo test'
 }
 
-# The program that lists a file, on every example and on too much input; and the header's promises, on every committed input.
-c() {
-  say 'C: list_file'
-  local input good=0 bad=0
-  if hosts/c/build.sh list_file "$work/list_file"; then
-    for input in examples/*.txt examples/refusals/*.txt tests/corpus/11-*.txt; do
-      if "$work/list_file" "$input" | cmp -s - "${input%.txt}.out"; then
-        good=$((good + 1))
-      else
-        bad=$((bad + 1))
-        echo "differs: $input"
-      fi
-    done
+# same TEXT COMMAND..: what the command prints is the file's text
+same() {
+  local text=$1
+  shift
+  "$@" | cmp -s - "$text"
+}
+
+# shows TEXT: README.md has the text
+shows() {
+  [[ $(<README.md) == *"$1"* ]]
+}
+
+# The header alone, as C and, where there is a compiler for it, as C++.
+header() {
+  say 'C: docket.h'
+  local flags=(-pedantic -Wall -Wextra -Werror -fsyntax-only)
+  check 'docket.h as C11' "${CC:-cc}" -std=c11 "${flags[@]}" -x c hosts/c/docket.h
+  if command -v c++ >/dev/null; then
+    check 'docket.h as C++' c++ -std=c++11 "${flags[@]}" -x c++ hosts/c/docket.h
   fi
-  count "$good" "$bad" 'list_file'
-  say 'C: test_docket'
-  local inputs=(examples/*.txt examples/refusals/*.txt tests/corpus/*.txt)
-  hosts/c/build.sh test_docket "$work/test_docket" && "$work/test_docket" "${inputs[@]%.txt}" | tee "$work/c"
-  if [[ $(tail -n 1 "$work/c" 2>/dev/null) =~ ^([0-9]+)\ passed,\ ([0-9]+)\ failed$ ]]; then
-    count "${BASH_REMATCH[1]}" "${BASH_REMATCH[2]}" 'test_docket'
+}
+
+# texts INPUT: cuts an input after each line that begins `end=`, into files of the folder texts in their order
+texts() {
+  rm -rf "$work/texts"
+  mkdir "$work/texts"
+  awk -v start="$work/texts/" '{ print >(start sprintf("%04d", n)) } /^end=/ { close(start sprintf("%04d", n++)) }' "$1"
+}
+
+# The program that lists a file, on every example and on too much input; the one that lodges files, on the same texts one by one.
+programs() {
+  say 'C: list_file, lodge_files, example'
+  local name input
+  for name in list_file lodge_files example; do
+    check "building $name" hosts/c/build.sh "$name" "$work/$name"
+  done
+  for input in examples/*.txt examples/refusals/*.txt tests/corpus/11-*.txt; do
+    check "list_file $input" same "${input%.txt}.out" "$work/list_file" "$input"
+  done
+  for input in examples/*.txt examples/refusals/*.txt; do
+    texts "$input"
+    check "lodge_files $input" same "${input%.txt}.out" "$work/lodge_files" "$work"/texts/* 2>/dev/null
+  done
+  head -c 1048577 /dev/zero >"$work/long"
+  "$work/lodge_files" "$work/long" >"$work/lines" 2>"$work/held"
+  check 'a file that is too long' [ "$(head -n 1 "$work/lines")" = 'answer=refused,11,0,0,0' ]
+  check 'how many were held' [ "$(cat "$work/held")" = '0 held, 0 passed, 1 refused' ]
+  "$work/lodge_files" "$work/texts" >/dev/null 2>"$work/held"
+  check 'a file that cannot be read' [ "$? $(cat "$work/held")" = "1 $work/texts cannot be read: Is a directory." ]
+  check 'the example' [ "$("$work/example")" = 'a schedule that costs 600' ]
+  check 'the example in README.md' shows "$(sed '1d; s/^./    &/' hosts/c/example.c)"
+}
+
+# program NAME WORD..: builds a program of hosts/c and runs it
+program() {
+  rm -f "$work/$1"
+  hosts/c/build.sh "$1" "$work/$1" && "$work/$1" "${@:2}"
+}
+
+# c_tests HOW INPUT..: the header's promises, on the inputs
+c_tests() {
+  local how=$1 name
+  shift
+  local examples=(examples/*.txt examples/refusals/*.txt) deep=(tests/corpus/*depth-6*.txt tests/corpus/tree-64-*.txt)
+  for name in test_docket test_open test_threads; do
+    counted "C$how: $name" program "$name" "${@%.txt}"
+  done
+  counted "C$how: test_states" program test_states "${examples[@]%.txt}"
+  counted "C$how: test_trees" program test_trees "${deep[@]%.txt}"
+  counted "C$how: test_kept" program test_kept tests/states
+  for name in test_keeping test_room; do
+    counted "C$how: $name" program "$name"
+  done
+}
+
+# The tests once more where the compiler can watch what they do to memory, on the examples.
+c_watched() {
+  local cc=${CC:-cc} watch=(-g '-fsanitize=address,undefined' -fno-sanitize-recover=all)
+  if ! echo 'int main(void) { return 0; }' | "$cc" "${watch[@]}" -x c -o "$work/watched" - 2>/dev/null; then
+    say "C: $cc has no -fsanitize=address,undefined"
+    return
+  fi
+  printf '#!/bin/sh\nexec %s %s "$@"\n' "$cc" "${watch[*]}" >"$work/cc"
+  chmod +x "$work/cc"
+  CC=$work/cc c_tests ', watched' examples/*.txt examples/refusals/*.txt tests/specimens/*.txt
+}
+
+python() {
+  if hosts/python/build.sh; then
+    counted 'Python, and Python -O' python3 hosts/python/test_docket.py
   else
-    count 0 1 'test_docket'
+    count 0 1
   fi
 }
 
@@ -97,5 +206,9 @@ if ! build_archive; then
 fi
 symbols
 rust
-c
+header
+programs
+c_tests '' examples/*.txt examples/refusals/*.txt tests/specimens/*.txt tests/corpus/*.txt
+c_watched
+python
 finish

@@ -1,5 +1,21 @@
-/* The unit commitment docket for C: one function, in the archive libdocket_host.a that `rt staticlib docket_host` writes.
- * x86-64 Linux. Of the C library the archive needs memcpy and memset alone. */
+/* The unit commitment docket for C, in the archive libdocket_host.a that `rt staticlib docket_host` writes. x86-64 Linux. Of the
+ * C library the archive needs memcpy and memset alone.
+ *
+ * A docket that stays open is two stretches of memory that the caller owns: `numbers`, of docket_numbers() numbers of 64 bits,
+ * and `rows`, of docket_rows() numbers of 16 bits. docket_fresh makes a docket of them, docket_lodge lodges a text in it,
+ * docket_report and docket_outputs tell what it holds. A copy of both stretches is a docket of its own.
+ *
+ * What every call here does, for every input, is proved: crates/docket_host/proofs/HostPromises.antt, Contracts.antt.
+ *
+ * What the caller owes, of every call:
+ * - No pointer is null, also where no bytes or numbers are lent; each points to as many as its length says.
+ * - The stretches lent to one call do not overlap. `numbers` and `values` are aligned for uint64_t, `rows` and `outputs` for
+ *   uint16_t.
+ * - Nobody writes meanwhile to what a call reads, or touches what it writes. So threads may call at once, each with a docket of
+ *   its own, and may at once ask one docket for reports and outputs, each with a buffer of its own.
+ * - DOCKET_STACK_BYTES of stack are free.
+ *
+ * Nothing is allocated, nothing is kept between calls, no file is touched, and every call returns. */
 #ifndef DOCKET_H
 #define DOCKET_H
 
@@ -10,30 +26,115 @@
 extern "C" {
 #endif
 
+/* ---- what a call answers where it does nothing: all that was lent is as it was. No length is as large. */
+
+/* Too little room: fewer numbers, rows, bytes or values are lent than the call asks for. This is looked at first, whatever the
+ * state is; but how much room a report needs is asked of a docket. */
+#define DOCKET_TOO_SMALL SIZE_MAX
+
+/* No docket: what is lent as its state was never begun, is that of another layout, or was changed so that no docket can be it. */
+#define DOCKET_NO_DOCKET (SIZE_MAX - 1)
+
+/* ---- what to lend; more may be lent. What a call does not name as written stays as it was, within the asked-for part too */
+
+/* for the line of an answer: docket_lodge asks for so many bytes, whatever the answer */
+#define DOCKET_LINE_BYTES ((size_t)128)
+
+/* for an answer as numbers: docket_lodge asks for so many, whatever the answer */
+#define DOCKET_VALUES ((size_t)16)
+
+/* for a report: every report fits so many bytes */
+#define DOCKET_REPORT_BYTES ((size_t)256)
+
+/* for the outputs of the held schedule: docket_outputs asks for so many, whatever is held */
+#define DOCKET_OUTPUTS ((size_t)1536)
+
+/* Stack enough for a call. A tree of the greatest depth uses 237,000 bytes of it, measured; no proof covers the stack. On a
+ * thread with less the process ends at the stack's guard page. */
+#define DOCKET_STACK_BYTES ((size_t)1048576)
+
+/* A text of more bytes is refused by 11. */
+#define DOCKET_MOST_TEXT ((size_t)1048576)
+
+/* ---- an open docket */
+
+/* The number of the rules by which texts are judged. It goes up where some text gets another answer than it did before. */
+size_t docket_rules(void);
+
+/* How many numbers a state has, of 64 bits in `numbers` and of 16 in `rows`. */
+size_t docket_numbers(void);
+size_t docket_rows(void);
+
+/* Begins a docket that holds nothing, whatever the two stretches held.
+ * Returned: 0; or DOCKET_TOO_SMALL, where fewer numbers or rows than a state has are lent. */
+size_t docket_fresh(uint64_t *numbers, size_t numbers_length, uint16_t *rows, size_t rows_length);
+
+/* The places of an answer in `values`. */
+enum docket_value {
+    DOCKET_ANSWER = 0, /* DOCKET_REFUSED, DOCKET_HELD or DOCKET_PASSED */
+    DOCKET_FIGURE = 1, /* what follows: one of enum docket_figure */
+    /* of a refusal */
+    DOCKET_REFUSAL_NUMBER = 2,
+    DOCKET_REFUSAL_LINE = 3,
+    DOCKET_REFUSAL_UNIT = 4,
+    DOCKET_REFUSAL_PERIOD = 5,
+    /* of a schedule */
+    DOCKET_COST = 2,
+    /* of a tree */
+    DOCKET_BOUND_SIZE = 2,
+    DOCKET_SPLITS = 3,
+    DOCKET_LEAVES = 4
+};
+
+/* values[DOCKET_ANSWER] */
+enum docket_answer { DOCKET_REFUSED = 0, DOCKET_HELD = 1, DOCKET_PASSED = 2 };
+
+/* values[DOCKET_FIGURE]: nothing (a refusal, whose four numbers follow, or an accepted problem); a schedule's cost; a tree's
+ * bound, which is the size, or the size behind a minus, or never, with size 0: no schedule meets the rules. */
+enum docket_figure { DOCKET_NOTHING = 0, DOCKET_A_COST = 1, DOCKET_A_BOUND = 2, DOCKET_A_BOUND_BELOW_0 = 3, DOCKET_NEVER = 4 };
+
+/* Lodges a text, any bytes.
+ *
+ * Returned: how many bytes of `line` now hold the line of the answer, byte 10 being the last; no byte 0 follows it. `values`
+ * then begins with the answer as DOCKET_VALUES numbers: the two above, then the figures or the refusal's four numbers in order,
+ * zeros after. A later version may give figures in places that are zeros now. The state is written only where the answer is
+ * `held`; then it is that of the docket after the text. Or DOCKET_TOO_SMALL or DOCKET_NO_DOCKET.
+ *
+ * A state that was changed by hand, so that a docket can still be it, is believed: the call cannot tell. What must be kept for
+ * good are the texts that were lodged, for they decide everything. */
+size_t docket_lodge(uint64_t *numbers, size_t numbers_length, uint16_t *rows, size_t rows_length, const uint8_t *text,
+                    size_t text_length, uint8_t *line, size_t line_length, uint64_t *values, size_t values_length);
+
+/* Writes the report into the buffer, from the place `at` on.
+ *
+ * Returned: how many bytes from there on are the report; the others are as they were. Or DOCKET_TOO_SMALL, where the place lies
+ * beyond the buffer's end or too few bytes follow it (43), or the state is too short; or DOCKET_NO_DOCKET. */
+size_t docket_report(const uint64_t *numbers, size_t numbers_length, const uint16_t *rows, size_t rows_length, uint8_t *buffer,
+                     size_t buffer_length, size_t at);
+
+/* Copies the outputs of the held schedule: that of unit u in period t, both counted from 0, to outputs[u * T + t], T being the
+ * periods of the problem.
+ *
+ * Returned: how many there are, units times periods; 0 where no schedule is held. Or DOCKET_TOO_SMALL or DOCKET_NO_DOCKET. */
+size_t docket_outputs(const uint64_t *numbers, size_t numbers_length, const uint16_t *rows, size_t rows_length, uint16_t *outputs,
+                      size_t outputs_length);
+
+/* ---- a whole listing at once */
+
 /* Texts are lodged from an input of at most so many bytes; a longer one gets the one answer 11. */
 #define DOCKET_MOST_INPUT ((size_t)65536)
 
 /* The output must have so many bytes or more: every listing fits. */
 #define DOCKET_OUTPUT_BYTES ((size_t)1048576)
 
-/* The answer to an output of fewer bytes. No listing is as long. */
-#define DOCKET_OUTPUT_TOO_SMALL SIZE_MAX
-
-/* Stack enough for a call. A tree of the greatest depth uses 237,000 bytes of it, measured; no proof covers the stack. On a thread
- * with less the process ends at the stack's guard page. */
-#define DOCKET_STACK_BYTES ((size_t)1048576)
+/* The answer to an output of fewer bytes. */
+#define DOCKET_OUTPUT_TOO_SMALL DOCKET_TOO_SMALL
 
 /* Cuts the input into texts, lodges them in turn in one fresh docket and writes the listing into the output: a line for each
  * answer, then the report.
  *
- * Passed: where the input starts and how many bytes it has, any bytes; where the output starts and how many bytes it has,
- * whatever they hold. Neither pointer may be null, also where there are no bytes, and the two may not overlap.
- *
  * Returned: how many bytes, from the output's start, are the listing. It has no byte 0 after it, and the bytes after it are as
- * they were. Or DOCKET_OUTPUT_TOO_SMALL, with the output as it was. The input is only read.
- *
- * Nothing is allocated, no state is kept between calls, no file is touched, and every call returns. Threads may call it at once,
- * each with an output of its own and an input that nobody writes meanwhile. A call runs on its caller's stack. */
+ * they were. Or DOCKET_OUTPUT_TOO_SMALL, with the output as it was. The input is only read. */
 size_t docket_listing(const uint8_t *input, size_t input_length, uint8_t *output, size_t output_length);
 
 #ifdef __cplusplus

@@ -1,6 +1,8 @@
 //! 10,000 generated inputs in one process, against the second implementation. SEED repeats the inputs of a printed seed.
 mod common;
 
+use common::both::Both;
+use common::{listed, output, texts};
 use std::env;
 use std::sync::atomic::{AtomicU64, Ordering};
 use std::thread;
@@ -21,36 +23,45 @@ fn seed() -> u64 {
     }
 }
 
+/// In what the implementations differ on an input, where they do: in its listing, or in what a text of it gets or leaves.
+fn compare(input: &[u8], room: &mut [u8]) -> Result<(), String> {
+    if listed(input, room) != second::listing(input) {
+        return Err("listing".to_string());
+    }
+    let mut both = Both::new();
+    for (k, text) in texts(input).into_iter().enumerate() {
+        both.lodge(text)
+            .map_err(|why| format!("text {}: {why}", k + 1))?;
+    }
+    Ok(())
+}
+
 #[test]
-fn generated_inputs_give_the_second_implementations_listings() {
+fn generated_inputs_get_the_second_implementations_listings_answers_and_reports() {
     let seed = seed();
     println!("seed {seed}, {COUNT} inputs");
     let next = AtomicU64::new(0);
     // Each worker keeps one output for all of its inputs, so that nothing of an earlier listing may show.
     let work = || {
-        let mut room = common::output();
+        let mut room = output();
         let mut differ = Vec::new();
         loop {
             let index = next.fetch_add(1, Ordering::Relaxed);
             if index >= COUNT {
                 return differ;
             }
-            let input = second::inputs::input(seed, index);
-            if common::listed(&input, &mut room) != second::listing(&input) {
-                differ.push(index);
+            if let Err(why) = compare(&second::inputs::input(seed, index), &mut room) {
+                differ.push(format!("input {index}: {why}"));
             }
         }
     };
     let workers = thread::available_parallelism().map_or(1, |n| n.get());
-    let differ: Vec<u64> = thread::scope(|scope| {
+    let differ: Vec<String> = thread::scope(|scope| {
         let running: Vec<_> = (0..workers).map(|_| scope.spawn(work)).collect();
         running
             .into_iter()
             .flat_map(|worker| worker.join().expect("a worker"))
             .collect()
     });
-    assert!(
-        differ.is_empty(),
-        "seed {seed}: the inputs {differ:?} differ"
-    );
+    assert!(differ.is_empty(), "seed {seed} differs: {differ:#?}");
 }

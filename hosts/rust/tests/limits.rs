@@ -1,39 +1,16 @@
 //! Sizes, threads and the stack.
 mod common;
 
-use common::{inputs, listed, output, read, repository};
+use common::{example, inputs, listed, lodged, output, read, repository, same};
 use docket::{listing, listing_of, Error, MOST_INPUT, OUTPUT_BYTES, STACK_BYTES};
+use std::path::{Path, PathBuf};
 use std::thread;
-
-fn example() -> Vec<u8> {
-    read(&repository("examples/example.txt"))
-}
 
 /// The example, with bytes after it up to a length.
 fn example_of_length(length: usize) -> Vec<u8> {
     let mut input = example();
     input.resize(length, b'x');
     input
-}
-
-/// Fails where two texts differ, with the first line in which they do.
-fn same(got: &[u8], wanted: &[u8]) {
-    let line = |text: &[u8], k| {
-        text.split(|&byte| byte == b'\n')
-            .nth(k)
-            .map(|l| String::from_utf8_lossy(l).into_owned())
-    };
-    if got != wanted {
-        let k = (0..)
-            .find(|&k| line(got, k) != line(wanted, k))
-            .expect("a line that differs");
-        panic!(
-            "line {}: {:?}, not {:?}",
-            k + 1,
-            line(got, k),
-            line(wanted, k)
-        );
-    }
 }
 
 #[test]
@@ -95,23 +72,27 @@ fn as_many_texts_as_an_input_can_have() {
     println!("{} bytes of input, {} of listing", input.len(), text.len());
 }
 
+/// Fails where an input's listing, or the answers and the report of a docket of its own, differ from the committed listing.
+fn gives_the_committed_listing(path: &Path, room: &mut [u8]) {
+    let input = read(path);
+    let wanted = read(&path.with_extension("out"));
+    same(&listed(&input, room), &wanted);
+    if let Some(lines) = lodged(&input) {
+        same(&lines, &wanted);
+    }
+}
+
 #[test]
 fn threads_at_once_give_the_same() {
-    let texts: Vec<Vec<u8>> = inputs("tests/corpus")
-        .iter()
-        .step_by(4)
-        .map(|path| read(path))
-        .collect();
-    let mut room = output();
-    let wanted: Vec<Vec<u8>> = texts.iter().map(|input| listed(input, &mut room)).collect();
+    let paths: Vec<PathBuf> = inputs("tests/corpus").into_iter().step_by(4).collect();
     thread::scope(|scope| {
         for first in 0..8 {
-            let (texts, wanted) = (&texts, &wanted);
+            let paths = &paths;
             scope.spawn(move || {
                 let mut room = output();
-                for k in 0..texts.len() {
-                    let at = (first * 16 + k) % texts.len();
-                    same(&listed(&texts[at], &mut room), &wanted[at]);
+                for k in 0..paths.len() {
+                    let path = &paths[(first * 16 + k) % paths.len()];
+                    gives_the_committed_listing(path, &mut room);
                 }
             });
         }
@@ -127,8 +108,9 @@ fn the_stack_named_is_enough_for_the_deepest_trees() {
     assert!(deep.len() >= 4);
     let kept = 65_536; // for the thread itself and the frames above the call
     let run = move || {
+        let mut room = output();
         for path in &deep {
-            same(&listing_of(&read(path)), &read(&path.with_extension("out")));
+            gives_the_committed_listing(path, &mut room);
         }
     };
     thread::Builder::new()

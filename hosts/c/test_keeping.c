@@ -1,0 +1,65 @@
+/* Tests of what an open docket keeps. The last line is 'N passed, M failed'. */
+#include "test_calls.h"
+
+static void test_sizes(void) {
+    count(docket_rules() == 1, "the rules have number 1");
+    count(docket_numbers() == 586, "586 numbers");
+    count(docket_rows() == 1536, "1536 rows");
+}
+
+static void test_example(void) {
+    struct docket d = fresh_docket();
+    count(reports(&d, NONE_HELD) && gives(&d, example_outputs, 0), "a fresh docket holds nothing");
+    count(lodges(&d, SCHEDULE, "answer=refused,42,0,0,0\n"), "no problem is held yet");
+    count(lodges(&d, PROBLEM, PROBLEM_HELD), "the problem");
+    count(reports(&d, NONE_HELD) && gives(&d, example_outputs, 0), "no outputs before a schedule");
+    count(lodges(&d, "", "answer=refused,12,1,0,0\n"), "a text of no bytes");
+    count(lodges(&d, PROBLEM, "answer=refused,41,0,0,0\n"), "a second problem");
+    count(lodges(&d, TREE, TREE_HELD) && gives(&d, example_outputs, 0), "no outputs after a tree");
+    count(lodges(&d, SCHEDULE, SCHEDULE_HELD) && gives(&d, example_outputs, 4), "the outputs of the schedule");
+    count(reports(&d, ALL_HELD), "the report");
+    count(lodges(&d, SCHEDULE, "answer=passed,1980\n"), "the schedule again");
+    count(lodges(&d, DEARER, "answer=passed,2060\n") && gives(&d, example_outputs, 4),
+          "the outputs after a schedule that is passed");
+    count(lodges(&d, TREE, "answer=passed,1980,1,2\n") && reports(&d, ALL_HELD), "the tree again");
+}
+
+static void test_copy(void) {
+    struct docket d = fresh_docket(), copy = fresh_docket(), kept = fresh_docket();
+    int lodged = lodges(&d, PROBLEM, PROBLEM_HELD);
+    copy_docket(&copy, &d);
+    copy_docket(&kept, &d);
+    lodged = lodged && lodges(&copy, SCHEDULE, SCHEDULE_HELD) && lodges(&copy, TREE, TREE_HELD);
+    count(lodged && holds_example(&copy), "a copy is a docket");
+    count(same_docket(&d, &kept) && reports(&d, NONE_HELD), "a copy goes its own way");
+    copy_docket(&kept, &copy);
+    count(lodges(&d, DEARER, DEARER_HELD) && gives(&d, dearer_outputs, 4), "and so does the docket");
+    count(same_docket(&copy, &kept) && holds_example(&copy), "which changes no copy");
+}
+
+/* docket_fresh, over each byte and over a docket that holds all. */
+static void test_fresh(void) {
+    struct docket d = fresh_docket();
+    int good = 1;
+    for (int byte = 0; byte < 256; byte++) {
+        memset(d.numbers, byte, d.numbers_length * sizeof *d.numbers);
+        memset(d.rows, byte, d.rows_length * sizeof *d.rows);
+        good = good && docket_fresh(d.numbers, d.numbers_length, d.rows, d.rows_length) == 0 && reports(&d, NONE_HELD);
+        good = good && gives(&d, example_outputs, 0) && lodges(&d, SCHEDULE, "answer=refused,42,0,0,0\n");
+        good = good && lodges(&d, PROBLEM, PROBLEM_HELD) && reports(&d, NONE_HELD) && gives(&d, example_outputs, 0);
+        good = good && lodges(&d, SCHEDULE, SCHEDULE_HELD) && lodges(&d, TREE, TREE_HELD) && reports(&d, ALL_HELD);
+    }
+    count(good, "a docket begun over any byte holds nothing");
+    good = docket_fresh(d.numbers, d.numbers_length, d.rows, d.rows_length) == 0 && reports(&d, NONE_HELD) &&
+           gives(&d, example_outputs, 0);
+    good = good && lodges(&d, PROBLEM, PROBLEM_HELD) && lodges(&d, DEARER, DEARER_HELD);
+    count(good, "and so does one begun over a docket");
+}
+
+int main(void) {
+    test_sizes();
+    test_example();
+    test_copy();
+    test_fresh();
+    return finish();
+}

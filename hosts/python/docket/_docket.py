@@ -1,0 +1,84 @@
+"""A docket that stays open."""
+import ctypes
+import threading
+from typing import Any, NoReturn, final
+
+from ._lent import Bytes, lent
+from ._library import LINE_BYTES, MOST_TEXT, OUTPUTS, REPORT_BYTES, VALUES, checked, library
+from .answer import Answer, answer_of
+from .report import Report, report_of
+
+_NUMBERS = library.docket_numbers()
+_ROWS = library.docket_rows()
+_Numbers = ctypes.c_uint64 * _NUMBERS
+_Rows = ctypes.c_uint16 * _ROWS
+_Line = ctypes.c_char * LINE_BYTES
+_Values = ctypes.c_uint64 * VALUES
+_Report = ctypes.c_char * REPORT_BYTES
+_Outputs = ctypes.c_uint16 * OUTPUTS
+
+
+@final
+class Docket:
+    """A docket that holds nothing yet. Texts are lodged in it one by one.
+
+    Threads may share it: its calls wait for each other, and other threads run during a call. The words of the package
+    say how much stack a thread needs.
+    """
+
+    __slots__ = ("_numbers", "_rows", "_lock", "__weakref__")
+
+    def __init__(self) -> None:
+        self._numbers = _Numbers()
+        self._rows = _Rows()
+        self._lock = threading.RLock()
+        checked(library.docket_fresh(self._numbers, _NUMBERS, self._rows, _ROWS))
+
+    def lodge(self, text: Bytes) -> Answer:
+        """Lodges a text, any bytes, and returns the answer. Only an answer that is Held changes what the docket holds.
+
+        The text is bytes or another buffer that is a row of bytes; for all else there is a TypeError. Bytes are lent to
+        the library as they are, any other buffer is copied first.
+        """
+        given = lent("lodge", text, MOST_TEXT)
+        line = _Line()
+        values = _Values()
+        with self._lock:
+            length = library.docket_lodge(
+                self._numbers, _NUMBERS, self._rows, _ROWS, given, len(given), line, LINE_BYTES, values, VALUES
+            )
+        return answer_of(values[:], line.raw[: checked(length)])
+
+    def report(self) -> Report:
+        """The report: the held cost and bound, each with its writer, and the gap."""
+        buffer = _Report()
+        with self._lock:
+            length = library.docket_report(self._numbers, _NUMBERS, self._rows, _ROWS, buffer, REPORT_BYTES, 0)
+        return report_of(buffer.raw[: checked(length)])
+
+    def outputs(self) -> list[int]:
+        """The outputs of the held schedule, that of unit u in period t, both counted from 0, at u * T + t, T being the
+        periods of the problem. Empty where no schedule is held."""
+        outputs = _Outputs()
+        with self._lock:
+            count = library.docket_outputs(self._numbers, _NUMBERS, self._rows, _ROWS, outputs, OUTPUTS)
+        return outputs[: checked(count)]
+
+    def copy(self) -> "Docket":
+        """A docket of its own that holds the same."""
+        other = Docket()
+        with self._lock:
+            other._numbers = _Numbers.from_buffer_copy(self._numbers)
+            other._rows = _Rows.from_buffer_copy(self._rows)
+        return other
+
+    __copy__ = copy
+
+    def __deepcopy__(self, memo: dict[int, Any]) -> "Docket":
+        return self.copy()
+
+    def __reduce__(self) -> NoReturn:
+        raise TypeError("a Docket cannot be pickled: keep the texts that were lodged in it, they decide everything")
+
+    def __repr__(self) -> str:
+        return f"<Docket {' '.join(self.report().text.splitlines()[1:-1])}>"

@@ -1,0 +1,23 @@
+"""What a program may lend as bytes."""
+
+#: What the calls take. At run time any buffer that is a row of bytes will do.
+Bytes = bytes | bytearray | memoryview
+
+
+def lent(call: str, given: Bytes, most: int) -> bytes:
+    """The bytes given to a call that refuses more than `most` by their length alone: of more, at least one more.
+
+    Bytes are returned as they are; any other buffer is copied, since a thread may change it during the call.
+    """
+    if type(given) is bytes:
+        return given
+    if isinstance(given, str):
+        raise TypeError(f"{call} takes bytes: read the file in binary mode, or encode the text as ASCII")
+    try:
+        view = memoryview(given)
+    except TypeError:
+        raise TypeError(f"{call} takes bytes, not {type(given).__name__}") from None
+    if view.ndim != 1 or view.itemsize != 1:
+        shape = f"{view.ndim} dimensions with items of {view.itemsize} bytes"
+        raise TypeError(f"{call} takes a row of bytes, not a buffer of {shape}")
+    return view[: most + 1].tobytes()

@@ -1,0 +1,89 @@
+"""A docket by itself: copies, states, and what it does not do."""
+import copy
+import pickle
+import unittest
+import weakref
+
+import docket
+from common import NOTHING, PROBLEM, SCHEDULE, TREE, schedule
+from docket import Docket, Held, Passed, Problem, Refused, Schedule, Tree
+
+COPIES = {"copy": Docket.copy, "copy.copy": copy.copy, "copy.deepcopy": copy.deepcopy}
+
+
+class Dockets(unittest.TestCase):
+    def test_copies_go_their_own_way(self) -> None:
+        for name, made in COPIES.items():
+            with self.subTest(name):
+                desk = Docket()
+                desk.lodge(PROBLEM)
+                dear, cost = schedule(80, 30, 9)
+                desk.lodge(dear)
+                other = made(desk)
+                self.assertEqual((other.report(), other.outputs()), (desk.report(), [60, 80, 0, 30]))
+                self.assertEqual(other.lodge(SCHEDULE).verdict, Held(Schedule(1980)))
+                self.assertEqual((desk.report().cost, desk.outputs()), (cost, [60, 80, 0, 30]))
+                self.assertEqual(desk.lodge(TREE).verdict, Held(Tree(1980, 1, 2)))
+                self.assertEqual((other.report().cost, other.report().bound), (1980, None))
+                self.assertEqual(other.outputs(), [60, 80, 0, 20])
+
+    def test_a_copy_outlives_what_it_copies(self) -> None:
+        desk = Docket()
+        desk.lodge(PROBLEM)
+        other = desk.copy()
+        gone = weakref.ref(desk)
+        del desk
+        self.assertIsNone(gone())
+        self.assertEqual(other.lodge(SCHEDULE).verdict, Held(Schedule(1980)))
+
+    def test_a_copy_within_a_list(self) -> None:
+        desk = Docket()
+        first, second = copy.deepcopy([desk, desk])
+        self.assertIs(first, second)
+        self.assertIsNot(first, desk)
+
+    def test_a_docket_that_holds_nothing(self) -> None:
+        desk = Docket()
+        self.assertEqual((desk.outputs(), desk.report().text), ([], NOTHING))
+        self.assertEqual(desk.lodge(SCHEDULE).verdict, Refused(42, 0, 0, 0))
+        self.assertEqual(desk.lodge(PROBLEM).verdict, Held(Problem()))
+        self.assertEqual((desk.outputs(), desk.report().text), ([], NOTHING))
+
+    def test_outputs_are_the_held_ones(self) -> None:
+        desk = Docket()
+        desk.lodge(PROBLEM)
+        desk.lodge(SCHEDULE)
+        outputs = desk.outputs()
+        outputs[0] = 5
+        dear, _ = schedule(80, 30, 9)
+        self.assertIsInstance(desk.lodge(dear).verdict, Passed)
+        self.assertEqual(desk.outputs(), [60, 80, 0, 20])
+
+    def test_the_short_words(self) -> None:
+        desk = Docket()
+        self.assertEqual(repr(desk), "<Docket cost=none costwriter=none bound=none boundwriter=none gap=none>")
+        for text in (PROBLEM, SCHEDULE, TREE):
+            desk.lodge(text)
+        self.assertEqual(repr(desk), "<Docket cost=1980 costwriter=7 bound=1980 boundwriter=3 gap=0>")
+
+    def test_no_docket_is_pickled(self) -> None:
+        for protocol in range(pickle.HIGHEST_PROTOCOL + 1):
+            with self.assertRaises(TypeError) as caught:
+                pickle.dumps(Docket(), protocol)
+            words = "a Docket cannot be pickled: keep the texts that were lodged in it, they decide everything"
+            self.assertEqual(str(caught.exception), words)
+
+    def test_a_state_that_is_no_docket(self) -> None:
+        desk = Docket()
+        desk.lodge(PROBLEM)
+        desk._numbers[0] += 1
+        for call in (desk.report, desk.outputs, lambda: desk.lodge(SCHEDULE), desk.copy().report):
+            with self.assertRaises(RuntimeError) as caught:
+                call()
+            self.assertEqual(str(caught.exception), "this is no docket: its state was changed from outside")
+        desk._numbers[0] -= 1
+        self.assertEqual(desk.lodge(SCHEDULE).verdict, Held(Schedule(1980)))
+
+    def test_the_number_of_the_rules(self) -> None:
+        self.assertIsInstance(docket.rules(), int)
+        self.assertGreaterEqual(docket.rules(), 1)

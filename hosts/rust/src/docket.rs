@@ -1,0 +1,121 @@
+//! A docket that stays open.
+
+use crate::answer::Answer;
+use crate::report::Report;
+use crate::sys;
+use std::fmt;
+
+/// A text of more bytes is refused by 11.
+pub const MOST_TEXT: usize = 1_048_576;
+
+/// The number of the rules by which texts are judged. It goes up where some text gets another answer than it did before.
+pub fn rules() -> u64 {
+    sys::docket_rules() as u64
+}
+
+/// A docket: one problem, the cheapest accepted schedule so far and the highest bound of an accepted tree so far, where there
+/// are such. A clone is a docket of its own.
+///
+/// It lives in memory: what must be kept for good are the texts that were lodged, for they decide everything. Calls run on their
+/// caller's stack, of which [`STACK_BYTES`](crate::STACK_BYTES) are enough.
+///
+/// ```
+/// use docket::{Bound, Docket, Figures, Verdict};
+///
+/// let mut docket = Docket::new();
+/// let tree = b"kind=tree\nwriter=3\nshort=1\nend=tree\n";
+/// assert_eq!(docket.lodge(tree).line(), "answer=refused,42,0,0,0");
+///
+/// let problem = b"kind=problem\nperiods=1\nunits=1\ndemand=10\nspare=0\n\
+///                 unit=100,10,0,1,9,1,1,1,9,9,0,0,0,0\nend=problem\n";
+/// assert_eq!(docket.lodge(problem).verdict(), Verdict::Held(Figures::Problem));
+///
+/// match docket.lodge(tree).verdict() {
+///     Verdict::Held(Figures::Tree { bound, splits, leaves, .. }) => {
+///         assert_eq!((bound, splits, leaves), (Bound::Never, 0, 1));
+///     }
+///     other => panic!("{other}"),
+/// }
+/// assert_eq!(docket.report().bound_writer(), Some(3));
+/// ```
+#[derive(Clone)]
+pub struct Docket {
+    numbers: Box<[u64]>,
+    rows: Box<[u16]>,
+}
+
+impl Docket {
+    /// A docket that holds nothing.
+    pub fn new() -> Docket {
+        let mut numbers = vec![0; sys::docket_numbers()].into_boxed_slice();
+        let mut rows = vec![0; sys::docket_rows()].into_boxed_slice();
+        let begun = sys::fresh(&mut numbers, &mut rows);
+        debug_assert_eq!(begun, 0, "a state has as many numbers and rows");
+        Docket { numbers, rows }
+    }
+
+    /// The answer to a text, any bytes, which the docket holds from then on where the verdict is [`Held`](crate::Verdict::Held).
+    pub fn lodge(&mut self, text: &[u8]) -> Answer {
+        let mut line = [0; sys::LINE_BYTES];
+        let mut values = [0; sys::VALUES];
+        let answer = sys::lodge(
+            &mut self.numbers,
+            &mut self.rows,
+            text,
+            &mut line,
+            &mut values,
+        );
+        Answer::of(&values, written(&line, answer))
+    }
+
+    /// What the docket holds: cost and bound, each with its writer, and the gap.
+    pub fn report(&self) -> Report {
+        let mut buffer = [0; sys::REPORT_BYTES];
+        let answer = sys::report(&self.numbers, &self.rows, &mut buffer);
+        Report::of(written(&buffer, answer))
+    }
+
+    /// The outputs of the held schedule: that of unit u in period t, both counted from 0, at u * T + t, T being the problem's
+    /// periods. Empty where no schedule is held.
+    ///
+    /// ```
+    /// # let mut docket = docket::Docket::new();
+    /// # docket.lodge(b"kind=problem\nperiods=2\nunits=2\ndemand=60,100\nspare=10,10\n\
+    /// #                unit=100,10,0,20,80,2,2,3,30,30,50,90,1,5\nunit=40,14,0,10,50,1,1,-2,50,50,20,60,0,0\nend=problem\n");
+    /// assert!(docket.outputs().is_empty());
+    /// docket.lodge(b"kind=schedule\nwriter=7\nrun=60,80\nrun=0,20\nend=schedule\n");
+    /// let outputs = docket.outputs();
+    /// let rows: Vec<&[u16]> = outputs.chunks(2).collect();
+    /// assert_eq!(rows, [[60, 80], [0, 20]]);
+    /// ```
+    pub fn outputs(&self) -> Vec<u16> {
+        let mut outputs = [0; sys::OUTPUTS];
+        let answer = sys::outputs(&self.numbers, &self.rows, &mut outputs);
+        written(&outputs, answer).to_vec()
+    }
+}
+
+impl Default for Docket {
+    fn default() -> Docket {
+        Docket::new()
+    }
+}
+
+/// Cost and bound, each with its writer.
+impl fmt::Debug for Docket {
+    fn fmt(&self, f: &mut fmt::Formatter) -> fmt::Result {
+        let report = self.report();
+        f.debug_struct("Docket")
+            .field("cost", &report.cost())
+            .field("cost_writer", &report.cost_writer())
+            .field("bound", &report.bound())
+            .field("bound_writer", &report.bound_writer())
+            .finish_non_exhaustive()
+    }
+}
+
+/// What a call wrote, by the length that it answered. A call on a docket's own slices answers a length.
+fn written<T>(room: &[T], answer: usize) -> &[T] {
+    debug_assert!(answer <= room.len(), "a length, not {answer}");
+    room.get(..answer).unwrap_or_default()
+}

@@ -1,0 +1,175 @@
+//! The functions and numbers of the archive, as `hosts/c/docket.h` declares them; each function that is lent memory stands behind
+//! one that is lent slices.
+
+/// The bytes lent for the line of an answer.
+pub const LINE_BYTES: usize = 128;
+
+/// The numbers lent for an answer.
+pub const VALUES: usize = 16;
+
+/// The bytes lent for a report.
+pub const REPORT_BYTES: usize = 256;
+
+/// The numbers lent for the outputs of the held schedule.
+pub const OUTPUTS: usize = 1_536;
+
+/// The answer of a call that is lent too little.
+pub const TOO_SMALL: usize = usize::MAX;
+
+/// First of an answer's numbers: accepted and held.
+pub const HELD: u64 = 1;
+
+/// First of an answer's numbers: accepted, and what was held stays.
+pub const PASSED: u64 = 2;
+
+/// Second of an answer's numbers: a schedule's cost follows.
+pub const A_COST: u64 = 1;
+
+/// Second of an answer's numbers: a tree's bound follows.
+pub const A_BOUND: u64 = 2;
+
+/// Second of an answer's numbers: a tree's bound follows, without its minus.
+pub const A_BOUND_BELOW_0: u64 = 3;
+
+/// Second of an answer's numbers: a tree's bound is never.
+pub const NEVER: u64 = 4;
+
+// SAFETY: the archive defines these functions with these types. Those marked safe are lent nothing and ask for nothing.
+unsafe extern "C" {
+    pub safe fn docket_rules() -> usize;
+
+    pub safe fn docket_numbers() -> usize;
+
+    pub safe fn docket_rows() -> usize;
+
+    fn docket_fresh(
+        numbers: *mut u64,
+        numbers_length: usize,
+        rows: *mut u16,
+        rows_length: usize,
+    ) -> usize;
+
+    fn docket_lodge(
+        numbers: *mut u64,
+        numbers_length: usize,
+        rows: *mut u16,
+        rows_length: usize,
+        text: *const u8,
+        text_length: usize,
+        line: *mut u8,
+        line_length: usize,
+        values: *mut u64,
+        values_length: usize,
+    ) -> usize;
+
+    fn docket_report(
+        numbers: *const u64,
+        numbers_length: usize,
+        rows: *const u16,
+        rows_length: usize,
+        buffer: *mut u8,
+        buffer_length: usize,
+        at: usize,
+    ) -> usize;
+
+    fn docket_outputs(
+        numbers: *const u64,
+        numbers_length: usize,
+        rows: *const u16,
+        rows_length: usize,
+        outputs: *mut u16,
+        outputs_length: usize,
+    ) -> usize;
+
+    fn docket_listing(
+        input: *const u8,
+        input_length: usize,
+        output: *mut u8,
+        output_length: usize,
+    ) -> usize;
+}
+
+// What every call below owes the archive: pointers that are not null and are aligned, each to as many numbers as its length says,
+// which nobody else writes, or reads where the call writes. Slices are that. What is in them may be anything.
+
+/// `docket_fresh` on slices.
+pub fn fresh(numbers: &mut [u64], rows: &mut [u16]) -> usize {
+    // SAFETY: two slices, borrowed apart.
+    unsafe {
+        docket_fresh(
+            numbers.as_mut_ptr(),
+            numbers.len(),
+            rows.as_mut_ptr(),
+            rows.len(),
+        )
+    }
+}
+
+/// `docket_lodge` on slices.
+pub fn lodge(
+    numbers: &mut [u64],
+    rows: &mut [u16],
+    text: &[u8],
+    line: &mut [u8],
+    values: &mut [u64],
+) -> usize {
+    // SAFETY: five slices, borrowed apart.
+    unsafe {
+        docket_lodge(
+            numbers.as_mut_ptr(),
+            numbers.len(),
+            rows.as_mut_ptr(),
+            rows.len(),
+            text.as_ptr(),
+            text.len(),
+            line.as_mut_ptr(),
+            line.len(),
+            values.as_mut_ptr(),
+            values.len(),
+        )
+    }
+}
+
+/// `docket_report` on slices, from the buffer's start on.
+pub fn report(numbers: &[u64], rows: &[u16], buffer: &mut [u8]) -> usize {
+    // SAFETY: two slices that are only read and one borrowed apart.
+    unsafe {
+        docket_report(
+            numbers.as_ptr(),
+            numbers.len(),
+            rows.as_ptr(),
+            rows.len(),
+            buffer.as_mut_ptr(),
+            buffer.len(),
+            0,
+        )
+    }
+}
+
+/// `docket_outputs` on slices.
+pub fn outputs(numbers: &[u64], rows: &[u16], outputs: &mut [u16]) -> usize {
+    // SAFETY: two slices that are only read and one borrowed apart.
+    unsafe {
+        docket_outputs(
+            numbers.as_ptr(),
+            numbers.len(),
+            rows.as_ptr(),
+            rows.len(),
+            outputs.as_mut_ptr(),
+            outputs.len(),
+        )
+    }
+}
+
+/// `docket_listing` on slices.
+pub fn listing(input: &[u8], output: &mut [u8]) -> usize {
+    // SAFETY: a slice that is only read and one borrowed apart.
+    unsafe {
+        docket_listing(
+            input.as_ptr(),
+            input.len(),
+            output.as_mut_ptr(),
+            output.len(),
+        )
+    }
+}
