@@ -183,7 +183,7 @@ c_tests() {
 # The tests once more where the compiler can watch what they do to memory, on the examples.
 c_watched() {
   local cc=${CC:-cc} watch=(-g '-fsanitize=address,undefined' -fno-sanitize-recover=all)
-  if ! echo 'int main(void) { return 0; }' | "$cc" "${watch[@]}" -x c -o "$work/watched" - 2>/dev/null; then
+  if ! { echo 'int main(void) { return 0; }' | "$cc" "${watch[@]}" -x c -o "$work/watched" - && "$work/watched"; } 2>/dev/null; then
     say "C: $cc has no -fsanitize=address,undefined"
     return
   fi

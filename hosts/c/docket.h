@@ -49,7 +49,7 @@ extern "C" {
 /* for the outputs of the held schedule: docket_outputs asks for so many, whatever is held */
 #define DOCKET_OUTPUTS ((size_t)1536)
 
-/* Stack enough for a call. A tree of the greatest depth uses 237,000 bytes of it, measured; no proof covers the stack. On a
+/* Stack enough for a call. A tree of the greatest depth uses less than 260,000 bytes of it, measured; no proof covers the stack. On a
  * thread with less the process ends at the stack's guard page. */
 #define DOCKET_STACK_BYTES ((size_t)1048576)
 
