@@ -1,9 +1,11 @@
 /* The unit commitment docket for C, in the archive libdocket_host.a that `rt staticlib docket_host` writes. x86-64 Linux. Of the
- * C library the archive needs memcpy and memset alone.
+ * C library the archive needs memcpy and memset alone. What texts, answers and reports are and what the number of a refusal
+ * means is in the repository's README.md.
  *
  * A docket that stays open is two stretches of memory that the caller owns: `numbers`, of docket_numbers() numbers of 64 bits,
  * and `rows`, of docket_rows() numbers of 16 bits. docket_fresh makes a docket of them, docket_lodge lodges a text in it,
- * docket_report and docket_outputs tell what it holds. A copy of both stretches is a docket of its own.
+ * docket_report and docket_outputs tell what it holds. A copy of both stretches is a docket of its own. No call ends a docket:
+ * its memory is the caller's.
  *
  * What every call here does, for every input, is proved: crates/docket_host/proofs/HostPromises.antt, Contracts.antt.
  *
@@ -15,7 +17,8 @@
  *   its own, and may at once ask one docket for reports and outputs, each with a buffer of its own.
  * - DOCKET_STACK_BYTES of stack are free.
  *
- * Nothing is allocated, nothing is kept between calls, no file is touched, and every call returns. */
+ * Nothing is allocated, nothing is kept between calls, no file is touched, and every call returns. A text is only read, and is
+ * the caller's again when the call returns. */
 #ifndef DOCKET_H
 #define DOCKET_H
 
@@ -26,13 +29,15 @@
 extern "C" {
 #endif
 
-/* ---- what a call answers where it does nothing: all that was lent is as it was. No length is as large. */
+/* ---- what a call answers where it does nothing: all that was lent is as it was. No length is as large. A caller who lends what
+ * is asked for, in a state that docket_fresh began and that these calls alone wrote, gets neither. */
 
 /* Too little room: fewer numbers, rows, bytes or values are lent than the call asks for. This is looked at first, whatever the
  * state is; but how much room a report needs is asked of a docket. */
 #define DOCKET_TOO_SMALL SIZE_MAX
 
-/* No docket: what is lent as its state was never begun, is that of another layout, or was changed so that no docket can be it. */
+/* No docket: what is lent as its state was never begun, is that of another layout, or was changed so that no docket can be it.
+ * Begin it anew and lodge the texts again. */
 #define DOCKET_NO_DOCKET (SIZE_MAX - 1)
 
 /* ---- what to lend; more may be lent. What a call does not name as written stays as it was, within the asked-for part too */
@@ -49,8 +54,8 @@ extern "C" {
 /* for the outputs of the held schedule: docket_outputs asks for so many, whatever is held */
 #define DOCKET_OUTPUTS ((size_t)1536)
 
-/* Stack enough for a call. A tree of the greatest depth uses less than 260,000 bytes of it, measured; no proof covers the stack. On a
- * thread with less the process ends at the stack's guard page. */
+/* Stack enough for a call. A tree of the greatest depth uses less than 260,000 bytes of it, measured; no proof covers the stack.
+ * On a thread with less the process ends at the stack's guard page. */
 #define DOCKET_STACK_BYTES ((size_t)1048576)
 
 /* A text of more bytes is refused by 11. */
@@ -69,11 +74,11 @@ size_t docket_rows(void);
  * Returned: 0; or DOCKET_TOO_SMALL, where fewer numbers or rows than a state has are lent. */
 size_t docket_fresh(uint64_t *numbers, size_t numbers_length, uint16_t *rows, size_t rows_length);
 
-/* The places of an answer in `values`. */
+/* The places of an answer in `values`. Look at the first two: they say what the others are. */
 enum docket_value {
     DOCKET_ANSWER = 0, /* DOCKET_REFUSED, DOCKET_HELD or DOCKET_PASSED */
     DOCKET_FIGURE = 1, /* what follows: one of enum docket_figure */
-    /* of a refusal */
+    /* of a refusal: lines, units and periods are counted from 1, and what does not apply is 0 */
     DOCKET_REFUSAL_NUMBER = 2,
     DOCKET_REFUSAL_LINE = 3,
     DOCKET_REFUSAL_UNIT = 4,
@@ -105,7 +110,9 @@ enum docket_figure { DOCKET_NOTHING = 0, DOCKET_A_COST = 1, DOCKET_A_BOUND = 2, 
 size_t docket_lodge(uint64_t *numbers, size_t numbers_length, uint16_t *rows, size_t rows_length, const uint8_t *text,
                     size_t text_length, uint8_t *line, size_t line_length, uint64_t *values, size_t values_length);
 
-/* Writes the report into the buffer, from the place `at` on.
+/* Writes the report into the buffer, from the place `at` on, which is 0 for the buffer's start: the lines kind=report, cost=,
+ * costwriter=, bound=, boundwriter=, gap=, end=report, each ended by byte 10. What is not held is `none`, a bound may be `never`,
+ * and the gap is `none` unless cost and bound are numbers.
  *
  * Returned: how many bytes from there on are the report; the others are as they were. Or DOCKET_TOO_SMALL, where the place lies
  * beyond the buffer's end or too few bytes follow it (43), or the state is too short; or DOCKET_NO_DOCKET. */
@@ -113,7 +120,7 @@ size_t docket_report(const uint64_t *numbers, size_t numbers_length, const uint1
                      size_t buffer_length, size_t at);
 
 /* Copies the outputs of the held schedule: that of unit u in period t, both counted from 0, to outputs[u * T + t], T being the
- * periods of the problem.
+ * periods of the problem, which its text says. (The unit of a refusal is counted from 1.)
  *
  * Returned: how many there are, units times periods; 0 where no schedule is held. Or DOCKET_TOO_SMALL or DOCKET_NO_DOCKET. */
 size_t docket_outputs(const uint64_t *numbers, size_t numbers_length, const uint16_t *rows, size_t rows_length, uint16_t *outputs,

@@ -9,6 +9,21 @@ except ImportError as error:
     sys.exit(f"{sys.argv[0]}: {error}")
 
 
+def fail(sentence: str) -> int:
+    """Tells what is wrong; the exit status."""
+    print(f"{sys.argv[0]}: {sentence}", file=sys.stderr)
+    return 1
+
+
+def say(line: str) -> None:
+    """Prints what may end the program where it cannot be written."""
+    try:
+        print(line, end="", flush=True)
+    except OSError as error:
+        sys.stdout = None
+        sys.exit(fail(f"cannot write the answers: {error.strerror}"))
+
+
 def main(names: list[str]) -> int:
     desk = docket.Docket()
     for name in names:
@@ -16,10 +31,9 @@ def main(names: list[str]) -> int:
             with open(name, "rb") as file:
                 text = file.read(docket.MOST_TEXT + 1)
         except OSError as error:
-            print(f"{sys.argv[0]}: cannot read {name}: {error.strerror}", file=sys.stderr)
-            return 1
-        print(desk.lodge(text))
-    print(desk.report(), end="")
+            return fail(f"cannot read {name}: {error.strerror}")
+        say(f"{desk.lodge(text)}\n")
+    say(str(desk.report()))
     return 0
 
 

@@ -4,11 +4,16 @@
     answer = desk.lodge(open("problem.txt", "rb").read())
     print(answer, desk.report().gap)
 
+What texts, answers and reports are and what the number of a refusal means is in the repository's README.md. A text of
+more than MOST_TEXT bytes is refused by 11, and so is an input of more than MOST_INPUT bytes that is listed. A tree's
+bound is a number or NEVER.
+
 What each call answers, for every text, is proved; hosts/c/docket.h says what the library's calls promise. Not proved
 is this package, which lends them memory and gives their answers as Python values.
 
 The library is looked for beside this package (`libdocket.so`, which hosts/python/build.sh writes), then in the file
-that the environment variable DOCKET_LIBRARY names. Where there is none, `import docket` is an ImportError that says so.
+that the environment variable DOCKET_LIBRARY names, which counts only where none stands beside the package. Where there
+is none, `import docket` is an ImportError that says so.
 
 A call needs STACK_BYTES of stack, 1 MiB, besides what Python uses. The main thread has 8 MiB unless `ulimit -s` says
 otherwise, and so has every thread where `threading.stack_size` was not set. Who sets it gives

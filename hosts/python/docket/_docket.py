@@ -58,7 +58,7 @@ class Docket:
 
     def outputs(self) -> list[int]:
         """The outputs of the held schedule, that of unit u in period t, both counted from 0, at u * T + t, T being the
-        periods of the problem. Empty where no schedule is held."""
+        periods of the problem, which its text says. Empty where no schedule is held."""
         outputs = _Outputs()
         with self._lock:
             count = library.docket_outputs(self._numbers, _NUMBERS, self._rows, _ROWS, outputs, OUTPUTS)

@@ -6,7 +6,8 @@ from typing import Final
 
 
 class Never(enum.Enum):
-    """The type of NEVER, its one value."""
+    """The type of NEVER, its one value: the bound of a tree that shows that no schedule meets the rules. It is no
+    number: it has no order and no sums."""
 
     NEVER = "never"
 

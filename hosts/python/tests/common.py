@@ -6,6 +6,7 @@ import subprocess
 import sys
 from collections.abc import Iterator
 from pathlib import Path
+from typing import BinaryIO
 
 PYTHON = Path(__file__).resolve().parent.parent
 ROOT = PYTHON.parent.parent
@@ -51,7 +52,11 @@ def large_problem() -> bytes:
 
 
 def run_python(
-    *arguments: str, folder: Path = PYTHON, library: str | None = None, seconds: int = 60
+    *arguments: str,
+    folder: Path = PYTHON,
+    library: str | None = None,
+    seconds: int = 60,
+    stdout: int | BinaryIO = subprocess.PIPE,
 ) -> subprocess.CompletedProcess[str]:
     """What Python does with the arguments in a process of its own, with the folder's package and with an environment
     that names the library or none."""
@@ -59,8 +64,9 @@ def run_python(
     environment["PYTHONPATH"] = str(folder)
     if library is not None:
         environment["DOCKET_LIBRARY"] = library
+    command = [sys.executable, *arguments]
     return subprocess.run(
-        [sys.executable, *arguments], cwd=ROOT, env=environment, capture_output=True, text=True, timeout=seconds
+        command, cwd=ROOT, env=environment, stdout=stdout, stderr=subprocess.PIPE, text=True, timeout=seconds
     )
 
 

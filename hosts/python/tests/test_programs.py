@@ -38,6 +38,12 @@ class LodgeFiles(unittest.TestCase):
             self.assertEqual((ran.returncode, ran.stdout), (1, "answer=held\n"))
             self.assertEqual(ran.stderr, f"{LODGE_FILES}: cannot read {name}: {why}\n")
 
+    def test_answers_that_cannot_be_written(self) -> None:
+        with open("/dev/full", "wb") as full:
+            ran = run_python(LODGE_FILES, *self.files(PROBLEM), stdout=full)
+        self.assertEqual(ran.returncode, 1)
+        self.assertEqual(ran.stderr, f"{LODGE_FILES}: cannot write the answers: No space left on device\n")
+
     def test_no_file(self) -> None:
         ran = run_python(LODGE_FILES)
         self.assertEqual((ran.returncode, ran.stdout, ran.stderr), (2, "", f"usage: {LODGE_FILES} FILE..\n"))

@@ -6,7 +6,6 @@ fn main() {
     let answer = desk.lodge(b"kind=schedule\nwriter=7\nrun=50\nend=schedule\n");
     match answer.verdict() {
         Verdict::Held(Figures::Schedule { cost, .. }) => println!("a schedule that costs {cost}"),
-        Verdict::Refused(why) => println!("refused by {} for unit {}", why.number, why.unit),
         _ => println!("{answer}"),
     }
     print!("{}", desk.report());

@@ -5,9 +5,9 @@ use std::fmt;
 /// The bound that a tree gives on the cost of every schedule that meets the rules. `Never` is above every number.
 #[derive(Clone, Copy, Debug, PartialEq, Eq, PartialOrd, Ord, Hash)]
 pub enum Bound {
-    /// None costs less than this number, which may be negative.
+    /// No schedule that meets the rules costs less than this number, which may be negative.
     Number(i64),
-    /// There is none.
+    /// No schedule meets the rules.
     Never,
 }
 

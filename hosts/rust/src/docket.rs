@@ -17,7 +17,8 @@ pub fn rules() -> u64 {
 /// are such. A clone is a docket of its own.
 ///
 /// It lives in memory: what must be kept for good are the texts that were lodged, for they decide everything. Calls run on their
-/// caller's stack, of which [`STACK_BYTES`](crate::STACK_BYTES) are enough.
+/// caller's stack, of which [`STACK_BYTES`](crate::STACK_BYTES) are enough. Threads that lodge in one docket share it in a `Mutex`;
+/// reports and outputs may be asked for at once.
 ///
 /// ```
 /// use docket::{Bound, Docket, Figures, Verdict};
@@ -54,7 +55,7 @@ impl Docket {
         Docket { numbers, rows }
     }
 
-    /// The answer to a text, any bytes, which the docket holds from then on where the verdict is [`Held`](crate::Verdict::Held).
+    /// Lodges a text, any bytes. The docket changes only where the verdict is [`Held`](crate::Verdict::Held).
     pub fn lodge(&mut self, text: &[u8]) -> Answer {
         let mut line = [0; sys::LINE_BYTES];
         let mut values = [0; sys::VALUES];
@@ -76,7 +77,7 @@ impl Docket {
     }
 
     /// The outputs of the held schedule: that of unit u in period t, both counted from 0, at u * T + t, T being the problem's
-    /// periods. Empty where no schedule is held.
+    /// periods, which its text says. Empty where no schedule is held.
     ///
     /// ```
     /// # let mut docket = docket::Docket::new();
