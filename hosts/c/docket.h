@@ -36,8 +36,8 @@ extern "C" {
  * state is; but how much room a report needs is asked of a docket. */
 #define DOCKET_TOO_SMALL SIZE_MAX
 
-/* No docket: what is lent as its state was never begun, is that of another layout, or was changed so that no docket can be it.
- * Begin it anew and lodge the texts again. */
+/* No docket: what is lent as its state was never begun, is that of another layout, or was changed so that its problem or its
+ * figures are out of range. Begin it anew and lodge the texts again. */
 #define DOCKET_NO_DOCKET (SIZE_MAX - 1)
 
 /* ---- what to lend; more may be lent. What a call does not name as written stays as it was, within the asked-for part too */
@@ -63,7 +63,8 @@ extern "C" {
 
 /* ---- an open docket */
 
-/* The number of the rules by which texts are judged. It goes up where some text gets another answer than it did before. */
+/* The number of the rules by which texts are judged: a version in which some text gets another answer has a higher one. Who keeps
+ * a state beyond a program's end keeps this number with it, for a state made under other rules is not told apart. */
 size_t docket_rules(void);
 
 /* How many numbers a state has, of 64 bits in `numbers` and of 16 in `rows`. */
@@ -100,13 +101,14 @@ enum docket_figure { DOCKET_NOTHING = 0, DOCKET_A_COST = 1, DOCKET_A_BOUND = 2, 
 
 /* Lodges a text, any bytes.
  *
- * Returned: how many bytes of `line` now hold the line of the answer, byte 10 being the last; no byte 0 follows it. `values`
- * then begins with the answer as DOCKET_VALUES numbers: the two above, then the figures or the refusal's four numbers in order,
- * zeros after. A later version may give figures in places that are zeros now. The state is written only where the answer is
- * `held`; then it is that of the docket after the text. Or DOCKET_TOO_SMALL or DOCKET_NO_DOCKET.
+ * Returned: how many bytes of `line` now hold the line of the answer, byte 10 being the last; no byte 0 follows it, and the others
+ * are as they were. `values` then begins with the answer as DOCKET_VALUES numbers: the two above, then the figures or the
+ * refusal's four numbers in order, zeros after. A later version may give figures in places that are zeros now. The state is
+ * written only where the answer is `held`; then it is that of the docket after the text. Or DOCKET_TOO_SMALL or
+ * DOCKET_NO_DOCKET.
  *
- * A state that was changed by hand, so that a docket can still be it, is believed: the call cannot tell. What must be kept for
- * good are the texts that were lodged, for they decide everything. */
+ * A state that was changed by hand and is still in range is believed: the call cannot tell. What must be kept for good are the
+ * texts that were lodged, for they decide everything. */
 size_t docket_lodge(uint64_t *numbers, size_t numbers_length, uint16_t *rows, size_t rows_length, const uint8_t *text,
                     size_t text_length, uint8_t *line, size_t line_length, uint64_t *values, size_t values_length);
 
@@ -122,7 +124,8 @@ size_t docket_report(const uint64_t *numbers, size_t numbers_length, const uint1
 /* Copies the outputs of the held schedule: that of unit u in period t, both counted from 0, to outputs[u * T + t], T being the
  * periods of the problem, which its text says. (The unit of a refusal is counted from 1.)
  *
- * Returned: how many there are, units times periods; 0 where no schedule is held. Or DOCKET_TOO_SMALL or DOCKET_NO_DOCKET. */
+ * Returned: how many there are, units times periods; 0 where no schedule is held. The others are as they were. Or DOCKET_TOO_SMALL
+ * or DOCKET_NO_DOCKET. */
 size_t docket_outputs(const uint64_t *numbers, size_t numbers_length, const uint16_t *rows, size_t rows_length, uint16_t *outputs,
                       size_t outputs_length);
 

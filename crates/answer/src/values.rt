@@ -1,6 +1,6 @@
 // The answer to a lodged text as 16 numbers.
 ghost use mathlib.Core.Path.{_≡_};
-ghost use mathlib.Core.List.{[], _∷_};
+ghost use mathlib.Core.List.{_∷_};
 ghost use Rattle.model.specs.Held.{pad};
 ghost use Rattle.tree.specs.Coded.{bound-of};
 ghost use Rattle.answer.specs.Answers.{its-cost, tree-values, stated};

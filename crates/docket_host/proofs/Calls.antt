@@ -2,15 +2,16 @@
 use mathlib.Core.Path.{_≡_, refl, ap, _∙_}
 use mathlib.Core.Bool.{Bool, true, false}
 use mathlib.Core.List.{List, []}
+use mathlib.Core.Logic.{_↔_}
 use Prim.Native.Nat.{ℕ, _≤_, _<_}
 use native.Mathlib.Omega.{arith}
 use lib.Dec.{ltb, leb}
 use lib.ListN.{length}
 use lib.Seq.{paste}
-use borrow.Author.Tests.{ltb-false, leb-true}
+use borrow.Author.Tests.{ltb-false, leb-true, le-ltb, le-leb}
 use Rattle.numbers.proofs.Fronts.{front-more}
 use Rattle.writer.specs.Written.{over}
-use Rattle.answer.specs.Answers.{Stated, stated}
+use Rattle.answer.specs.Answers.{stated}
 use Rattle.answer.specs.AnswerLines.{answer-line}
 use Rattle.answer.specs.AnswerNumbers.{answer-numbers}
 use Rattle.docket.specs.declared.Docket.{Docket}
@@ -24,24 +25,31 @@ use Rattle.state.specs.Layout.{docket-in}
 use Rattle.state.specs.Kept.{long, holds, lodged-numbers, lodged-rows, outputs-count, outputs-of}
 use Rattle.state.proofs.Arrays.{demand-long, spare-long, units-long}
 use Rattle.state.proofs.Room.{clash, long-room}
+use Rattle.state.proofs.Opening.{holds-sound}
+use Rattle.state.proofs.Outputs.{outputs-few}
 use Rattle.state.proofs.Lodged as state
 use Rattle.docket_host.specs.HostAnswer.{too-small}
-use Rattle.docket_host.specs.Calls.{no-docket, guarded, fresh-answer, fresh-numbers, fresh-rows, lodge-room, lodge-answer, lodge-numbers, lodge-rows, lodge-line, lodge-values, report-number, report-answer, report-bytes, outputs-room, outputs-answer, outputs-rows}
+use Rattle.docket_host.specs.Calls.{no-docket, guarded, fresh-answer, fresh-numbers, fresh-rows, lends, lodge-room, lodge-answer, lodge-numbers, lodge-rows, lodge-line, lodge-values, report-number, report-answer, report-bytes, outputs-room, outputs-answer, outputs-rows}
 
 -- ---- what a test of room says
 
-module _ (v w line values : List ℕ) where
-  pub lodge-lent : lodge-room v w line values ≡ true → (long v w ≡ true) × ((128 ≤ length line) × (16 ≤ length values))
-  lodge-lent e = go (long v w) refl e
+module _ (line values : List ℕ) where
+  lends-much : lends line values ≡ true → (128 ≤ length line) × (16 ≤ length values)
+  lends-much e = go (ltb (length line) 128) refl e
     where
-      bytes : (t : Bool) → ltb (length line) 128 ≡ t → pick t false (leb 16 (length values)) ≡ true → (128 ≤ length line) × (16 ≤ length values)
-      bytes true h k = clash k
-      bytes false h k = (ltb-false (length line) 128 h, leb-true 16 (length values) k)
+      go : (t : Bool) → ltb (length line) 128 ≡ t → pick t false (leb 16 (length values)) ≡ true → (128 ≤ length line) × (16 ≤ length values)
+      go true h k = clash k
+      go false h k = (ltb-false (length line) 128 h, leb-true 16 (length values) k)
 
-      go : (t : Bool) → long v w ≡ t → pick t (pick (ltb (length line) 128) false (leb 16 (length values))) false ≡ true
-          → (long v w ≡ true) × ((128 ≤ length line) × (16 ≤ length values))
-      go true h k = (h, bytes (ltb (length line) 128) refl k)
-      go false h k = clash k
+  pub lends-is : (lends line values ≡ true) ↔ ((128 ≤ length line) × (16 ≤ length values))
+  lends-is = (lends-much, λ h. rw (le-ltb (length line) 128 (h .0), le-leb 16 (length values) (h .1)) refl)
+
+pub lodge-lent : (v w line values : List ℕ) → lodge-room v w line values ≡ true → (long v w ≡ true) × ((128 ≤ length line) × (16 ≤ length values))
+lodge-lent v w line values e = go (long v w) refl e
+  where
+    go : (t : Bool) → long v w ≡ t → pick t (lends line values) false ≡ true → (long v w ≡ true) × ((128 ≤ length line) × (16 ≤ length values))
+    go true h k = (h, lends-is line values .0 k)
+    go false h k = clash k
 
 module _ (v w o : List ℕ) where
   pub outputs-lent : outputs-room v w o ≡ true → (long v w ≡ true) × (1536 ≤ length o)
@@ -163,6 +171,10 @@ module _ (v w o : List ℕ) where
     pub outputs-by : Copies (outputs-count (docket-in v w)) (over (outputs-of (docket-in v w)) o)
     unfolding outputs-answer outputs-rows
     outputs-by = (rw (e, i) refl, rw (e, i) refl)
+
+    -- no count is one of the two numbers
+    pub outputs-apart : outputs-answer v w o < no-docket
+    outputs-apart = omega (arith, outputs-by .0, outputs-few (docket-in v w) (holds-sound v w i))
 
     pub outputs-done : (d : Docket) → d ≡ docket-in v w → (r : ℕ) → r ≡ outputs-count d → (o′ : List ℕ) → o′ ≡ over (outputs-of d) o → Copies r o′
     outputs-done d ed r er o′ eo =

@@ -12,7 +12,11 @@ use denote.Triple.Clauses.{closing}
 use ghost.Atoms.{Atoms}
 use Rattle.docket.specs.Listing.{listed-of, output-of}
 use Rattle.docket_host.specs.HostAnswer.{host-answer}
-use Rattle.docket_host.specs.Calls.{fresh-answer, fresh-numbers, fresh-rows, lodge-answer, lodge-numbers, lodge-rows, lodge-line, lodge-values, report-answer, report-bytes, outputs-answer, outputs-rows}
+use Rattle.state.specs.Layout.{numbers-count, rows-count}
+use Rattle.docket_host.specs.Calls.{rules, fresh-answer, fresh-numbers, fresh-rows, lodge-answer, lodge-numbers, lodge-rows, lodge-line, lodge-values, report-answer, report-bytes, outputs-answer, outputs-rows}
+use Rattle.docket_host.proofs.docket_rules as rules-asked
+use Rattle.docket_host.proofs.docket_numbers as numbers-asked
+use Rattle.docket_host.proofs.docket_rows as rows-asked
 use Rattle.docket_host.proofs.docket_fresh as fresh
 use Rattle.docket_host.proofs.docket_lodge as lodge
 use Rattle.docket_host.proofs.docket_report as report
@@ -20,6 +24,19 @@ use Rattle.docket_host.proofs.docket_outputs as outputs
 use Rattle.docket_host.proofs.docket_listing as listing
 
 module _ {M : Type 1} (𝓤 : URA M) (H : Heap 𝓤) (A : Atoms 𝓤) (m : Memory → SProp 𝓤) (run : Routine → Fun 𝓤) where
+  -- docket_rules(), docket_numbers(), docket_rows()
+  pub rules-say : rules-asked.spec 𝓤 H A m run
+      ≡ closing 𝓤 H A rules-asked.ended (λ κs a. record { ghost = Unit {0}; requires = λ g. emp 𝓤; ensures = λ g r e. fact 𝓤 (r ≡ rules) })
+  rules-say = refl
+
+  pub numbers-say : numbers-asked.spec 𝓤 H A m run
+      ≡ closing 𝓤 H A numbers-asked.ended (λ κs a. record { ghost = Unit {0}; requires = λ g. emp 𝓤; ensures = λ g r e. fact 𝓤 (r ≡ numbers-count) })
+  numbers-say = refl
+
+  pub rows-say : rows-asked.spec 𝓤 H A m run
+      ≡ closing 𝓤 H A rows-asked.ended (λ κs a. record { ghost = Unit {0}; requires = λ g. emp 𝓤; ensures = λ g r e. fact 𝓤 (r ≡ rows-count) })
+  rows-say = refl
+
   -- docket_fresh(numbers, rows)
   pub fresh-says : fresh.spec 𝓤 H A m run
       ≡ closing 𝓤 H A fresh.ended (λ κs a. record {

@@ -4,7 +4,8 @@ use mathlib.Core.Bool.{true, false}
 use Prim.Native.Nat.{_-_, _^_}
 use lib.ListN.{replicate}
 use Rattle.docket_host.specs.HostAnswer.{too-small}
-use Rattle.docket_host.specs.Calls.{no-docket, lodge-room, outputs-room}
+use Rattle.state.specs.Layout.{numbers-count, rows-count}
+use Rattle.docket_host.specs.Calls.{rules, no-docket, lodge-room, outputs-room}
 
 lodge-enough : lodge-room (replicate 586 0) (replicate 1536 0) (replicate 128 0) (replicate 16 0) ≡ true
 lodge-enough = refl
@@ -23,6 +24,10 @@ outputs-enough = refl
 
 outputs-short : outputs-room (replicate 586 0) (replicate 1536 0) (replicate 1535 0) ≡ false
 outputs-short = refl
+
+-- the numbers that are asked for by calls
+the-sizes : (numbers-count ≡ 586) × ((rows-count ≡ 1536) × (rules ≡ 1))
+the-sizes = (refl, (refl, refl))
 
 -- SIZE_MAX and SIZE_MAX - 1
 the-numbers : (too-small ≡ 2 ^ 64 - 1) × (no-docket ≡ 2 ^ 64 - 2)

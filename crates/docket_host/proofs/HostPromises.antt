@@ -2,15 +2,14 @@
 -- state after `docket_fresh` on any two slices that are long enough and then calls of `docket_lodge`, each with a text and with a line and values that
 -- are lent for its answer; `after texts` and `answer texts text` are the docket and the answer of the page of promises
 -- (crates/docket/proofs/Promises.antt), so that all of that page holds of them.
-use mathlib.Core.Path.{_≡_, refl, sym, ap, _∙_}
+use mathlib.Core.Path.{_≡_}
 use mathlib.Core.Bool.{true, false}
 use mathlib.Core.List.{List, []}
+use mathlib.Core.Logic.{_↔_, _⊎_}
 use mathlib.Core.Option.{none, some}
 use Prim.Native.Nat.{ℕ, _+_, _≤_, _<_}
-use native.Mathlib.Omega.{arith}
-use lib.ListN.{length}
-use Rattle.model.specs.Instance.{Instance}
-use Rattle.model.specs.Ranges.{All}
+use lib.ListN.{length, take, drop}
+use Rattle.model.specs.Instance.{Instance, _at_}
 use Rattle.model.specs.Best.{FirstLeast}
 use Rattle.judge.specs.Rows.{joined}
 use Rattle.writer.specs.Written.{over}
@@ -18,27 +17,37 @@ use Rattle.answer.specs.Answers.{Stated, stated}
 use Rattle.answer.specs.AnswerLines.{answer-line}
 use Rattle.answer.specs.AnswerNumbers.{answer-numbers}
 use Rattle.answer.proofs.NumbersTell as numbers
-use Rattle.docket.specs.declared.Docket.{Docket}
 use Rattle.docket.specs.declared.held.CostBy.{CostBy}
 use Rattle.docket.specs.declared.held.HeldCost.the-variants as cost
+use Rattle.docket.specs.Docket.{sound}
 use Rattle.docket.specs.Verdicts.{Costed, Verdict, schedules}
 use Rattle.docket.specs.Texts.{Are}
 use Rattle.docket.specs.Lodging.{lodge-of}
+use Rattle.docket.specs.Listing.{listing-text, listed-of}
 use Rattle.docket.specs.Demand3.{Unheld}
 use Rattle.docket.specs.ReportDue.{ReportDue}
 use Rattle.docket.specs.Promised.{after, answer, given}
-use Rattle.state.specs.Layout.{docket-in}
-use Rattle.state.specs.Kept.{long, holds, kept-numbers, kept-rows, State, Holds, outputs-of}
-use Rattle.state.proofs.Fits.{Fits}
+use Rattle.docket.proofs.Promises as promised
+use Rattle.state.specs.Layout.{numbers-count, rows-count, mark, docket-in}
+use Rattle.state.specs.Kept.{long, holds, kept-numbers, kept-rows, State, kept, Holds, outputs-of}
+use Rattle.state.proofs.Room as room
+use Rattle.state.proofs.Opening as opening
 use Rattle.state.proofs.Again as again
 use Rattle.state.proofs.ReachedFits as reached
-use Rattle.state.proofs.Lodged as state
 use Rattle.state.proofs.Outputs as held
-use Rattle.docket_host.specs.HostAnswer.{too-small}
-use Rattle.docket_host.specs.Calls.{no-docket, lodge-room, fresh-answer, fresh-numbers, fresh-rows, lodge-answer, lodge-numbers, lodge-rows, lodge-line, lodge-values, report-answer, report-bytes, outputs-room, outputs-answer, outputs-rows}
-use Rattle.docket_host.specs.Lending.{Lending, Enough, texts-of, fresh-state, after-calls, HostReport}
+use Rattle.docket_host.specs.HostAnswer.{too-small, host-answer}
+use Rattle.docket_host.specs.Calls.{no-docket, lends, lodge-room, fresh-answer, fresh-numbers, fresh-rows, lodge-answer, lodge-numbers, lodge-rows, lodge-line, lodge-values, report-answer, report-bytes, outputs-room, outputs-answer, outputs-rows}
+use Rattle.docket_host.specs.Lending.{Lending, heard, fresh-state, after-calls, HostReport}
 use Rattle.docket_host.proofs.Calls as call
 use Rattle.docket_host.proofs.Hosted as hosted
+use Rattle.docket_host.proofs.AfterCalls as state
+use Rattle.docket_host.proofs.HostAnswers as host
+use Rattle.docket_host.proofs.docket_rules.Statement as rules
+use Rattle.docket_host.proofs.docket_rules.Met as rules-met
+use Rattle.docket_host.proofs.docket_numbers.Statement as numbers-asked
+use Rattle.docket_host.proofs.docket_numbers.Met as numbers-met
+use Rattle.docket_host.proofs.docket_rows.Statement as rows-asked
+use Rattle.docket_host.proofs.docket_rows.Met as rows-met
 use Rattle.docket_host.proofs.docket_fresh.Statement as fresh
 use Rattle.docket_host.proofs.docket_fresh.Met as fresh-met
 use Rattle.docket_host.proofs.docket_lodge.Statement as lodge
@@ -53,8 +62,22 @@ use Rattle.docket_host.proofs.docket_listing.Met as listing-met
 -- ---- Every call comes to its end and does nothing undefined, whatever slices it is lent. The theorems ask nothing of the caller and fix all that comes
 -- back (Contracts.antt), so that the definitions named below (specs/Calls.antt) are what the calls do
 
-pub calls-end : {M : Type 1} → fresh.statement M × lodge.statement M × report.statement M × outputs.statement M × listing.statement M
-calls-end = (fresh-met.met, lodge-met.met, report-met.met, outputs-met.met, listing-met.met)
+pub calls-end : {M : Type 1} → rules.statement M × numbers-asked.statement M × rows-asked.statement M × fresh.statement M × lodge.statement M × report.statement M
+    × outputs.statement M × listing.statement M
+calls-end = (rules-met.met, numbers-met.met, rows-met.met, fresh-met.met, lodge-met.met, report-met.met, outputs-met.met, listing-met.met)
+
+-- ---- What is asked for. A state has room exactly in as many numbers and rows as the calls say, and slices with room hold a docket exactly where they begin
+-- with the mark and the docket that they are read as is sound
+
+pub room-is : (v w : List ℕ) → (long v w ≡ true) ↔ ((numbers-count ≤ length v) × (rows-count ≤ length w))
+room-is v w = (room.long-room v w, λ h. room.room-long v w (h .0) (h .1))
+
+pub holds-is : (v w : List ℕ) → (holds v w ≡ true) ↔ ((v at 0 ≡ mark) × (sound (docket-in v w) ≡ true))
+holds-is = opening.holds-is
+
+-- A call of `docket_lodge` is lent enough for its answer exactly in 128 bytes for a line and 16 values
+pub lends-is : (line values : List ℕ) → (lends line values ≡ true) ↔ ((128 ≤ length line) × (16 ≤ length values))
+lends-is = call.lends-is
 
 -- ---- Of any slices: with too little room, or where the state holds no docket, a call says so and leaves all
 
@@ -71,17 +94,27 @@ pub lodge-none : (v w text line values : List ℕ) → lodge-room v w line value
     × ((line ≡ lodge-line v w text line values) × (values ≡ lodge-values v w text line values))))
 lodge-none = call.lodge-none
 
+pub report-short : (v w b : List ℕ) (k : ℕ) → long v w ≡ false → (too-small ≡ report-answer v w b k) × (b ≡ report-bytes v w b k)
+report-short = call.report-short
+
+pub outputs-short : (v w o : List ℕ) → outputs-room v w o ≡ false → (too-small ≡ outputs-answer v w o) × (o ≡ outputs-rows v w o)
+outputs-short = call.outputs-short
+
 pub report-none : (v w b : List ℕ) (k : ℕ) → long v w ≡ true → holds v w ≡ false → (no-docket ≡ report-answer v w b k) × (b ≡ report-bytes v w b k)
 report-none = call.report-none
 
 pub outputs-none : (v w o : List ℕ) → outputs-room v w o ≡ true → holds v w ≡ false → (no-docket ≡ outputs-answer v w o) × (o ≡ outputs-rows v w o)
 outputs-none = call.outputs-none
 
--- Of slices that hold a docket, whoever wrote them: a length is never one of the two numbers, and a refused or passed text leaves the state as it was
+-- Of slices that hold a docket, whoever wrote them: no length of a line and no count of outputs is one of the two numbers
 
 pub length-apart : (v w text line values : List ℕ) → lodge-room v w line values ≡ true → holds v w ≡ true → lodge-answer v w text line values < no-docket
 length-apart = call.length-apart
 
+pub outputs-apart : (v w o : List ℕ) → outputs-room v w o ≡ true → holds v w ≡ true → outputs-answer v w o < no-docket
+outputs-apart = call.outputs-apart
+
+-- Of any slices: a text that would be refused or passed leaves the state as it was
 pub unheld-leaves : (v w text line values : List ℕ) → Unheld (stated (lodge-of (docket-in v w) text .answer))
     → (lodge-numbers v w text line values ≡ v) × (lodge-rows v w text line values ≡ w)
 unheld-leaves = call.unheld-leaves
@@ -90,25 +123,45 @@ unheld-leaves = call.unheld-leaves
 pub docket-again : (texts : List (List ℕ)) (v w : List ℕ) → docket-in (kept-numbers (after texts) v) (kept-rows (after texts) w) ≡ after texts
 docket-again texts = again.docket-again (after texts) (reached.reached-fits texts)
 
--- Equal values, equal answers
+-- An answer has 16 values; equal values, equal answers
+pub values-long : (s : Stated) → length (answer-numbers s) ≡ 16
+values-long = numbers.answer-numbers-long
+
 pub values-tell : (s t : Stated) → answer-numbers s ≡ answer-numbers t → s ≡ t
 values-tell = numbers.numbers-tell
 
--- ---- After every list of calls that are lent enough, from a fresh state
+-- ---- After every list of calls, from a fresh state. `heard calls` are the texts of those that were lent enough; the others do nothing. `docket_report` and
+-- `docket_outputs` only read the state, so that they may be called in between
 
-module _ (v w : List ℕ) (room : long v w ≡ true) (calls : List Lending) (enough : All Enough calls) where
+module _ (v w : List ℕ) (room : long v w ≡ true) (calls : List Lending) where
   abbrev s : State
   s = after-calls (fresh-state v w) calls
 
   abbrev texts : List (List ℕ)
-  texts = texts-of calls
+  texts = heard calls
 
-  -- the state holds the docket after the texts
+  -- `docket_fresh` answered 0, whatever the slices held
+  pub begun : fresh-answer v w ≡ 0
+  begun = state.fresh-begins v w room
+
+  -- the state holds the docket after the texts, and is nothing but that docket's: its numbers and rows, and behind them what the slices held
   pub state-holds : Holds s (after texts)
-  state-holds = hosted.holds-after v w room calls enough
+  state-holds = state.holds-heard v w room calls
+
+  pub state-is : s ≡ kept (after texts) v w
+  state-is = state.state-is v w room calls
+
+  pub rest-stays : (drop numbers-count (s .numbers) ≡ drop numbers-count v) × (drop rows-count (s .rows) ≡ drop rows-count w)
+  rest-stays = state.rest-stays v w room calls
+
+  -- moved to the front of other slices, it is the state that the same calls would have made there
+  pub moved : (v′ w′ : List ℕ) → long v′ w′ ≡ true
+      → (over (take numbers-count (s .numbers)) v′ ≡ after-calls (fresh-state v′ w′) calls .numbers)
+      × (over (take rows-count (s .rows)) w′ ≡ after-calls (fresh-state v′ w′) calls .rows)
+  moved v′ w′ r = state.moved v w room v′ w′ r calls
 
   -- One call more: the length and the line of the answer, and its values
-  module _ (c : Lending) (e : Enough c) where
+  module _ (c : Lending) (e : lends (c .line) (c .values) ≡ true) where
     pub answer-length : lodge-answer (s .numbers) (s .rows) (c .text) (c .line) (c .values) ≡ length (answer-line (answer texts (c .text)))
     answer-length = hosted.length-is s (after texts) state-holds c e
 
@@ -123,6 +176,13 @@ module _ (v w : List ℕ) (room : long v w ≡ true) (calls : List Lending) (eno
       → (outputs-answer (s .numbers) (s .rows) o ≡ length (outputs-of (after texts))) × (outputs-rows (s .numbers) (s .rows) o ≡ over (outputs-of (after texts)) o)
   outputs-told = hosted.outputs-told s texts state-holds
 
+  -- A report's length is at most 171, or too little room is said; in 256 bytes there is room
+  pub report-length : (b : List ℕ) (k : ℕ) → (report-answer (s .numbers) (s .rows) b k ≤ 171) ⊎ (report-answer (s .numbers) (s .rows) b k ≡ too-small)
+  report-length = hosted.report-length s texts state-holds
+
+  pub report-fits : (b : List ℕ) (k : ℕ) → k + 256 ≤ length b → report-answer (s .numbers) (s .rows) b k ≤ 171
+  report-fits = hosted.report-fits s texts state-holds
+
   -- so let vs be what the texts are
   module _ (vs : List Verdict) (are : Are none texts vs) where
     -- A report, at every buffer and place: the seven lines due to the accepted texts stand there, or it is 43, and too little room is said
@@ -130,14 +190,22 @@ module _ (v w : List ℕ) (room : long v w ≡ true) (calls : List Lending) (eno
         × HostReport lines b k (report-answer (s .numbers) (s .rows) b k) (report-bytes (s .numbers) (s .rows) b k)
     reports = hosted.report-due s texts state-holds vs are
 
-    -- every report fits the 256 bytes that the header says to lend
-    pub report-fits : (b : List ℕ) (k : ℕ) → k + 256 ≤ length b → report-answer (s .numbers) (s .rows) b k ≤ 171
-    report-fits = hosted.report-fits s texts state-holds
-
     -- The outputs held: none while no schedule was accepted; else the rows, one after the other, of the first accepted schedule with the least cost
-    pub no-outputs : after texts .held .cost ≡ cost.Nothing → outputs-of (after texts) ≡ []
-    no-outputs = held.no-outputs (after texts)
+    pub no-outputs : schedules vs ≡ [] → outputs-of (after texts) ≡ []
+    no-outputs e = held.no-outputs (after texts) (promised.schedule-or-none texts vs are .1 e)
 
     pub held-outputs : (P : Instance) → given vs ≡ some P → (by : CostBy) → after texts .held .cost ≡ cost.Number by
         → (x : Costed) × FirstLeast (λ x. x .cost) x (schedules vs) × (outputs-of (after texts) ≡ joined (x .rows))
     held-outputs = held.outputs-after texts vs are
+
+-- ---- The listing: its length, which is never the number for too little room; or that number
+
+module _ (input output : List ℕ) where
+  pub listing-short : length output < 1048576 → host-answer (listed-of input output) ≡ too-small
+  listing-short = host.small-refused input output
+
+  pub listing-length : 1048576 ≤ length output → host-answer (listed-of input output) ≡ length (listing-text input)
+  listing-length = host.large-written input output
+
+  pub listing-apart : 1048576 ≤ length output → host-answer (listed-of input output) < too-small
+  listing-apart = host.told-apart input output

@@ -1,15 +1,13 @@
--- Texts lodged by calls in a state that `docket_fresh` made: the state holds the docket after them, so that each answer, report and copy of outputs is that
--- docket's.
-use mathlib.Core.Path.{_≡_, refl, sym, ap, subst, _∙_}
-use mathlib.Core.Bool.{true}
-use mathlib.Core.List.{List, [], _∷_, _++_, append-nil, append-assoc}
+-- What calls on a state that holds a docket give: its answers, its reports, its outputs.
+use mathlib.Core.Path.{_≡_, refl, sym, ap, _∙_}
+use mathlib.Core.Bool.{Bool, true, false}
+use mathlib.Core.List.{List}
 use mathlib.Core.Logic.{_⊎_, inl, inr}
 use mathlib.Core.Option.{none}
 use Prim.Native.Nat.{ℕ, _+_, _≤_}
 use native.Mathlib.Omega.{arith}
 use lib.ListN.{length}
-use borrow.Author.Tests.{le-ltb, le-leb}
-use Rattle.model.specs.Ranges.{All}
+use borrow.Author.Tests.{le-leb}
 use Rattle.writer.specs.Written.{over}
 use Rattle.answer.specs.Answers.{stated}
 use Rattle.answer.specs.AnswerLines.{answer-line}
@@ -17,36 +15,35 @@ use Rattle.answer.specs.AnswerNumbers.{answer-numbers}
 use Rattle.report.specs.declared.ReportAnswer.{ReportAnswer}
 use Rattle.report.specs.declared.ReportAnswer.the-variants as report
 use Rattle.report.specs.Answers as told
-use Rattle.report.specs.Report.{written-at}
+use Rattle.report.specs.Report.{has-room, written-at}
+use Rattle.refusal.specs.declared.Refusal.{Refusal}
+use Rattle.refusal.specs.Refusals.{refusalOf}
 use Rattle.docket.specs.declared.Docket.{Docket}
-use Rattle.docket.specs.Docket.{fresh-docket}
 use Rattle.docket.specs.Verdicts.{Verdict}
 use Rattle.docket.specs.Texts.{Are}
-use Rattle.docket.specs.Lodging.{lodge-of}
+use Rattle.docket.specs.Lodging.{pick, lodge-of}
 use Rattle.docket.specs.Report.{text-shown, report-of, buffer-of}
 use Rattle.docket.specs.ReportDue.{Outcome, ReportDue}
 use Rattle.docket.specs.Promised.{after, answer}
 use Rattle.docket.proofs.Lists.{reached-sound}
 use Rattle.docket.proofs.ReportSizes.{reached-most}
 use Rattle.docket.proofs.Promises.{reports}
-use Rattle.state.specs.Layout.{docket-in}
-use Rattle.state.specs.Kept.{long, State, state-next, Holds, outputs-count, outputs-of}
-use Rattle.state.proofs.Lodged.{begun-holds, next-after}
+use Rattle.state.specs.Kept.{State, state-next, Holds, outputs-count, outputs-of}
 use Rattle.state.proofs.ReachedFits.{reached-fits}
 use Rattle.state.proofs.Outputs.{outputs-long}
 use Rattle.docket_host.specs.HostAnswer.{too-small}
-use Rattle.docket_host.specs.Calls.{lodge-room, fresh-numbers, fresh-rows, lodge-answer, lodge-line, lodge-values, report-number, report-answer, report-bytes, outputs-room, outputs-answer, outputs-rows}
-use Rattle.docket_host.specs.Lending.{Lending, Enough, texts-of, fresh-state, called, after-calls, HostReport}
+use Rattle.docket_host.specs.Calls.{lends, lodge-room, lodge-answer, lodge-line, lodge-values, report-number, report-answer, report-bytes, outputs-room, outputs-answer, outputs-rows}
+use Rattle.docket_host.specs.Lending.{Lending, called, HostReport}
 use Rattle.docket_host.proofs.Calls.{lodge-by, report-by, outputs-by}
 
 -- ---- one call
 
-module _ (s : State) (d : Docket) (h : Holds s d) (c : Lending) (e : Enough c) where
+module _ (s : State) (d : Docket) (h : Holds s d) (c : Lending) (e : lends (c .line) (c .values) ≡ true) where
   room-is : lodge-room (s .numbers) (s .rows) (c .line) (c .values) ≡ true
-  room-is = rw (h .room, le-ltb (length (c .line)) 128 (e .0), le-leb 16 (length (c .values)) (e .1)) refl
+  room-is = rw (h .room, e) refl
 
   -- the state is that after the text was lodged
-  called-is : called s c ≡ state-next s (c .text)
+  pub called-is : called s c ≡ state-next s (c .text)
   called-is =
       let b = lodge-by (s .numbers) (s .rows) (c .text) (c .line) (c .values) room-is (h .is) in
       rw (← b .1 .0, ← b .1 .1 .0) refl
@@ -66,22 +63,6 @@ module _ (s : State) (d : Docket) (h : Holds s d) (c : Lending) (e : Enough c) w
   values-are =
       sym (lodge-by (s .numbers) (s .rows) (c .text) (c .line) (c .values) room-is (h .is) .1 .1 .1 .1)
       ∙ ap (λ (x : Docket). over (answer-numbers (stated (lodge-of x (c .text) .answer))) (c .values)) (h .docket-is)
-
--- ---- every list of calls
-
-holds-from : (past : List (List ℕ)) (cs : List Lending) (s : State) → All Enough cs → Holds s (after past) → Holds (after-calls s cs) (after (past ++ texts-of cs))
-holds-from past [] s e h = subst (λ (t : List (List ℕ)). Holds s (after t)) (sym (append-nil past)) h
-holds-from past (c ∷ cs) s e h =
-    let n = subst (λ (x : State). Holds x (after (past ++ (c .text ∷ [])))) (sym (called-is s (after past) h c (e .0))) (next-after past s h (c .text)) in
-    subst (λ (t : List (List ℕ)). Holds (after-calls (called s c) cs) (after t)) (append-assoc past (c .text ∷ []) (texts-of cs))
-    (holds-from (past ++ (c .text ∷ [])) cs (called s c) (e .1) n)
-
-begun-is : (v w : List ℕ) → long v w ≡ true → Holds (fresh-state v w) fresh-docket
-unfolding fresh-numbers fresh-rows
-begun-is v w r = rw r (begun-holds v w r)
-
-pub holds-after : (v w : List ℕ) → long v w ≡ true → (cs : List Lending) → All Enough cs → Holds (after-calls (fresh-state v w) cs) (after (texts-of cs))
-holds-after v w r cs e = holds-from [] cs (fresh-state v w) e (begun-is v w r)
 
 -- ---- a report
 
@@ -118,14 +99,26 @@ module _ (s : State) (texts : List (List ℕ)) (h : Holds s (after texts)) (b : 
       let t = sym (report-by (s .numbers) (s .rows) b k (h .room) (h .is) .0) ∙ ap (λ (d : Docket). report-number (report-of d b k .answer)) (h .docket-is) in
       omega (arith, t, shown-there room, reached-most texts)
 
+  -- its length is at most 171, or it is refused
+  most-by : (t : Bool) (r : Refusal) (n : ℕ) → n ≤ 171
+      → (report-number (pick t (report.Written n) (report.Refused r)) ≤ 171) ⊎ (report-number (pick t (report.Written n) (report.Refused r)) ≡ too-small)
+  most-by true r n h = inl h
+  most-by false r n h = inr refl
+
+  pub report-length : (report-answer (s .numbers) (s .rows) b k ≤ 171) ⊎ (report-answer (s .numbers) (s .rows) b k ≡ too-small)
+  unfolding report-of written-at
+  report-length =
+      let t = report-by (s .numbers) (s .rows) b k (h .room) (h .is) .0 in
+      rw (← t, h .docket-is) (most-by (has-room b k (text-shown (after texts))) (refusalOf 43 0 0 0) (length (text-shown (after texts))) (reached-most texts))
+
 -- ---- the outputs
 
 module _ (s : State) (texts : List (List ℕ)) (h : Holds s (after texts)) (o : List ℕ) (room : 1536 ≤ length o) where
-  outputs-lent : outputs-room (s .numbers) (s .rows) o ≡ true
-  outputs-lent = rw (h .room, le-leb 1536 (length o) room) refl
+  outputs-room-is : outputs-room (s .numbers) (s .rows) o ≡ true
+  outputs-room-is = rw (h .room, le-leb 1536 (length o) room) refl
 
   pub outputs-told : (outputs-answer (s .numbers) (s .rows) o ≡ length (outputs-of (after texts))) × (outputs-rows (s .numbers) (s .rows) o ≡ over (outputs-of (after texts)) o)
   outputs-told =
-      let t = outputs-by (s .numbers) (s .rows) o outputs-lent (h .is) in
+      let t = outputs-by (s .numbers) (s .rows) o outputs-room-is (h .is) in
       let long = outputs-long (after texts) (reached-sound texts) (reached-fits texts .rows-long) in
       (sym (t .0) ∙ ap outputs-count (h .docket-is) ∙ sym long, sym (t .1) ∙ ap (λ (d : Docket). over (outputs-of d) o) (h .docket-is))

@@ -43,9 +43,13 @@ fresh-rows v w = pick (long v w) (kept-rows fresh-docket w) w
 
 -- ---- a text lodged: the line of its answer and its values, each at the front of what is lent
 
--- room for a state, 128 bytes for a line and 16 values
+-- 128 bytes for a line and 16 values
+abbrev pub lends : List ℕ → List ℕ → Bool
+lends line values = pick (ltb (length line) 128) false (leb 16 (length values))
+
+-- and room for a state
 abbrev pub lodge-room : List ℕ → List ℕ → List ℕ → List ℕ → Bool
-lodge-room v w line values = pick (long v w) (pick (ltb (length line) 128) false (leb 16 (length values))) false
+lodge-room v w line values = pick (long v w) (lends line values) false
 
 module _ (v w text line values : List ℕ) where
   abbrev pub lodged : Lodged

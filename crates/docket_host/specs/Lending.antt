@@ -4,9 +4,10 @@ use mathlib.Core.List.{List, [], _∷_, _++_}
 use mathlib.Core.Logic.{_⊎_}
 use Prim.Native.Nat.{ℕ, _+_, _≤_, _<_}
 use lib.ListN.{length, take, drop}
+use Rattle.docket.specs.Lodging.{pick}
 use Rattle.state.specs.Kept.{State}
 use Rattle.docket_host.specs.HostAnswer.{too-small}
-use Rattle.docket_host.specs.Calls.{fresh-numbers, fresh-rows, lodge-numbers, lodge-rows}
+use Rattle.docket_host.specs.Calls.{lends, fresh-numbers, fresh-rows, lodge-numbers, lodge-rows}
 
 -- a text, and what is lent for its answer
 pub record Lending : Type 0 where
@@ -14,13 +15,10 @@ pub record Lending : Type 0 where
   pub line : List ℕ
   pub values : List ℕ
 
--- as much is lent as the call asks for
-abbrev pub Enough : Lending → Type 0
-Enough c = (128 ≤ length (c .line)) × (16 ≤ length (c .values))
-
-abbrev pub texts-of : List Lending → List (List ℕ)
-texts-of [] = []
-texts-of (c ∷ cs) = c .text ∷ texts-of cs
+-- the texts of the calls that were lent enough: the others do nothing
+abbrev pub heard : List Lending → List (List ℕ)
+heard [] = []
+heard (c ∷ cs) = pick (lends (c .line) (c .values)) (c .text ∷ heard cs) (heard cs)
 
 -- the state after `docket_fresh`
 abbrev pub fresh-state : List ℕ → List ℕ → State

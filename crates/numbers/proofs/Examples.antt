@@ -15,6 +15,26 @@ first = record { a = 100; b = 10; c = 0; pL = 20; pU = 80; TU = 2; TD = 2; on = 
 abbrev second : Generator
 second = record { a = 40; b = 14; c = 0; pL = 10; pU = 50; TU = 1; TD = 1; on = false; since = 2; DR = 50; UR = 50; Hsc = 20; Csc = 60; Tcold = 0; Dc = 0 }
 
+-- the fifteen numbers of a generator, in their order
+fifteen : numbers-of (record {
+  a = 101;
+  b = 102;
+  c = 103;
+  pL = 104;
+  pU = 105;
+  TU = 106;
+  TD = 107;
+  on = true;
+  since = 109;
+  DR = 110;
+  UR = 111;
+  Hsc = 112;
+  Csc = 113;
+  Tcold = 114;
+  Dc = 115;
+}) ≡ 101 ∷ 102 ∷ 103 ∷ 104 ∷ 105 ∷ 106 ∷ 107 ∷ 1 ∷ 109 ∷ 110 ∷ 111 ∷ 112 ∷ 113 ∷ 114 ∷ 115 ∷ []
+fifteen = refl
+
 abbrev two-units : Instance
 two-units = record { periods = 2; demand = 60 ∷ 100 ∷ []; spare = 10 ∷ 11 ∷ []; units = first ∷ second ∷ [] }
 

@@ -1,22 +1,19 @@
 -- A docket kept in slices is had again from them, where its arrays are as long as the struct's and its bound is small.
-use mathlib.Core.Path.{_≡_, refl, sym, ap, _∙_}
+use mathlib.Core.Path.{_≡_, refl, ap, _∙_}
 use mathlib.Core.Bool.{Bool, true, false, not, cond}
-use mathlib.Core.List.{List, [], _∷_, _++_}
-use Prim.Native.Nat.{ℕ, zero, suc, _+_, _<_}
+use Prim.Native.Nat.{ℕ, suc, _+_}
 use native.Mathlib.Omega.{arith}
-use lib.Dec.{eqb, ltb}
+use lib.Dec.{eqb}
 use lib.IntN.{ℤ, pos, negsuc}
 use lib.ListN.{length, take, drop}
 use lib.Seq.{take-at, drop-at}
-use mathlib.Core.List.{append-assoc}
+use mathlib.Core.List.{List, _∷_, _++_, append-assoc}
 use borrow.Author.Tests.{lt-ltb}
-use Rattle.model.specs.declared.arrays.Problem.{Problem}
 use Rattle.model.specs.Instance.{_at_}
 use Rattle.numbers.specs.Numbers.{laid-out, problem-in}
-use Rattle.writer.specs.Written.{over, figureOf}
+use Rattle.writer.specs.Written.{figureOf}
 use Rattle.numbers.proofs.Again.{problem-again}
 use Rattle.docket.specs.declared.Docket.{Docket}
-use Rattle.docket.specs.declared.held.Held.{Held}
 use Rattle.docket.specs.declared.held.HeldCost.{HeldCost}
 use Rattle.docket.specs.declared.held.HeldCost.the-variants as cost
 use Rattle.docket.specs.declared.held.HeldBound.{HeldBound}
@@ -27,7 +24,7 @@ use Rattle.state.specs.Layout.{size-room, mark, head, cost-numbers, boun
 use Rattle.state.specs.Kept.{kept-numbers, kept-rows}
 use Rattle.state.proofs.Fits.{Fits}
 use Rattle.state.proofs.Sizes.{minus-is}
-use Rattle.state.proofs.Keeping.{five, eight, eight-long, cost-long, bound-long}
+use Rattle.state.proofs.Keeping.{five, eight, eight-long}
 
 -- ---- what is held
 

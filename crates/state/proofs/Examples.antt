@@ -3,19 +3,19 @@ use mathlib.Core.Path.{_≡_, refl}
 use mathlib.Core.Bool.{true, false}
 use mathlib.Core.List.{[], _∷_}
 use Prim.Native.Nat.{_+_, _*_, _-_, _^_}
-use lib.IntN.{negsuc}
+use lib.IntN.{pos, negsuc}
 use lib.ListN.{take, replicate}
 use Rattle.model.specs.declared.generator.Generator.{Generator}
 use Rattle.model.specs.Instance.{Instance}
 use Rattle.model.specs.Held.{pad, held}
-use Rattle.numbers.specs.Numbers.{laid-out}
+use Rattle.numbers.specs.Numbers.{laid-out, problem-in}
 use Rattle.writer.specs.Written.{figureOf}
 use Rattle.docket.specs.declared.Docket.{Docket}
 use Rattle.docket.specs.declared.held.HeldCost.the-variants as cost
 use Rattle.docket.specs.declared.held.HeldBound.the-variants as bound
-use Rattle.docket.specs.Docket.{small-cost, small-bound}
-use Rattle.state.specs.Layout.{mark, state-numbers, cost-in, bound-in}
-use Rattle.state.specs.Kept.{long, outputs-of}
+use Rattle.docket.specs.Docket.{valid-problem, sound, small-cost, small-bound}
+use Rattle.state.specs.Layout.{mark, state-numbers, bound-numbers, docket-in, cost-in, bound-in}
+use Rattle.state.specs.Kept.{long, holds, outputs-of}
 
 -- D O C K E T, and layout 1
 the-mark : mark ≡ 68 * 2 ^ 48 + 79 * 2 ^ 40 + 67 * 2 ^ 32 + 75 * 2 ^ 24 + 69 * 2 ^ 16 + 84 * 2 ^ 8 + 1
@@ -40,6 +40,26 @@ docket = record {
 its-front : take 12 (state-numbers docket) ≡ mark ∷ 1 ∷ 1 ∷ 1500 ∷ 7 ∷ 2 ∷ 30 ∷ 3 ∷ 2 ∷ 1 ∷ 60 ∷ 70 ∷ []
 unfolding state-numbers laid-out held pad figureOf
 its-front = refl
+
+-- a bound of 0 or more, never, and none
+its-bound : bound-numbers (bound.Number (record { value = pos 30; writer = 3 })) ≡ 1 ∷ 30 ∷ 3 ∷ []
+unfolding figureOf
+its-bound = refl
+
+its-never : bound-numbers (bound.Never (record { writer = 9 })) ≡ 3 ∷ 0 ∷ 9 ∷ []
+its-never = refl
+
+no-bound : bound-numbers bound.Nothing ≡ 0 ∷ 0 ∷ 0 ∷ []
+no-bound = refl
+
+-- zeros are no docket; nor is a mark with a problem of no periods behind it
+zeros-none : holds (replicate 586 0) (replicate 1536 0) ≡ false
+unfolding holds
+zeros-none = refl
+
+unsound-none : holds (mark ∷ 1 ∷ replicate 584 0) (replicate 1536 0) ≡ false
+unfolding holds docket-in problem-in sound valid-problem
+unsound-none = refl
 
 its-outputs : outputs-of docket ≡ 60 ∷ 70 ∷ []
 unfolding outputs-of held pad

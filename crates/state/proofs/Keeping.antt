@@ -1,10 +1,9 @@
 -- The four parts of a state's numbers, stored one after the other from the front, are the state's.
-use mathlib.Core.Path.{_≡_, refl, sym, ap, _∙_}
-use mathlib.Core.List.{List, [], _∷_, _++_}
+use mathlib.Core.Path.{_≡_, refl, ap, _∙_}
+use mathlib.Core.List.{List, [], _++_}
 use Prim.Native.Nat.{ℕ, _+_}
 use native.Mathlib.Omega.{arith}
-use lib.ListN.{length, drop, length-append}
-use lib.IntN.{pos, negsuc}
+use lib.ListN.{length, length-append}
 use lib.Seq.{paste}
 use Rattle.numbers.specs.Numbers.{laid-out}
 use Rattle.writer.specs.Written.{figureOf}

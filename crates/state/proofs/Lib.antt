@@ -9,4 +9,5 @@ pub mod Again
 pub mod Outputs
 pub mod ReachedFits
 pub mod Lodged
+pub mod KeptOver
 pub mod Examples

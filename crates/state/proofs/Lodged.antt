@@ -1,11 +1,9 @@
--- A state that is begun holds a fresh docket; one that holds the docket after some texts holds, one text later, the docket after that one too. A text that
--- is not held leaves the slices.
-use mathlib.Core.Path.{_≡_, refl, sym, ap, subst, _∙_}
-use mathlib.Core.Bool.{Bool, true, false}
-use mathlib.Core.List.{List, [], _∷_, _++_}
+-- A sound docket that is kept in slices is held by them. A text that is not held leaves the slices.
+use mathlib.Core.Path.{_≡_, refl, sym}
+use mathlib.Core.Bool.{true, false}
+use mathlib.Core.List.{List}
 use Prim.Native.Nat.{ℕ, _≤_}
 use native.Mathlib.Omega.{arith}
-use lib.Dec.{eqb}
 use lib.ListN.{length, drop, length-append, length-drop}
 use Rattle.model.specs.Instance.{_at_}
 use Rattle.numbers.specs.Numbers.{laid-out}
@@ -16,19 +14,14 @@ use Rattle.answer.specs.declared.Answer.the-variants as answer
 use Rattle.answer.specs.Answers.{stated}
 use Rattle.docket.specs.declared.Docket.{Docket}
 use Rattle.docket.specs.declared.Lodged.{Lodged}
-use Rattle.docket.specs.Docket.{fresh-docket, sound}
-use Rattle.docket.specs.Lodging.{pick, lodge-of}
-use Rattle.docket.specs.Demand3.{docket-after, Unheld}
-use Rattle.docket.specs.Promised.{after}
-use Rattle.docket.proofs.Demand3.{unheld-unchanged}
-use Rattle.docket.proofs.Lists.{reached-sound}
-use Rattle.state.specs.Layout.{mark, state-numbers, docket-in}
-use Rattle.state.specs.Kept.{long, holds, kept-numbers, kept-rows, is-held, lodged-numbers, lodged-rows, State, begun, state-next, Holds}
+use Rattle.docket.specs.Docket.{sound}
+use Rattle.docket.specs.Demand3.{Unheld}
+use Rattle.state.specs.Layout.{mark, state-numbers}
+use Rattle.state.specs.Kept.{long, holds, kept-numbers, kept-rows, is-held, lodged-numbers, lodged-rows, Holds}
 use Rattle.state.proofs.Fits.{Fits}
 use Rattle.state.proofs.Room.{clash, long-room, room-long}
 use Rattle.state.proofs.Keeping.{eight, eight-long}
 use Rattle.state.proofs.Again.{docket-again}
-use Rattle.state.proofs.ReachedFits.{reached-fits}
 
 -- ---- a docket kept in slices is held by them
 
@@ -36,7 +29,7 @@ over-long : (l b : List ℕ) → length l ≤ length b → length (over l b) ≡
 over-long l b h = omega (arith, h, length-append l (drop (length l) b), length-drop (length l) b)
 
 module _ (v w : List ℕ) (d : Docket) (r : long v w ≡ true) (F : Fits d) where
-  numbers-long : length (state-numbers d) ≡ 586
+  pub numbers-long : length (state-numbers d) ≡ 586
   unfolding state-numbers
   numbers-long = omega (arith, eight-long d, laid-long (d .problem) (F .demand-long) (F .spare-long) (F .units-long), length-append (eight d) (laid-out (d .problem)))
 
@@ -60,15 +53,12 @@ module _ (v w : List ℕ) (d : Docket) (r : long v w ≡ true) (F : Fits d) wher
   unfolding holds
   kept-is e = rw (kept-mark, docket-again d F v w, e) refl
 
-  kept-holds : sound d ≡ true → Holds (record { numbers = kept-numbers d v; rows = kept-rows d w }) d
+  pub kept-holds : sound d ≡ true → Holds (record { numbers = kept-numbers d v; rows = kept-rows d w }) d
   kept-holds e = record { room = kept-room; is = kept-is e; docket-is = docket-again d F v w }
-
-pub begun-holds : (v w : List ℕ) → long v w ≡ true → Holds (begun v w) fresh-docket
-begun-holds v w r = kept-holds v w fresh-docket r (reached-fits []) (reached-sound [])
 
 -- ---- a text that is refused or passed leaves the slices, whatever they hold; and only such a text's answer is not held
 
-held-or-not : (a : Answer) → is-held a ≡ false → Unheld (stated a)
+pub held-or-not : (a : Answer) → is-held a ≡ false → Unheld (stated a)
 held-or-not (answer.Refused r) e = tt
 held-or-not answer.ProblemHeld e = clash (sym e)
 held-or-not (answer.ScheduleHeld c) e = clash (sym e)
@@ -87,28 +77,3 @@ unheld-not (answer.TreePassed f) u = refl
 pub unheld-leaves : (l : Lodged) (v w : List ℕ) → Unheld (stated (l .answer)) → (lodged-numbers l v ≡ v) × (lodged-rows l w ≡ w)
 unfolding lodged-numbers lodged-rows
 unheld-leaves l v w u = let e = unheld-not (l .answer) u in (rw e refl, rw e refl)
-
--- ---- one text more
-
-module _ (s : State) (d : Docket) (h : Holds s d) (text : List ℕ) (F : Fits (lodge-of d text .docket)) (q : sound (lodge-of d text .docket) ≡ true) where
-  next-by : (t : Bool) → is-held (lodge-of d text .answer) ≡ t
-      → Holds (record { numbers = pick t (kept-numbers (lodge-of d text .docket) (s .numbers)) (s .numbers); rows = pick t (kept-rows (lodge-of d text .docket) (s .rows)) (s .rows) }) (lodge-of d text .docket)
-  next-by true t = kept-holds (s .numbers) (s .rows) (lodge-of d text .docket) (h .room) F q
-  next-by false t = subst (Holds s) (sym (unheld-unchanged d text (held-or-not (lodge-of d text .answer) t))) h
-
-  next-holds : Holds (state-next s text) (lodge-of d text .docket)
-  unfolding lodged-numbers lodged-rows
-  next-holds = rw (h .docket-is) (next-by (is-held (lodge-of d text .answer)) refl)
-
--- ---- after texts and one text more
-
-after-more : (d : Docket) (past texts : List (List ℕ)) → docket-after lodge-of d (past ++ texts) ≡ docket-after lodge-of (docket-after lodge-of d past) texts
-after-more d [] texts = refl
-after-more d (text ∷ past) texts = after-more (lodge-of d text .docket) past texts
-
-pub next-after : (texts : List (List ℕ)) (s : State) → Holds s (after texts) → (text : List ℕ) → Holds (state-next s text) (after (texts ++ (text ∷ [])))
-next-after texts s h text =
-    let e = after-more fresh-docket texts (text ∷ []) in
-    let F = subst Fits e (reached-fits (texts ++ (text ∷ []))) in
-    let q = ap sound (sym e) ∙ reached-sound (texts ++ (text ∷ [])) in
-    subst (Holds (state-next s text)) (sym e) (next-holds s (after texts) h text F q)

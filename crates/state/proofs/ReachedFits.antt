@@ -1,22 +1,20 @@
 -- Every docket that lodging reaches from a fresh one has arrays of the struct's lengths and a small bound.
 use mathlib.Core.Path.{_≡_, refl, sym, ap, subst, _∙_}
-use mathlib.Core.Bool.{true}
-use mathlib.Core.List.{List, [], _∷_, _++_}
+use mathlib.Core.List.{List, []}
 use mathlib.Core.Option.{Option, none, some}
-use Prim.Native.Nat.{ℕ, suc, _+_, _*_, _≤_}
+use Prim.Native.Nat.{ℕ, _*_}
 use native.Mathlib.Omega.{arith}
-use lib.ListN.{length, length-append, length-replicate}
+use lib.ListN.{length, length-replicate}
 use Rattle.model.specs.declared.generator.Generator.{Generator}
-use Rattle.model.specs.Instance.{Instance, Schedule}
+use Rattle.model.specs.Instance.{Instance}
 use Rattle.model.specs.Ranges.{WellFormed, All}
 use Rattle.model.specs.Held as arrays
-use Rattle.model.specs.Held.{pad, blank-generator}
+use Rattle.model.specs.Held.{blank-generator}
 use Rattle.model.proofs.Held.{length-pad}
 use Rattle.model.proofs.Lists.{IsFirst, held-least}
 use Rattle.model.proofs.Unbroken.{meets-shaped}
 use Rattle.judge.specs.Rows.{joined}
 use Rattle.judge.proofs.Shapes.{joined-long}
-use Rattle.docket.specs.declared.Docket.{Docket}
 use Rattle.docket.specs.Docket.{fresh-docket}
 use Rattle.docket.specs.Verdicts.{Costed, Verdict, schedules, known-at-end}
 use Rattle.docket.specs.Lodging.{lodge-of}

@@ -13,7 +13,7 @@ use Rattle.docket.specs.declared.Docket.{Docket}
 use Rattle.docket.specs.declared.Lodged.{Lodged}
 use Rattle.docket.specs.declared.held.HeldCost.{HeldCost}
 use Rattle.docket.specs.declared.held.HeldCost.the-variants as cost
-use Rattle.docket.specs.Docket.{fresh-docket, sound}
+use Rattle.docket.specs.Docket.{sound}
 use Rattle.docket.specs.Lodging.{pick, lodge-of}
 use Rattle.state.specs.Layout.{mark, state-numbers, docket-in}
 use Rattle.state.specs.declared.Opened.{Opened}
@@ -73,9 +73,9 @@ pub record State : Type 0 where
   pub numbers : List ℕ
   pub rows : List ℕ
 
--- two slices in which a docket is begun
-abbrev pub begun : List ℕ → List ℕ → State
-begun v w = record { numbers = kept-numbers fresh-docket v; rows = kept-rows fresh-docket w }
+-- a docket kept in two slices
+abbrev pub kept : Docket → List ℕ → List ℕ → State
+kept d v w = record { numbers = kept-numbers d v; rows = kept-rows d w }
 
 abbrev pub state-next : State → List ℕ → State
 state-next s text = record {

@@ -1,6 +1,6 @@
 -- A docket as two lists of numbers. The first has 586: a mark, whether a problem is known, three for the held cost, three for the held bound,
 -- and the 578 of the problem. The second has the 1,536 outputs of the held schedule. What a slice holds after them is its owner's.
-use mathlib.Core.Bool.{Bool, not, cond}
+use mathlib.Core.Bool.{not, cond}
 use mathlib.Core.List.{List, [], _∷_, _++_}
 use Prim.Native.Nat.{ℕ}
 use lib.Dec.{eqb, ltb}

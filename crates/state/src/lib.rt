@@ -2,7 +2,7 @@
 ghost use mathlib.Core.Path.{_≡_};
 ghost use mathlib.Core.Bool.{true, cond};
 ghost use Prim.Native.Nat.{_≤_};
-ghost use lib.ListN.{length, take};
+ghost use lib.ListN.{length};
 ghost use Rattle.writer.specs.Written.{over};
 ghost use Rattle.docket.specs.Docket.{sound};
 ghost use Rattle.state.specs.Layout.{docket-in};

@@ -1,5 +1,5 @@
 -- `docket_fresh` meets its contract.
-use mathlib.Core.Path.{_≡_, refl, sym, ap, _∙_}
+use mathlib.Core.Path.{refl, sym, ap, _∙_}
 use Rattle.docket.specs.declared.Docket.{Docket}
 use Rattle.state.specs.Kept.{kept-numbers, kept-rows}
 use Rattle.state.proofs.Room.{long-room}

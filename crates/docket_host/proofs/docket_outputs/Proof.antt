@@ -1,5 +1,5 @@
 -- `docket_outputs` meets its contract.
-use mathlib.Core.Path.{_≡_, sym, ap, _∙_}
+use mathlib.Core.Path.{sym, ap, _∙_}
 use Rattle.state.specs.declared.Opened.{Opened}
 use Rattle.state.proofs.Room.{long-room}
 use Rattle.state.proofs.Opening.{held-sound}

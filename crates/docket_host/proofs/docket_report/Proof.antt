@@ -1,7 +1,5 @@
 -- `docket_report` meets its contract.
-use mathlib.Core.Path.{_≡_, sym, ap, _∙_}
-use mathlib.Core.Bool.{Bool}
-use Rattle.docket.specs.declared.Docket.{Docket}
+use mathlib.Core.Path.{sym, ap, _∙_}
 use Rattle.state.specs.declared.Opened.{Opened}
 use Rattle.state.proofs.Room.{long-room}
 use Rattle.docket_host.proofs.Calls.{report-short, report-none, report-done}

@@ -1,5 +1,5 @@
 -- `count_outputs` meets its contract: a sound docket's schedule has at most 1,536 outputs.
-use mathlib.Core.Path.{_≡_, sym, ap}
+use mathlib.Core.Path.{sym, ap}
 use Prim.Native.Nat.{_*_, _≤_}
 use native.Mathlib.Omega.{arith}
 use Rattle.docket.specs.declared.held.HeldCost.{HeldCost}

@@ -1,8 +1,8 @@
 -- `docket_in` meets its contract: each part from its place.
-use mathlib.Core.Path.{_≡_, refl, ap, _∙_}
+use mathlib.Core.Path.{refl, ap, _∙_}
 use Prim.Native.Nat.{_-_}
 use native.Mathlib.Omega.{arith}
-use lib.ListN.{length, take, drop, length-drop}
+use lib.ListN.{length, drop, length-drop}
 use lib.Seq.{take-all}
 use Rattle.numbers.specs.Numbers.{problem-in}
 use Rattle.state.specs.Layout.{docket-in}
