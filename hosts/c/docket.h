@@ -101,8 +101,8 @@ enum docket_figure { DOCKET_NOTHING = 0, DOCKET_A_COST = 1, DOCKET_A_BOUND = 2, 
 
 /* Lodges a text, any bytes.
  *
- * Returned: how many bytes of `line` now hold the line of the answer, byte 10 being the last; no byte 0 follows it, and the others
- * are as they were. `values` then begins with the answer as DOCKET_VALUES numbers: the two above, then the figures or the
+ * Returned: how many bytes of `line` now hold the line of the answer, byte 10 being the last; no byte 0 follows it, and the
+ * others are as they were. `values` then begins with the answer as DOCKET_VALUES numbers: the two above, then the figures or the
  * refusal's four numbers in order, zeros after. A later version may give figures in places that are zeros now. The state is
  * written only where the answer is `held`; then it is that of the docket after the text. Or DOCKET_TOO_SMALL or
  * DOCKET_NO_DOCKET.
@@ -124,8 +124,8 @@ size_t docket_report(const uint64_t *numbers, size_t numbers_length, const uint1
 /* Copies the outputs of the held schedule: that of unit u in period t, both counted from 0, to outputs[u * T + t], T being the
  * periods of the problem, which its text says. (The unit of a refusal is counted from 1.)
  *
- * Returned: how many there are, units times periods; 0 where no schedule is held. The others are as they were. Or DOCKET_TOO_SMALL
- * or DOCKET_NO_DOCKET. */
+ * Returned: how many there are, units times periods; 0 where no schedule is held. The others are as they were. Or
+ * DOCKET_TOO_SMALL or DOCKET_NO_DOCKET. */
 size_t docket_outputs(const uint64_t *numbers, size_t numbers_length, const uint16_t *rows, size_t rows_length, uint16_t *outputs,
                       size_t outputs_length);
 
