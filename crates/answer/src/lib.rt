@@ -94,7 +94,7 @@ fn write_four(buf: &mut [u8], f: Figure, g: Figure, h: Figure, i: Figure) -> usi
 }
 
 // How many bytes were written: the line of a refusal, at the front of buf.
-fn write_refusal(buf: &mut [u8], refusal: Refusal) -> usize
+pub fn write_refusal(buf: &mut [u8], refusal: Refusal) -> usize
     requires { ⌜ length (answer-line (stated (Answer.Refused refusal))) ≤ length (now buf) ⌝ }
     ensures { λ r. ⌜ r ≡ length (answer-line (stated (Answer.Refused refusal))) ⌝ }
     ensures { λ _. ⌜ now (buf .exit) ≡ over (answer-line (stated (Answer.Refused refusal))) (now (buf .entry)) ⌝ }

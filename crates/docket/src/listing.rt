@@ -63,17 +63,17 @@ fn lodge_pieces(input: &[u8], output: &mut [u8]) -> usize
         let known = docket.known;
         let screened = admission::screen(known, &input[at..end]);
         // Not a function: it would copy the docket, which a text refused here leaves as it is.
-        let answer = match screened {
-            Screened::Refused(refusal) => Answer::Refused(refusal),
-            Screened::Admitted => {
-                let lodged = docket.lodge(&input[at..end]);
-                let next = lodged.docket;
-                docket = next;
-                lodged.answer
-            }
-        };
-        at = end;
+        if let Screened::Refused(refusal) = screened {
+            n += answer::write_refusal(&mut output[n..], refusal);
+            at = end;
+            continue;
+        }
+        let lodged = docket.lodge(&input[at..end]);
+        let next = lodged.docket;
+        docket = next;
+        let answer = lodged.answer;
         n += answer::write_answer(&mut output[n..], answer);
+        at = end;
     }
     write_report(docket, output, n)
 }
