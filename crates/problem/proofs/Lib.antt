@@ -10,6 +10,7 @@ pub mod Signs
 pub mod PlainLines
 pub mod Rendered
 pub mod WasRendered
+pub mod WhichLine
 pub mod Acceptance
 pub mod Answers
 pub mod Sizes

@@ -30,13 +30,13 @@ abbrev pub with-units : Instance → List Generator → Instance
 with-units P gs = having P (P .units ++ gs)
 
 -- one good line in front of others
-also : {s s′ s″ : Due} {x : Line} {ls : List Line} → judge s x ≡ good s′ → Passed tests next-due s′ ls s″ → Passed tests next-due s (x ∷ ls) s″
+pub also : {s s′ s″ : Due} {x : Line} {ls : List Line} → judge s x ≡ good s′ → Passed tests next-due s′ ls s″ → Passed tests next-due s (x ∷ ls) s″
 unfolding judge
 also e p = good-more tests next-due end e p
 
 -- ---- the unit lines and the end line
 
-unit-judged : (n : ℕ) (P : Instance) (g : Generator) → GoodUnit g → judge (unit-due n P) (ended (unit-line g)) ≡ good (fleet-due n (with-unit P g))
+pub unit-judged : (n : ℕ) (P : Instance) (g : Generator) → GoodUnit g → judge (unit-due n P) (ended (unit-line g)) ≡ good (fleet-due n (with-unit P g))
 unfolding judge
 unit-judged n P g G =
     let l = ended (unit-line g) in
@@ -56,17 +56,17 @@ fleet-good (g ∷ gs) P a =
 
 -- ---- the lines before them
 
-periods-judged : (T : ℕ) → Between 1 T 48 → judge periods-due (ended (plain-line periods-key (T ∷ []))) ≡ good (units-due T)
+pub periods-judged : (T : ℕ) → Between 1 T 48 → judge periods-due (ended (plain-line periods-key (T ∷ []))) ≡ good (units-due T)
 periods-judged T b = plain-judged periods-key 1 1 48 (T ∷ []) (omega arith) refl (b, tt) periods-due (λ vs. units-due (getD vs 0 0)) refl refl
 
-units-judged : (T I : ℕ) → Between 1 I 32 → judge (units-due T) (ended (plain-line units-key (I ∷ []))) ≡ good (demand-due T I)
+pub units-judged : (T I : ℕ) → Between 1 I 32 → judge (units-due T) (ended (plain-line units-key (I ∷ []))) ≡ good (demand-due T I)
 units-judged T I b = plain-judged units-key 1 1 32 (I ∷ []) (omega arith) refl (b, tt) (units-due T) (λ vs. demand-due T (getD vs 0 0)) refl refl
 
 module _ (T I : ℕ) (some-periods : 0 < T) where
-  demand-judged : (D : List ℕ) → length D ≡ T → All GoodLoad D → judge (demand-due T I) (ended (plain-line demand-key D)) ≡ good (spare-due T I D)
+  pub demand-judged : (D : List ℕ) → length D ≡ T → All GoodLoad D → judge (demand-due T I) (ended (plain-line demand-key D)) ≡ good (spare-due T I D)
   demand-judged D n b = plain-judged demand-key T 0 320000 D some-periods n b (demand-due T I) (spare-due T I) refl refl
 
-  spare-judged : (D R : List ℕ) → length R ≡ T → All GoodLoad R → judge (spare-due T I D) (ended (plain-line spare-key R)) ≡ good (fleet-due I (no-units T D R))
+  pub spare-judged : (D R : List ℕ) → length R ≡ T → All GoodLoad R → judge (spare-due T I D) (ended (plain-line spare-key R)) ≡ good (fleet-due I (no-units T D R))
   spare-judged D R n b = plain-judged spare-key T 0 320000 R some-periods n b (spare-due T I D) (λ vs. fleet-due I (no-units T D vs)) refl refl
 
 -- ---- the whole

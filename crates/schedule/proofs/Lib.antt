@@ -9,6 +9,7 @@ pub mod Ruling
 pub mod Runs
 pub mod Opening
 pub mod Rendered
+pub mod WhichLine
 pub mod Wholes
 pub mod Outcomes
 pub mod ReadAnswers

@@ -29,16 +29,16 @@ use Rattle.schedule.proofs.Alls.{all-from}
 -- ---- one line at its place
 
 module _ (P : Instance) where
-  abbrev Passes : Due → List Line → Due → Type 0
+  abbrev pub Passes : Due → List Line → Due → Type 0
   Passes s ls t = Passed (tests P) (next-due P) s ls t
 
   -- one good line in front of others
-  also : {s s′ s″ : Due} {x : Line} {ls : List Line} → judge P s x ≡ good s′ → Passes s′ ls s″ → Passes s (x ∷ ls) s″
+  pub also : {s s′ s″ : Due} {x : Line} {ls : List Line} → judge P s x ≡ good s′ → Passes s′ ls s″ → Passes s (x ∷ ls) s″
   unfolding judge
   also e p = good-more (tests P) (next-due P) end e p
 
   -- T outputs in range are a good run line
-  line-run : 0 < P .periods → (n : ℕ) (v : Written) (r : List ℕ) → length r ≡ P .periods → All GoodOutput r
+  pub line-run : 0 < P .periods → (n : ℕ) (v : Written) (r : List ℕ) → length r ≡ P .periods → All GoodOutput r
       → judge P (run-due n v) (ended (plain-line run-key r)) ≡ good (runs-due n (with-row v r))
   unfolding judge
   line-run h n v r long ok =
@@ -47,12 +47,12 @@ module _ (P : Instance) where
       form-found (run-form (P .periods)) x [] (next-due P (run-due n v) x) (plain-good run-key (P .periods) 0 10000 r h long each)
       ∙ ap (λ (vs : List ℕ). good (runs-due n (with-row v vs))) (plain-numbers run-key (P .periods) 0 10000 r h long each)
 
-  line-end : (v : Written) → judge P (end-due v) (ended endSchedule) ≡ good (nothing-due v)
+  pub line-end : (v : Written) → judge P (end-due v) (ended endSchedule) ≡ good (nothing-due v)
   unfolding judge
   line-end v = refl
 
   -- a writer in range is a good writer line
-  line-writer : (w : ℕ) → GoodWriter w → judge P writer-due (ended (plain-line writer-key (w ∷ []))) ≡ good (runs-due (length (P .units)) (written w []))
+  pub line-writer : (w : ℕ) → GoodWriter w → judge P writer-due (ended (plain-line writer-key (w ∷ []))) ≡ good (runs-due (length (P .units)) (written w []))
   unfolding judge
   line-writer w ok =
       let x = ended (plain-line writer-key (w ∷ [])) in

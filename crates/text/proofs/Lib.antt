@@ -13,6 +13,7 @@ pub mod Verdicts
 pub mod Shown
 pub mod Bytes
 pub mod Accepted
+pub mod Partition
 pub mod Plain
 pub mod PlainRows
 pub mod Fills

@@ -26,10 +26,10 @@ use Rattle.tree.proofs.NodeLines.{split-good, short-good, stuck-good, p
 use Rattle.tree.proofs.Written.{map-both, render-lines}
 
 -- these lines pass, and one good line in front of others
-abbrev Passes : Instance → Due → List Line → Due → Type 0
+abbrev pub Passes : Instance → Due → List Line → Due → Type 0
 Passes P s ls t = Passed (tests P) (next P) s ls t
 
-also : (P : Instance) {s s′ s″ : Due} {x : Line} {ls : List Line} → judge P s x ≡ good s′ → Passes P s′ ls s″ → Passes P s (x ∷ ls) s″
+pub also : (P : Instance) {s s′ s″ : Due} {x : Line} {ls : List Line} → judge P s x ≡ good s′ → Passes P s′ ls s″ → Passes P s (x ∷ ls) s″
 unfolding judge
 also P e p = good-more (tests P) (next P) end e p
 
@@ -58,7 +58,7 @@ node-good P some A d F ps (price q s) l h =
 writer-fits : (w : ℕ) → GoodWriter w → Fits writer-form false (w ∷ [])
 writer-fits w g = plain-fits writer-key 1 1 65535 (w ∷ []) (omega arith) refl (one-between 1 65535 w (g .0) (g .1))
 
-writer-good : (P : Instance) (w : ℕ) → GoodWriter w
+pub writer-good : (P : Instance) (w : ℕ) → GoodWriter w
     → judge P writer-due (ended (plain-line writer-key (w ∷ []))) ≡ good (nodes-due (by-writer w) (pending root 0 ∷ []))
 unfolding judge tests next
 writer-good P w g =
@@ -66,7 +66,7 @@ writer-good P w g =
     form-found writer-form l [] (next P writer-due l) (rendered-good writer-form false (w ∷ []) (writer-fits w g))
     ∙ ap (λ (vs : List ℕ). good (nodes-due (by-writer (vs at 0)) (pending root 0 ∷ []))) (rendered-numbers writer-form false (w ∷ []) (writer-fits w g))
 
-end-good : (P : Instance) (F : Figures) → judge P (nodes-due F []) (ended endTree) ≡ good (nothing-due F)
+pub end-good : (P : Instance) (F : Figures) → judge P (nodes-due F []) (ended endTree) ≡ good (nothing-due F)
 unfolding judge tests next
 end-good P F = refl
 

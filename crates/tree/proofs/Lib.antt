@@ -6,6 +6,7 @@ pub mod Written
 pub mod Complete
 pub mod Correct
 pub mod Answers
+pub mod WhichLine
 pub mod Unique
 pub mod Witnesses
 pub mod Rows
