@@ -6,3 +6,4 @@ pub mod Counts
 pub mod Walk
 pub mod Tallied
 pub mod Capacities
+pub mod Rule

@@ -5,6 +5,7 @@ ghost use Rattle.model.specs.Held.{view};
 ghost use Rattle.judge.specs.Judgement.{judgement, named};
 ghost use Rattle.judge.specs.Rows.{schedule-of, Fitting};
 
+mod breach;
 mod cost;
 mod limits;
 mod loads;
@@ -13,6 +14,7 @@ mod ramps;
 mod tallies;
 mod updown;
 
+use crate::breach::Rule;
 use crate::place::Found;
 use crate::place::Place;
 use model::arrays::Problem;
@@ -51,7 +53,7 @@ pub fn judge(problem: Problem, rows: &[u16]) -> Judgement
 {
     let tallies = tallies::tally(problem, rows);
     if tallies.limits != 0 {
-        if let Found::At(place) = limits::find_off_limits(problem, rows) {
+        if let Found::At(place) = breach::find_breach(problem, rows, Rule::Limits) {
             return name_breach(21, place);
         }
     }
@@ -62,12 +64,12 @@ pub fn judge(problem: Problem, rows: &[u16]) -> Judgement
         return name_breach(23, place);
     }
     if tallies.updown != 0 {
-        if let Found::At(place) = updown::find_not_permitted(problem, rows) {
+        if let Found::At(place) = breach::find_breach(problem, rows, Rule::UpDown) {
             return name_breach(24, place);
         }
     }
     if tallies.ramps != 0 {
-        if let Found::At(place) = ramps::find_off_ramp(problem, rows) {
+        if let Found::At(place) = breach::find_breach(problem, rows, Rule::Ramps) {
             return name_breach(25, place);
         }
     }

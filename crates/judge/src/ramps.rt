@@ -4,20 +4,14 @@ ghost use mathlib.Core.Bool.{not, _&&_};
 ghost use Prim.Native.Nat.{_+_, _<_, _≤_};
 ghost use lib.Dec.{leb};
 ghost use lib.ListN.{length};
-ghost use Rattle.model.specs.Held.{view};
 ghost use Rattle.model.specs.Ranges.{InRange, All, GoodOutput};
 ghost use Rattle.model.specs.Rules.{on};
-ghost use Rattle.model.specs.Breach.{off-ramp, place25};
+ghost use Rattle.model.specs.Breach.{off-ramp};
 ghost use Rattle.judge.specs.Counts.{bit, breaches};
-ghost use Rattle.judge.specs.Judgement.{found};
-ghost use Rattle.judge.specs.Rows.{schedule-of, Fitting};
-use crate::place::Found;
-use crate::place::Place;
-use model::arrays::Problem;
 use model::generator::Generator;
 
 // Whether the output, on in the period before t and in t, rises by more than UR or falls by more than DR.
-fn is_off_ramp(g: Generator, row: &[u16], t: usize) -> bool
+pub fn is_off_ramp(g: Generator, row: &[u16], t: usize) -> bool
     requires { ⌜ InRange g × (t < length (now row)) ⌝ }
     ensures { λ r. ⌜ r ≡ off-ramp t g (now (row .entry)) ⌝ }
 {
@@ -72,29 +66,4 @@ pub fn count_off_ramp(g: Generator, row: &[u16]) -> u16
         n += count_steep(up, down, row[t - 1], row[t]);
     }
     n
-}
-
-// The first period, and in it the first unit, whose output leaves its ramp.
-pub fn find_off_ramp(problem: Problem, rows: &[u16]) -> Found
-    requires { ⌜ Fitting problem (now rows) ⌝ }
-    ensures { λ r. ⌜ r ≡ found (place25 (view problem) (schedule-of problem (now (rows .entry)))) ⌝ }
-{
-    let periods = problem.periods;
-    let units = problem.units;
-    let mut first = Found::Nothing;
-    'search: for t in 0..periods {
-        for u in 0..units {
-            let g = problem.generators[u];
-            let from = u * periods;
-            let to = from + periods;
-            if is_off_ramp(g, &rows[from..to], t) {
-                first = Found::At(Place {
-                    unit: u + 1,
-                    period: t + 1,
-                });
-                break 'search;
-            }
-        }
-    }
-    first
 }

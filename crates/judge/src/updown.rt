@@ -3,18 +3,11 @@ ghost use mathlib.Core.Path.{_≡_};
 ghost use mathlib.Core.Bool.{not};
 ghost use Prim.Native.Nat.{_<_, _≤_};
 ghost use lib.ListN.{length};
-ghost use Rattle.model.specs.Held.{view};
 ghost use Rattle.model.specs.Instance.{_at_};
 ghost use Rattle.model.specs.Ranges.{InRange};
 ghost use Rattle.model.specs.Rules.{on, statuses, permits};
-ghost use Rattle.model.specs.Breach.{place24};
 ghost use Rattle.judge.specs.Counts.{bit, barred};
-ghost use Rattle.judge.specs.Judgement.{found};
-ghost use Rattle.judge.specs.Rows.{schedule-of, Fitting};
 ghost use Rattle.judge.specs.Before.{status-before, spent-before};
-use crate::place::Found;
-use crate::place::Place;
-use model::arrays::Problem;
 use model::generator::Generator;
 
 // Whether the row's output in period t is above 0.
@@ -60,7 +53,7 @@ fn count_back(g: Generator, row: &[u16], t: usize) -> usize
 }
 
 // Whether the up and down times permit the unit's status in period t.
-fn is_permitted(g: Generator, row: &[u16], t: usize) -> bool
+pub fn is_permitted(g: Generator, row: &[u16], t: usize) -> bool
     requires { ⌜ InRange g × (t < length (now row)) × (length (now row) ≤ 48) ⌝ }
     ensures { λ r. ⌜ r ≡ not (barred t g (now (row .entry))) ⌝ }
 {
@@ -94,29 +87,4 @@ pub fn count_barred(g: Generator, status: bool, k: usize) -> u16
         return 1;
     }
     0
-}
-
-// The first period, and in it the first unit, with a status that is not permitted.
-pub fn find_not_permitted(problem: Problem, rows: &[u16]) -> Found
-    requires { ⌜ Fitting problem (now rows) ⌝ }
-    ensures { λ r. ⌜ r ≡ found (place24 (view problem) (schedule-of problem (now (rows .entry)))) ⌝ }
-{
-    let periods = problem.periods;
-    let units = problem.units;
-    let mut first = Found::Nothing;
-    'search: for t in 0..periods {
-        for u in 0..units {
-            let g = problem.generators[u];
-            let from = u * periods;
-            let to = from + periods;
-            if !is_permitted(g, &rows[from..to], t) {
-                first = Found::At(Place {
-                    unit: u + 1,
-                    period: t + 1,
-                });
-                break 'search;
-            }
-        }
-    }
-    first
 }

@@ -56,8 +56,8 @@ left25 c =
 tally-requires : tie.Need-tally-requires
 tally-requires c κs = search needs
 
-find-off-limits-requires : tie.Need-find-off-limits-requires
-find-off-limits-requires c κs = search needs
+find-breach-requires : tie.Need-find-breach-requires
+find-breach-requires c κs = search needs
 
 enum-known-place : tie.Need-enum-known-place
 enum-known-place c = search needs
@@ -69,7 +69,7 @@ returns : tie.Need-returns
 returns c =
     let s = c .before .before .before .before .before .before .before .before .before in
     c .name-breach .ensures
-    ∙ sym (breaks21 (P-of s) (rows-of s) _ (sym (c .before .before .before .before .find-off-limits .ensures) ∙ c .before .before .place .given .1))
+    ∙ sym (breaks21 (P-of s) (rows-of s) _ (sym (c .before .before .before .before .find-breach .ensures) ∙ c .before .before .place .given .1))
 
 enum-told : tie.Need-enum-told
 enum-told c = search needs
@@ -110,8 +110,8 @@ returns-3 c =
 enum-told-3 : tie.Need-enum-told-3
 enum-told-3 c = search needs
 
-find-not-permitted-requires : tie.Need-find-not-permitted-requires
-find-not-permitted-requires c κs = search needs
+find-breach-requires-2 : tie.Need-find-breach-requires-2
+find-breach-requires-2 c κs = search needs
 
 enum-known-place-4 : tie.Need-enum-known-place-4
 enum-known-place-4 c = search needs
@@ -123,13 +123,13 @@ returns-4 : tie.Need-returns-4
 returns-4 c =
     let s = c .before .before .before .before .before .before .before .before .before .before .before .before .before .before .before .before .before in
     c .name-breach4 .ensures
-    ∙ sym (breaks24 (P-of s) (rows-of s) (left24 (c .before .before .before .before .before .before .before)) _ (sym (c .before .before .before .before .find-not-permitted .ensures) ∙ c .before .before .place4 .given .1))
+    ∙ sym (breaks24 (P-of s) (rows-of s) (left24 (c .before .before .before .before .before .before .before)) _ (sym (c .before .before .before .before .find-breach2 .ensures) ∙ c .before .before .place4 .given .1))
 
 enum-told-4 : tie.Need-enum-told-4
 enum-told-4 c = search needs
 
-find-off-ramp-requires : tie.Need-find-off-ramp-requires
-find-off-ramp-requires c κs = search needs
+find-breach-requires-3 : tie.Need-find-breach-requires-3
+find-breach-requires-3 c κs = search needs
 
 enum-known-place-5 : tie.Need-enum-known-place-5
 enum-known-place-5 c = search needs
@@ -141,7 +141,7 @@ returns-5 : tie.Need-returns-5
 returns-5 c =
     let s = c .before .before .before .before .before .before .before .before .before .before .before .before .before .before .before .before .before .before .before in
     c .name-breach5 .ensures
-    ∙ sym (breaks25 (P-of s) (rows-of s) (left25 (c .before .before .before .before .before .before .before)) _ (sym (c .before .before .before .before .find-off-ramp .ensures) ∙ c .before .before .place5 .given .1))
+    ∙ sym (breaks25 (P-of s) (rows-of s) (left25 (c .before .before .before .before .before .before .before)) _ (sym (c .before .before .before .before .find-breach3 .ensures) ∙ c .before .before .place5 .given .1))
 
 enum-told-5 : tie.Need-enum-told-5
 enum-told-5 c = search needs
@@ -150,7 +150,7 @@ returns-6 : tie.Need-returns-6
 returns-6 c =
     let s = c .before .before .before .before .before .before .before .before .before .before .before .before .before .before .before .before .before in
     ap Costs (ap (λ (x : Tallies). x .cost) (c .before .before .before .before .before .before .before .before .before .before .before .before .before .before .before .tally .ensures))
-    ∙ sym (costs (P-of s) (rows-of s) (left25 (c .before .before .before .before .before)) (sym (c .before .before .find-off-ramp .ensures) ∙ c .enum-told5 .given .1))
+    ∙ sym (costs (P-of s) (rows-of s) (left25 (c .before .before .before .before .before)) (sym (c .before .before .find-breach3 .ensures) ∙ c .enum-told5 .given .1))
 
 returns-7 : tie.Need-returns-7
 returns-7 c =
@@ -164,7 +164,7 @@ judge-spec =
     tie.close
     (tie.spec
     tally-requires
-    find-off-limits-requires
+    find-breach-requires
     enum-known-place
     name-breach-requires
     returns
@@ -179,12 +179,12 @@ judge-spec =
     name-breach-requires-3
     returns-3
     enum-told-3
-    find-not-permitted-requires
+    find-breach-requires-2
     enum-known-place-4
     name-breach-requires-4
     returns-4
     enum-told-4
-    find-off-ramp-requires
+    find-breach-requires-3
     enum-known-place-5
     name-breach-requires-5
     returns-5

@@ -5,26 +5,26 @@ use native.Mathlib.Nat.{not-suc-le-zero}
 use native.Mathlib.Omega.{arith}
 use borrow.Author.Count.{below-more}
 use lib.ListN.{length, length-map}
-use Rattle.model.specs.Breach.{off-limits}
+use Rattle.judge.specs.Rule.{broken-by}
 use Rattle.model.specs.Held.{view}
 use Rattle.judge.specs.declared.place.Found.the-variants.{Nothing}
 use Rattle.judge.specs.Judgement.{found}
-use Rattle.judge.proofs.Units.{unit, part, units-most, periods-most, part-within, part-long}
+use Rattle.judge.proofs.Units.{unit, part, units-most, periods-most, part-within, part-long, unit-in}
 use Rattle.judge.proofs.Search.{Passed, Clear, search-found, search-ends}
-use Rattle.judge.proofs.limits.find_off_limits.Statement.{statement}
-use Rattle.judge.proofs.limits.find_off_limits.Tie as tie
+use Rattle.judge.proofs.breach.find_breach.Statement.{statement}
+use Rattle.judge.proofs.breach.find_breach.Tie as tie
 
 abbrev Inv-loop : tie.InvT-loop
-Inv-loop rows problem periods units first₀ t u₀ first u = (u ≤ units) × (first ≡ first₀) × Passed off-limits problem rows t u
+Inv-loop rows rule problem periods units first₀ t u₀ first u = (u ≤ units) × (first ≡ first₀) × Passed (broken-by rule) problem rows t u
 
 abbrev μ-loop : tie.MeasureT-loop
-μ-loop rows problem periods units first₀ t u₀ first u = units - u
+μ-loop rows rule problem periods units first₀ t u₀ first u = units - u
 
 abbrev Inv-search : tie.InvT-search
-Inv-search rows problem periods units first₀ t₀ first t = (t ≤ periods) × (first ≡ Nothing) × Clear off-limits problem rows t
+Inv-search rows rule problem periods units first₀ t₀ first t = (t ≤ periods) × (first ≡ Nothing) × Clear (broken-by rule) problem rows t
 
 abbrev μ-search : tie.MeasureT-search
-μ-search rows problem periods units first₀ t₀ first t = periods - t
+μ-search rows rule problem periods units first₀ t₀ first t = periods - t
 
 -- the array has 32 generators
 many : (c : tie.Start Inv-loop μ-loop Inv-search μ-search) → length (c .args .t1 .generators) ≡ 32
@@ -39,16 +39,16 @@ inside c =
     part-within (s .args .t1) (s .args .rows .now) (s .pre) (c .before .loop .u) (omega arith)
 
 -- what the call found of the unit and its row
-tested : (c : tie.After-is-off-limits Inv-loop μ-loop Inv-search μ-search) →
+tested : (c : tie.After-breaks Inv-loop μ-loop Inv-search μ-search) →
     let s = c .before .before .before .before .before .before .before .before in
     let u = c .before .before .before .before .loop .u in
-    c .is-off-limits .result ≡ off-limits (c .before .before .before .before .before .before .search .t) (unit (s .args .t1) u) (part (s .args .t1) (s .args .rows .now) u)
+    c .breaks .result ≡ broken-by (s .args .rule) (c .before .before .before .before .before .before .search .t) (unit (s .args .t1) u) (part (s .args .t1) (s .args .rows .now) u)
 tested c =
     let s = c .before .before .before .before .before .before .before .before in
     let T = s .args .t1 .periods in
     let from = c .before .before .before .before .loop .u * T in
     let e : from + T - from ≡ T = omega arith in
-    rw e at (c .is-off-limits .ensures)
+    rw e at (c .breaks .ensures)
 
 search-holds : tie.Need-search-holds Inv-loop μ-loop Inv-search μ-search
 search-holds c = (omega arith, refl, λ k h. absurd (not-suc-le-zero h))
@@ -72,34 +72,35 @@ mul-from c = omega (arith, inside (c .before))
 add-to : tie.Need-add-to Inv-loop μ-loop Inv-search μ-search
 add-to c = omega (arith, inside (c .before))
 
-mul-is-off-limits : tie.Need-mul-is-off-limits Inv-loop μ-loop Inv-search μ-search
-mul-is-off-limits c = omega (arith, inside (c .before))
+mul-breaks : tie.Need-mul-breaks Inv-loop μ-loop Inv-search μ-search
+mul-breaks c = omega (arith, inside (c .before))
 
-sub-is-off-limits : tie.Need-sub-is-off-limits Inv-loop μ-loop Inv-search μ-search
-sub-is-off-limits c = omega arith
+sub-breaks : tie.Need-sub-breaks Inv-loop μ-loop Inv-search μ-search
+sub-breaks c = omega arith
 
-part-is-off-limits-start : tie.Need-part-is-off-limits-start Inv-loop μ-loop Inv-search μ-search
-part-is-off-limits-start c = omega arith
+part-breaks-start : tie.Need-part-breaks-start Inv-loop μ-loop Inv-search μ-search
+part-breaks-start c = omega arith
 
-part-is-off-limits-end : tie.Need-part-is-off-limits-end Inv-loop μ-loop Inv-search μ-search
-part-is-off-limits-end c = inside (c .before)
+part-breaks-end : tie.Need-part-breaks-end Inv-loop μ-loop Inv-search μ-search
+part-breaks-end c = inside (c .before)
 
-is-off-limits-requires : tie.Need-is-off-limits-requires Inv-loop μ-loop Inv-search μ-search
-is-off-limits-requires c κs =
+breaks-requires : tie.Need-breaks-requires Inv-loop μ-loop Inv-search μ-search
+breaks-requires c κs =
     let s = c .before .before .before .before .before .before .before in
     let T = s .args .t1 .periods in
     let u = c .before .before .before .loop .u in
     let e : u * T + T - u * T ≡ T = omega arith in
     let n = part-long (s .args .t1) (s .args .rows .now) (s .pre) u (c .before .before .loop-test .taken) in
-    rw e (omega arith)
-
-add-t23 : tie.Need-add-t23 Inv-loop μ-loop Inv-search μ-search
-add-t23 c =
-    let s = c .before .before .before .before .before .before .before .before .before in
-    omega (arith, units-most (s .args .t1) (s .args .rows .now) (s .pre))
+    let g = unit-in (s .args .t1) (s .args .rows .now) (s .pre) (many s) u (c .before .before .loop-test .taken) in
+    rw e (g, omega arith, omega (arith, periods-most (s .args .t1) (s .args .rows .now) (s .pre)))
 
 add-t24 : tie.Need-add-t24 Inv-loop μ-loop Inv-search μ-search
 add-t24 c =
+    let s = c .before .before .before .before .before .before .before .before .before in
+    omega (arith, units-most (s .args .t1) (s .args .rows .now) (s .pre))
+
+add-t25 : tie.Need-add-t25 Inv-loop μ-loop Inv-search μ-search
+add-t25 c =
     let s = c .before .before .before .before .before .before .before .before .before in
     omega (arith, periods-most (s .args .t1) (s .args .rows .now) (s .pre))
 
@@ -131,7 +132,7 @@ unfolding view
 returns c =
     let s = c .before .before .before in
     let l = c .before .search in
-    l .inv .1 ∙ sym (ap found (search-ends off-limits (s .args .t1) (s .args .rows .now) (s .pre) (many s) (λ k h. l .inv .2 k (omega arith))))
+    l .inv .1 ∙ sym (ap found (search-ends (broken-by (s .args .rule)) (s .args .t1) (s .args .rows .now) (s .pre) (many s) (λ k h. l .inv .2 k (omega arith))))
 
 returns-2 : tie.Need-returns-2 Inv-loop μ-loop Inv-search μ-search
 unfolding view
@@ -139,12 +140,12 @@ returns-2 c =
     let s = c .before .before .before .before .before .before .before .before .before in
     let l = c .before .before .before .before .before .loop in
     let o = c .before .before .before .before .before .before .before .search in
-    sym (ap found (search-found off-limits (s .args .t1) (s .args .rows .now) (s .pre) (many s) (o .t) (l .u)
+    sym (ap found (search-found (broken-by (s .args .rule)) (s .args .t1) (s .args .rows .now) (s .pre) (many s) (o .t) (l .u)
     (c .before .before .before .before .before .before .search-test .taken) (c .before .before .before .before .loop-test .taken)
     (o .inv .2) (l .inv .2) (sym (tested (c .before)) ∙ c .if1 .taken)))
 
-pub find-off-limits-spec : {M : Type 1} → statement M
-find-off-limits-spec =
+pub find-breach-spec : {M : Type 1} → statement M
+find-breach-spec =
     tie.close
     (tie.spec
     Inv-loop
@@ -157,13 +158,13 @@ find-off-limits-spec =
     element-copy-out-g
     mul-from
     add-to
-    mul-is-off-limits
-    sub-is-off-limits
-    part-is-off-limits-start
-    part-is-off-limits-end
-    is-off-limits-requires
-    add-t23
+    mul-breaks
+    sub-breaks
+    part-breaks-start
+    part-breaks-end
+    breaks-requires
     add-t24
+    add-t25
     add-u
     loop-less
     loop-again
