@@ -22,16 +22,20 @@ use Rattle.text.specs.Lines.{ended, lineAt, kindOf, kindTree}
 use Rattle.text.specs.declared.Kind.the-variants as kind
 use Rattle.text.proofs.FirstLine as first-line
 use Rattle.schedule.specs.Rendering as schedule-text
+use Rattle.schedule.specs.WellFormed as schedule-lines
 use Rattle.schedule.proofs.Wholes.{render-is-schedule, render-injective}
+use Rattle.schedule.proofs.WellFormed as schedule-formed
 use Rattle.tree.specs.Rendering as tree-text
+use Rattle.tree.specs.WellFormed as tree-lines
 use Rattle.tree.proofs.Unique.{tree-once}
+use Rattle.tree.proofs.WellFormed as tree-formed
 use Rattle.answer.specs.Answers as answers
 use Rattle.answer.specs.Answers.{Values, no-values, its-cost, its-bound, Stated, Carries}
 use Rattle.docket.specs.Docket.{every}
 use Rattle.docket.specs.Verdicts.{Verdict, refused, problem, schedule, tree, schedules, trees, known-after, known-at-end}
 use Rattle.docket.specs.Texts.{Short, Is, Are, too-long, no-kind, second-problem, schedule-early, tree-early, problem-refused, a-problem, schedule-refused, a-schedule, tree-refused, a-tree}
 use Rattle.docket.specs.Lodging.{lodge-of}
-use Rattle.docket.specs.Promised.{after, answer, given, ProblemText, OfSchedule, OfTree}
+use Rattle.docket.specs.Promised.{after, answer, given, ProblemText, ScheduleText, TreeText, OfSchedule, OfTree}
 use Rattle.docket.specs.Demand3.{answer-due, held-if, Holding, Unheld}
 use Rattle.docket.proofs.OneVerdict.{Fine, verdict-of, verdict-is, tree-begins}
 use Rattle.docket.proofs.Lists.{proper-fine}
@@ -143,6 +147,16 @@ of-some P past text x v (tree-refused n l h b r) c = absurd c
 of-some P past text x v (a-tree w t h e ok within holds) c =
     inr (w, t, e, ok, within, holds, sym (carries-if (higher-than past (bound P root t)) (its-bound (bound P root t) (splits t) (leaves t)) x c))
 
+-- what is accepted is short
+of-short : (P : Instance) (past : List Verdict) (text : List ℕ) (x : Values) (v : Verdict) → Is (some P) text v → Carries (answer-due past v) x → Short text
+of-short P past text x v (too-long h) c = absurd c
+of-short P past text x v (no-kind h p q t) c = h
+of-short P past text x v (second-problem h b) c = h
+of-short P past text x v (schedule-refused r h b q) c = h
+of-short P past text x v (a-schedule w s h e ok rows meets) c = h
+of-short P past text x v (tree-refused n l h b r) c = h
+of-short P past text x v (a-tree w t h e ok within holds) c = h
+
 -- ---- after a list with these verdicts
 
 module _ (texts : List (List ℕ)) (vs : List Verdict) (are : Are none texts vs) where
@@ -228,8 +242,52 @@ module _ (texts : List (List ℕ)) (vs : List Verdict) (are : Are none texts vs)
               (if-carries (higher-than vs (bound P root t)) (its-bound (bound P root t) (splits t) (leaves t))))),
         )
 
+    -- the same of well-formed texts, which are the short ones of a writer and rows in range, or of a writer and a tree within the limits
+    pub schedule-formed-is : (text : List ℕ) → schedule-lines.WellFormed P text ↔ (Short text × ((w : ℕ) × (s : Schedule) × ScheduleText P text w s))
+    schedule-formed-is = schedule-formed.well-formed-is P formed
+
+    pub tree-formed-is : (text : List ℕ) → tree-lines.WellFormed P text ↔ (Short text × ((w : ℕ) × (t : Tree) × TreeText P text w t))
+    tree-formed-is = tree-formed.well-formed-is P (formed .periods-in .0)
+
+    pub one-schedule : (text : List ℕ) (w w′ : ℕ) (s s′ : Schedule) → ScheduleText P text w s → ScheduleText P text w′ s′ → (w ≡ w′) × (s ≡ s′)
+    one-schedule text w w′ s s′ a b = render-injective P formed w w′ s s′ (a .1) (a .2) (b .1) (b .2) (sym (a .0) ∙ b .0)
+
+    pub one-tree : (text : List ℕ) (w w′ : ℕ) (t t′ : Tree) → TreeText P text w t → TreeText P text w′ t′ → (w ≡ w′) × (t ≡ t′)
+    one-tree text w w′ t t′ a b = tree-once P (formed .periods-in .0) w w′ t t′ (a .2) (b .2) (sym (a .0) ∙ b .0)
+
+    pub schedule-by-lines : (text : List ℕ) → schedule-lines.WellFormed P text
+        → (w : ℕ) × (s : Schedule) × ScheduleText P text w s × ((x : Values) → Carries (answer texts text) x ↔ (Meets P s × (x ≡ its-cost (cost P s))))
+    schedule-by-lines text f = go (schedule-formed-is text .0 f)
+      where
+        go : Short text × ((w : ℕ) × (s : Schedule) × ScheduleText P text w s)
+            → (w : ℕ) × (s : Schedule) × ScheduleText P text w s × ((x : Values) → Carries (answer texts text) x ↔ (Meets P s × (x ≡ its-cost (cost P s))))
+        go (h, (w, s, (e, ok, rows))) = (w, s, (e, ok, rows), λ x. rw e (schedule-as w s (rw e at h) ok rows x))
+
+    pub tree-by-lines : (text : List ℕ) → tree-lines.WellFormed P text
+        → (w : ℕ) × (t : Tree) × TreeText P text w t
+        × ((x : Values) → Carries (answer texts text) x ↔ (Holds P root t × (x ≡ its-bound (bound P root t) (splits t) (leaves t))))
+    tree-by-lines text f = go (tree-formed-is text .0 f)
+      where
+        go : Short text × ((w : ℕ) × (t : Tree) × TreeText P text w t)
+            → (w : ℕ) × (t : Tree) × TreeText P text w t
+            × ((x : Values) → Carries (answer texts text) x ↔ (Holds P root t × (x ≡ its-bound (bound P root t) (splits t) (leaves t))))
+        go (h, (w, t, (e, ok, within))) = (w, t, (e, ok, within), λ x. rw e (tree-as w t (rw e at h) ok within x))
+
     pub nothing-else : (text : List ℕ) (x : Values) → Carries (answer texts text) x → OfSchedule P text x ⊎ OfTree P text x
     nothing-else text x c =
         let i = verdict-is (given vs) fine text in
         of-some P vs text x (verdict-of (given vs) text) (under text (verdict-of (given vs) text) i)
         (subst (λ (a : Stated). Carries a x) (due text (verdict-of (given vs) text) i) c)
+
+    pub only-formed : (text : List ℕ) (x : Values) → Carries (answer texts text) x → schedule-lines.WellFormed P text ⊎ tree-lines.WellFormed P text
+    only-formed text x c = go (nothing-else text x c)
+      where
+        h : Short text
+        h =
+            let i = verdict-is (given vs) fine text in
+            of-short P vs text x (verdict-of (given vs) text) (under text (verdict-of (given vs) text) i)
+            (subst (λ (a : Stated). Carries a x) (due text (verdict-of (given vs) text) i) c)
+
+        go : OfSchedule P text x ⊎ OfTree P text x → schedule-lines.WellFormed P text ⊎ tree-lines.WellFormed P text
+        go (inl (w, s, e, ok, rows, m, v)) = inl (schedule-formed-is text .1 (h, (w, s, (e, ok, rows))))
+        go (inr (w, t, e, ok, within, m, v)) = inr (tree-formed-is text .1 (h, (w, t, (e, ok, within))))

@@ -10,14 +10,14 @@ use lib.Dec.{T}
 use lib.IntN.{pos}
 use lib.Signed.{_≤ℤ_}
 use Rattle.model.specs.Instance.{Instance, Schedule}
-use Rattle.model.specs.Ranges.{All, GoodWriter, GoodRows, GoodUnit}
+use Rattle.model.specs.Ranges.{All, GoodUnit}
 use Rattle.model.specs.Rules.{Meets}
 use Rattle.model.specs.Cost as model
 use Rattle.model.specs.Held.{view}
 use Rattle.model.specs.Above.{Mark, root}
 use Rattle.model.specs.Agreement.{Candidate, LeafOf, above, leaf-at}
 use Rattle.model.specs.Leaf.{is-stuck, value, unit-least}
-use Rattle.model.specs.Tree.{Tree, Limits, Holds, number, never, splits, leaves}
+use Rattle.model.specs.Tree.{Tree, Holds, number, never, splits, leaves}
 use Rattle.model.specs.Tree as tree
 use Rattle.model.specs.Best.{higher, FirstLeast, FirstHighest}
 use Rattle.model.specs.declared.generator.Generator.{Generator}
@@ -25,8 +25,8 @@ use Rattle.model.proofs.EveryLeaf as leaf
 use Rattle.model.proofs.UnitLeasts as least
 use Rattle.judge.specs.Rows.{schedule-of}
 use Rattle.refusal.specs.declared.Refusal.{Refusal}
-use Rattle.schedule.specs.Rendering as schedule-text
-use Rattle.tree.specs.Rendering as tree-text
+use Rattle.schedule.specs.WellFormed as schedule-lines
+use Rattle.tree.specs.WellFormed as tree-lines
 use Rattle.tree.specs.Due.{Figures}
 use Rattle.report.specs.Answers.{stated as told}
 use Rattle.answer.specs.Answers.{Values, no-values, its-cost, its-bound, refused, stated, Carries}
@@ -44,7 +44,7 @@ use Rattle.docket.specs.Lodging.{lodge-of}
 use Rattle.docket.specs.Report.{text-shown, report-of, buffer-of}
 use Rattle.docket.specs.ReportDue.{Outcome, Reports}
 use Rattle.docket.specs.Demand3.{answer-due, Unheld}
-use Rattle.docket.specs.Promised.{after, answer, given, ProblemText, OfSchedule, OfTree, Long, judged-under}
+use Rattle.docket.specs.Promised.{after, answer, given, ProblemText, ScheduleText, TreeText, OfSchedule, OfTree, Long, judged-under}
 use Rattle.docket.specs.Specimens.{listed-texts, specimens, Answered}
 use Rattle.docket.proofs.OneVerdict.{accepted-is}
 use Rattle.docket.proofs.ListVerdicts.{verdicts-of, verdicts-are, one-list}
@@ -143,19 +143,38 @@ module _ (texts : List (List ℕ)) (vs : List Verdict) (are : Are none texts vs)
     pub holds-it : (after texts .known ≡ true) × (view (after texts .problem) ≡ P)
     holds-it = each.is-held texts vs are P known
 
-    -- 2. Under a held problem a well-formed schedule is accepted exactly when it meets the rules, and its cost is that of (1)
-    pub schedule-accepted : (w : ℕ) (s : Schedule) → Short (schedule-text.render w s) → GoodWriter w → GoodRows P s → (x : Values)
-        → Carries (answer texts (schedule-text.render w s)) x ↔ (Meets P s × (x ≡ its-cost (model.cost P s)))
-    schedule-accepted = each.schedule-as texts vs are P known
+    -- 2. Well-formed, for a schedule or tree, means what document 01 says, line by line (`Formed`, text/specs/WellFormed.antt). Such texts are exactly the short ones
+    -- of a writer and rows in range, or of a writer and a tree within the limits, and none is the text of two
+    pub well-formed-schedule : (text : List ℕ) → schedule-lines.WellFormed P text ↔ (Short text × ((w : ℕ) × (s : Schedule) × ScheduleText P text w s))
+    well-formed-schedule = each.schedule-formed-is texts vs are P known
+
+    pub well-formed-tree : (text : List ℕ) → tree-lines.WellFormed P text ↔ (Short text × ((w : ℕ) × (t : Tree) × TreeText P text w t))
+    well-formed-tree = each.tree-formed-is texts vs are P known
+
+    pub one-schedule : (text : List ℕ) (w w′ : ℕ) (s s′ : Schedule) → ScheduleText P text w s → ScheduleText P text w′ s′ → (w ≡ w′) × (s ≡ s′)
+    one-schedule = each.one-schedule texts vs are P known
+
+    pub one-tree : (text : List ℕ) (w w′ : ℕ) (t t′ : Tree) → TreeText P text w t → TreeText P text w′ t′ → (w ≡ w′) × (t ≡ t′)
+    one-tree = each.one-tree texts vs are P known
+
+    -- Under a held problem a well-formed schedule is accepted exactly when it meets the rules, and its cost is that of (1)
+    pub schedule-accepted : (text : List ℕ) → schedule-lines.WellFormed P text
+        → (w : ℕ) × (s : Schedule) × ScheduleText P text w s × ((x : Values) → Carries (answer texts text) x ↔ (Meets P s × (x ≡ its-cost (model.cost P s))))
+    schedule-accepted = each.schedule-by-lines texts vs are P known
 
     -- A well-formed tree is accepted exactly when every leaf meets its rule, with its bound and its counts of split lines and leaves
-    pub tree-accepted : (w : ℕ) (t : Tree) → Short (tree-text.render w t) → GoodWriter w → Limits P root 0 t → (x : Values)
-        → Carries (answer texts (tree-text.render w t)) x ↔ (Holds P root t × (x ≡ its-bound (tree.bound P root t) (splits t) (leaves t)))
-    tree-accepted = each.tree-as texts vs are P known
+    pub tree-accepted : (text : List ℕ) → tree-lines.WellFormed P text
+        → (w : ℕ) × (t : Tree) × TreeText P text w t
+        × ((x : Values) → Carries (answer texts text) x ↔ (Holds P root t × (x ≡ its-bound (tree.bound P root t) (splits t) (leaves t))))
+    tree-accepted = each.tree-by-lines texts vs are P known
 
     -- and no other text is accepted
     pub nothing-else : (text : List ℕ) (x : Values) → Carries (answer texts text) x → OfSchedule P text x ⊎ OfTree P text x
     nothing-else = each.nothing-else texts vs are P known
+
+    -- so none that is not well-formed
+    pub only-well-formed : (text : List ℕ) (x : Values) → Carries (answer texts text) x → schedule-lines.WellFormed P text ⊎ tree-lines.WellFormed P text
+    only-well-formed = each.only-formed texts vs are P known
 
     module _ (by : CostBy) (e : after texts .held .cost ≡ cost.Number by) where
       -- 3. The held schedule and its writer are those of the first accepted schedule with the least cost; it meets the rules, at the cost of (1)

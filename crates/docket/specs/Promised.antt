@@ -42,6 +42,13 @@ given vs = known-at-end none vs
 abbrev pub ProblemText : List ℕ → Instance → Type 0
 ProblemText text P = Short text × ((text ≡ problem-text.render P) × WellFormed P)
 
+-- the text of a writer and rows, and of a writer and a tree within the limits
+abbrev pub ScheduleText : Instance → List ℕ → ℕ → Schedule → Type 0
+ScheduleText P text w s = (text ≡ schedule-text.render w s) × GoodWriter w × GoodRows P s
+
+abbrev pub TreeText : Instance → List ℕ → ℕ → Tree → Type 0
+TreeText P text w t = (text ≡ tree-text.render w t) × GoodWriter w × Limits P root 0 t
+
 -- the text of a schedule that meets the rules, with its cost
 abbrev pub OfSchedule : Instance → List ℕ → Values → Type 0
 OfSchedule P text x = (w : ℕ) × (s : Schedule) × (text ≡ schedule-text.render w s) × GoodWriter w × GoodRows P s × Meets P s

@@ -71,6 +71,27 @@ spare-priced : leaf-value (tiny 7 2) (root .marks) (λ t. 36) (λ t. 2) ≡ pos 
 unfolding leaf-value units-least unit-least value revenue requirement rows-of row-cost
 spare-priced = refl
 
+-- Three periods by hand, at the prices 11, 0, 14 and the reserve prices 1, 1, 2; D is 2, 1, 3 and R is 1, 0, 1.
+-- Unit 1 was on, and may go on or off at any time. A period on at p gives 10 + 2·p + 2·p·p - q·p - s·3, so for p = 1, 2, 3 in period 1: 0, -3, -2; in period 2:
+-- 11, 19, 31; in period 3: -6, -12, -14. A stop costs 3, a start after one period off 5, after more 20. On, off, on is least: -3 + 3 + 5 - 14 = -9. (Never off:
+-- -3 + 11 - 14 = -6. On, off, off: -3 + 3 = 0. Off, off, on: 3 + 20 - 14 = 9.)
+-- Unit 2 was off for one period, and stays on for two at least. A period on at p gives 5 + p + p·p - q·p - s·2, so for p = 1, 2 in period 1: -6, -13; in period 2:
+-- 5, 9; in period 3: -11, -21. A start after one or two periods off costs 2, after more 6, a stop 1. On throughout is least: 2 - 13 + 5 - 21 = -27. (On, off, on would
+-- give 2 - 13 + 1 + 2 - 21 = -29. Off, on, on: 2 + 5 - 21 = -14. Off, off, on: 6 - 21 = -15.)
+-- The periods give 11·2 + 0·1 + 14·3 = 64 and 1·3 + 1·1 + 2·4 = 12. So the value is 64 + 12 - 9 - 27 = 40
+abbrev by-hand : Instance
+by-hand = record {
+  periods = 3;
+  demand = 2 ∷ 1 ∷ 3 ∷ [];
+  spare = 1 ∷ 0 ∷ 1 ∷ [];
+  units = line 10 2 2 1 3 1 1 true 1 9 9 5 20 0 3 ∷ line 5 1 1 1 2 2 1 false 1 9 9 2 6 1 1 ∷ [];
+}
+
+three-periods : (leaf-value by-hand (root .marks) (λ t. (11 ∷ 0 ∷ 14 ∷ []) at t) (λ t. (1 ∷ 1 ∷ 2 ∷ []) at t) ≡ pos 40)
+    × (map (λ g. unit-least 3 (λ t. (11 ∷ 0 ∷ 14 ∷ []) at t) (λ t. (1 ∷ 1 ∷ 2 ∷ []) at t) g (λ t. free)) (by-hand .units) ≡ negℤ (pos 9) ∷ negℤ (pos 27) ∷ [])
+unfolding leaf-value units-least unit-least value revenue requirement rows-of row-cost
+three-periods = (refl, refl)
+
 -- ---- Tree
 
 -- document 01, Specimens: the tree of the listing, and a lone price leaf

@@ -2,17 +2,17 @@
 use Prim.Native.Nat.{ℕ}
 use mathlib.Core.Path.{_≡_, refl}
 use mathlib.Core.Bool.{true, false}
-use mathlib.Core.List.{List, [], _∷_}
+use mathlib.Core.List.{List, [], _∷_, _++_, map}
 use Rattle.decimal.specs.Decimal.{digits, digitsBy}
 use Rattle.model.specs.declared.generator.Generator.{Generator}
 use Rattle.model.specs.Instance.{Instance}
 use Rattle.model.specs.Ranges.{WellFormed, ordered}
 use Rattle.text.specs.Lines.{kindOf}
 use Rattle.text.specs.Forms.{malformed, wrongCount, outOfRange}
-use Rattle.text.specs.Rendering.{text-of}
+use Rattle.text.specs.Rendering.{rendered, plain-line, text-of}
 use Rattle.text.specs.Course.{refused-at, accepted, judged-from}
-use Rattle.problem.specs.Units.{unit-line, unit-of}
-use Rattle.problem.specs.Rendering.{lines-after, render}
+use Rattle.problem.specs.Units.{unit-key, Tini-place, unit-line, unit-of}
+use Rattle.problem.specs.Rendering.{periods-key, units-key, demand-key, spare-key, lines-after, render}
 use Rattle.problem.specs.Course.{judge, problem-judged}
 use Rattle.problem.specs.Reading.{IsProblem}
 use Rattle.problem.proofs.Acceptance.{accepted-rendered}
@@ -110,3 +110,32 @@ limits-crossed = refl
 one-byte-over : problem-judged (text-of (kind-line ∷ periods-line ∷ units-line ∷ demand-line ∷ spare-line ∷ first-unit ∷ second-unit ∷ end-line ∷ [] ∷ [])) ≡ refused-at 12 9
 unfolding problem-judged judged-from judge malformed wrongCount outOfRange unit-of ordered
 one-byte-over = refl
+
+-- ---- the ends of the ranges, and the order of the numbers of a line
+
+abbrev periods : ℕ → List ℕ
+periods T = plain-line periods-key (T ∷ [])
+
+abbrev units : ℕ → List ℕ
+units I = plain-line units-key (I ∷ [])
+
+-- a unit line with these pL and pU
+abbrev outputs-from : ℕ → ℕ → List ℕ
+outputs-from pL pU = rendered unit-key Tini-place false (0 ∷ 0 ∷ 0 ∷ pL ∷ pU ∷ 1 ∷ 1 ∷ 1 ∷ 1 ∷ 1 ∷ 0 ∷ 0 ∷ 0 ∷ 0 ∷ [])
+
+-- Each text ends after the line in question: where that is good, the next one is missing, 12. T 1, 48, 0, 49; I 1, 32, 0, 33; D 0 and 320,000, 320,001; R the
+-- same. Then lines that break two numbers: demand=060 (12, 14), demand=320001 (14, 13), pL 10,001 above pU 10,000 (13, 15)
+pub range-ends : map (λ ls. problem-judged (text-of (kind-line ∷ ls))) (
+    (periods 1 ∷ []) ∷ (periods 48 ∷ []) ∷ (periods 0 ∷ []) ∷ (periods 49 ∷ [])
+    ∷ (periods 2 ∷ units 1 ∷ []) ∷ (periods 2 ∷ units 32 ∷ []) ∷ (periods 2 ∷ units 0 ∷ []) ∷ (periods 2 ∷ units 33 ∷ [])
+    ∷ (periods 2 ∷ units 1 ∷ plain-line demand-key (0 ∷ 320000 ∷ []) ∷ []) ∷ (periods 2 ∷ units 1 ∷ plain-line demand-key (0 ∷ 320001 ∷ []) ∷ [])
+    ∷ (periods 2 ∷ units 1 ∷ demand-line ∷ plain-line spare-key (0 ∷ 320000 ∷ []) ∷ [])
+    ∷ (periods 2 ∷ units 1 ∷ demand-line ∷ plain-line spare-key (0 ∷ 320001 ∷ []) ∷ [])
+    ∷ (periods 2 ∷ units 1 ∷ (demand-key ++ (48 ∷ 54 ∷ 48 ∷ [])) ∷ []) ∷ (periods 2 ∷ units 1 ∷ plain-line demand-key (320001 ∷ []) ∷ [])
+    ∷ (periods 2 ∷ units 1 ∷ demand-line ∷ spare-line ∷ outputs-from 10001 10000 ∷ []) ∷ [])
+    ≡ refused-at 12 3 ∷ refused-at 12 3 ∷ refused-at 13 2 ∷ refused-at 13 2
+    ∷ refused-at 12 4 ∷ refused-at 12 4 ∷ refused-at 13 3 ∷ refused-at 13 3
+    ∷ refused-at 12 5 ∷ refused-at 13 4 ∷ refused-at 12 6 ∷ refused-at 13 5
+    ∷ refused-at 12 4 ∷ refused-at 14 4 ∷ refused-at 13 6 ∷ []
+unfolding problem-judged judged-from judge malformed wrongCount outOfRange unit-of ordered digits digitsBy
+range-ends = refl

@@ -11,6 +11,7 @@ pub mod Opening
 pub mod Rendered
 pub mod WhichLine
 pub mod Wholes
+pub mod WellFormed
 pub mod Outcomes
 pub mod ReadAnswers
 pub mod Specimens

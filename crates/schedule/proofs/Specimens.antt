@@ -74,6 +74,15 @@ pub damaged : map (schedule-outcome example) (
 unfolding schedule-outcome schedule-judged judged-from judge malformed wrongCount outOfRange first-breach output capacity cost row-cost refusalOf carriesLine carriesUnit carriesPeriod render digits digitsBy
 damaged = refl
 
+-- The ends of the ranges, `damaged` having the numbers beyond them: writers 1 and 65,535, outputs 0 and 10,000, each text ending there, so that the next line is
+-- missing, 12. Then lines that break two numbers: run=060 (12, 14), run=10001 (14, 13)
+pub range-ends : map (schedule-outcome example) (
+    with-lines (writer 1 ∷ []) ∷ with-lines (writer 65535 ∷ []) ∷ with-lines (writer 7 ∷ run (0 ∷ 10000 ∷ []) ∷ [])
+    ∷ with-lines (writer 7 ∷ (run-key ++ (48 ∷ 54 ∷ 48 ∷ [])) ∷ []) ∷ with-lines (writer 7 ∷ run (10001 ∷ []) ∷ []) ∷ [])
+    ≡ map refused-by (line-refusal 12 3 ∷ line-refusal 12 3 ∷ line-refusal 12 4 ∷ line-refusal 12 3 ∷ line-refusal 14 3 ∷ [])
+unfolding schedule-outcome schedule-judged judged-from judge malformed wrongCount outOfRange refusalOf carriesLine carriesUnit carriesPeriod digits digitsBy
+range-ends = refl
+
 -- ---- the premises of the laws can be met
 
 pub example-good : WellFormed example

@@ -33,7 +33,7 @@ unfolding render
 render-is-schedule w s = schedule-is (lineAt (render w s) 0) .1 (ap due (lines-text (kindSchedule ∷ lines-after w s) (lines-one w s)))
 
 -- a text with these lines after its first is the rendering
-rendered-is : (text : List ℕ) → IsSchedule text → (w : ℕ) (s : Schedule) → (later (linesOf text) ≡ map ended (lines-after w s)) ↔ (text ≡ render w s)
+pub rendered-is : (text : List ℕ) → IsSchedule text → (w : ℕ) (s : Schedule) → (later (linesOf text) ≡ map ended (lines-after w s)) ↔ (text ≡ render w s)
 unfolding render
 rendered-is text is w s = whole-is text kindSchedule (lines-after w s) (schedule-is (lineAt text 0) .0 is) (lines-one w s)
 

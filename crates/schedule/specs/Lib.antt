@@ -4,3 +4,4 @@ pub mod Course
 pub mod Reading
 pub mod Answers
 pub mod Storing
+pub mod WellFormed

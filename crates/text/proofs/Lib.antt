@@ -23,3 +23,4 @@ pub mod Steps
 pub mod Texts
 pub mod Ends
 pub mod Holding
+pub mod WellFormed

@@ -7,3 +7,4 @@ pub mod Writer
 pub mod Scan
 pub mod Ends
 pub mod Places
+pub mod WellFormed

@@ -19,3 +19,4 @@ pub mod Places
 pub mod Texts
 pub mod ReadAnswers
 pub mod WellFormedTrees
+pub mod WellFormed

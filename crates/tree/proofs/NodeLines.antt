@@ -48,7 +48,7 @@ T-not false h = refl
 pub not-T : (b : Bool) → b ≡ false → T (not b)
 not-T b e = rw e tt
 
-free-mark : (m : Mark) → is-fixed m ≡ false → m ≡ free
+pub free-mark : (m : Mark) → is-fixed m ≡ false → m ≡ free
 free-mark free e = refl
 free-mark (fixed b) e = absurd (let z : _≡_ {A = ℕ} 0 1 = cc in omega arith)
 

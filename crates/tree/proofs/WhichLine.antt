@@ -149,13 +149,16 @@ module _ (P : Instance) (some : 1 ≤ P .periods) where
 
   -- such lines are accepted
   lines-accepted : (w : ℕ) (t : Tree) → GoodWriter w → Limits P root 0 t → Holds P root t → (F : Figures) × AllPassed (tests P) (next P) end F writer-due (rest-lines w t)
-  lines-accepted w t g l h = (add P root (by-writer w) t, record {
-    last = nothing-due (add P root (by-writer w) t);
-    passed = also P (writer-good P w g) (rw (map-both (node-lines t) (endTree ∷ []))
-        (courses.passed-both (tests P) (next P) end (map ended (node-lines t)) (ended endTree ∷ []) (node-good P some root 0 (by-writer w) [] t l h)
-        (also P (end-good P (add P root (by-writer w) t)) none-yet)));
-    ends = refl;
-  })
+  lines-accepted w t g l h = (
+    add P root (by-writer w) t,
+    record {
+      last = nothing-due (add P root (by-writer w) t);
+      passed = also P (writer-good P w g) (rw (map-both (node-lines t) (endTree ∷ []))
+          (courses.passed-both (tests P) (next P) end (map ended (node-lines t)) (ended endTree ∷ []) (node-good P some root 0 (by-writer w) [] t l h)
+          (also P (end-good P (add P root (by-writer w) t)) none-yet)));
+      ends = refl;
+    },
+  )
 
   module _ (n m : ℕ) (ls : List Line) (r : RefusedAt (tests P) (next P) end n m 2 writer-due ls) where
     -- the lines before it begin such a text

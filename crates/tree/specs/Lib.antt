@@ -6,3 +6,4 @@ pub mod Answers
 pub mod Coded
 pub mod Kinds
 pub mod Reading
+pub mod WellFormed

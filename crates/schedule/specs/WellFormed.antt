@@ -1,0 +1,10 @@
+-- Document 01, Texts: well-formed, for a schedule.
+use Prim.Native.Nat.{ℕ}
+use mathlib.Core.List.{List}
+use Rattle.model.specs.Instance.{Instance}
+use Rattle.text.specs.Lines.{kindSchedule}
+use Rattle.text.specs.WellFormed.{Formed}
+use Rattle.schedule.specs.Course.{writer-due, tests, next-due, end}
+
+abbrev pub WellFormed : Instance → List ℕ → Type 0
+WellFormed P text = Formed kindSchedule writer-due (tests P) (next-due P) end text

@@ -1,0 +1,10 @@
+-- Document 01, Texts: well-formed, for a tree. A line after a leaf that fails (33, 34, 35) is judged too: its place is the same.
+use Prim.Native.Nat.{ℕ}
+use mathlib.Core.List.{List}
+use Rattle.model.specs.Instance.{Instance}
+use Rattle.text.specs.Lines.{kindTree}
+use Rattle.text.specs.WellFormed.{Formed}
+use Rattle.tree.specs.Due.{writer-due, tests, next, end}
+
+abbrev pub WellFormed : Instance → List ℕ → Type 0
+WellFormed P text = Formed kindTree writer-due (tests P) (next P) end text
