@@ -9,7 +9,10 @@ use Rattle.model.specs.Above.{Above, fix}
 use Rattle.model.specs.Leaf.{minℤ, leaf-value}
 use Rattle.model.specs.Tree.{Tree, split, short, stuck, price, Bound, never, number, lower, bound, splits, leaves}
 use Rattle.model.proofs.Integers.{up, down, min-shift, nat→eq}
+use Rattle.tree.specs.declared.figures.Bound as code
+use Rattle.tree.specs.declared.figures.Bound.the-variants.{Never, Number}
 use Rattle.tree.specs.Due.{Figures, with-split, with-leaf}
+use Rattle.tree.specs.Coded.{bound-of, coded}
 
 min-assoc : (x y z : ℤ) → minℤ x (minℤ y z) ≡ minℤ (minℤ x y) z
 min-assoc x y z =
@@ -35,6 +38,16 @@ lower-assoc never y z = refl
 lower-assoc (number x) never z = refl
 lower-assoc (number x) (number y) never = refl
 lower-assoc (number x) (number y) (number z) = ap number (min-assoc x y z)
+
+-- ---- the code's bounds
+
+pub coded-is : (b : code.Bound) → coded (bound-of b) ≡ b
+coded-is Never = refl
+coded-is (Number z) = refl
+
+pub coded-back : (b : Bound) → bound-of (coded b) ≡ b
+coded-back never = refl
+coded-back (number z) = refl
 
 -- ---- the figures of a tree, line by line
 

@@ -25,13 +25,15 @@ use Rattle.least.specs.declared.unit.Least.the-variants.{Stuck, Value}
 use Rattle.least.specs.Marks.{all-marks}
 use Rattle.least.specs.Answers.{short-at, leaf-of}
 use Rattle.tree.specs.Rendering.{price-key, reserve-key}
-use Rattle.tree.specs.NodeLines.{Kind, short-line, stuck-line, price-line, kind-of, node-form, reserve-form, named, split-again, too-deep, not-short, not-stuck, node-tests}
+use Rattle.tree.specs.NodeLines.{Kind, split-line, short-line, stuck-line, price-line, kind-of, node-form, reserve-form, named, split-again, too-deep, not-short, not-stuck, node-tests}
 use Rattle.tree.specs.Due.{Figures, with-leaf, Pending, pending, nodes-due, reserve-due, tests, next, after-node, judge}
-use Rattle.tree.specs.Coded.{marks-in}
-use Rattle.tree.specs.Reading.{LineRefused}
-use Rattle.tree.proofs.Rows.{refused-found, row-refused, row-good, values-taken}
+use Rattle.tree.specs.declared.figures.Tally.{Tally}
+use Rattle.tree.specs.Coded.{figures, marks-in}
+use Rattle.tree.specs.Reading.{node-read, leaf-read}
+use Rattle.tree.proofs.Rows.{LineRefused, refused-found, row-refused, row-good, values-taken}
 use Rattle.tree.proofs.NodeLines.{rules}
 use Rattle.tree.proofs.Marked.{marks-same}
+use Rattle.tree.proofs.ReadLines.{read-same}
 use Rattle.tree.proofs.Steps.{AtNode, AtReserve}
 
 -- ---- where a node is due
@@ -97,6 +99,29 @@ module _ (P : Instance) (text : List ℕ) (here : ℕ) (A : Above) (d : ℕ) whe
       line-passed price-line e (row-good (node-form P price-line) text here row is n v) F rest
       ∙ ap (λ (q : List ℕ). good (reserve-due F A q rest)) (sym (values-taken P price-key text here row is n v))
 
+-- ---- a leaf's depth plays no part
+
+abbrev pub LeafKind : Kind → Type 0
+LeafKind split-line = ⊥
+LeafKind short-line = Unit {0}
+LeafKind stuck-line = Unit {0}
+LeafKind price-line = Unit {0}
+
+pub leaf-anywhere : (P : Instance) (text : List ℕ) (here l : ℕ) (S : Tally) (A : Above) (d : ℕ) (k : Kind) → LeafKind k → kind-of (lineAt text here) ≡ k
+    → leaf-read P text here l S A ≡ node-read P text here l S A d
+unfolding node-read too-deep after-node
+leaf-anywhere P text here l S A d k y e =
+    read-same P text here l (nodes-due (figures 0 S) (pending A 0 ∷ [])) refl (nodes-due (figures 0 S) (pending A d ∷ [])) refl
+    (judge-by P text here A 0 k e (figures 0 S) [] ∙ go k y ∙ sym (judge-by P text here A d k e (figures 0 S) []))
+  where
+    go : (k : Kind) → LeafKind k
+        → found (node-tests P A 0 k (lineAt text here)) (after-node P (figures 0 S) (pending A 0) [] k (lineAt text here))
+        ≡ found (node-tests P A d k (lineAt text here)) (after-node P (figures 0 S) (pending A d) [] k (lineAt text here))
+    go split-line y = absurd y
+    go short-line y = refl
+    go stuck-line y = refl
+    go price-line y = refl
+
 -- ---- what the bytes say of short and stuck is what the marks say
 
 pub short-same : (P : Instance) (bytes : List ℕ) (t : ℕ) → t < P .periods → short-at P (all-marks (P .periods) bytes) t ≡ short-at P (marks-in (P .periods) bytes) t
@@ -144,10 +169,10 @@ module _ (P : Instance) (W : WellFormed P) (text : List ℕ) (here : ℕ) (bytes
         go true p z = passed F rest true p
         go false p z = absurd (let y : _≡_ {A = ℕ} 0 1 = cc in omega arith)
 
-    pub leaf-read : (z : ℤ) → Value z ≡ leaf-of P (all-marks (P .periods) bytes) (λ t. q at t) (λ t. take (P .periods) (row .values) at t)
+    pub value-read : (z : ℤ) → Value z ≡ leaf-of P (all-marks (P .periods) bytes) (λ t. q at t) (λ t. take (P .periods) (row .values) at t)
         → AtReserve P text here (record { marks = marks-in (P .periods) bytes }) q (λ F rest. good (nodes-due (with-leaf F (number z)) rest))
     unfolding next
-    leaf-read z e F rest = go (any-stuck (P .periods) (P .units) (all-marks (P .periods) bytes)) refl e
+    value-read z e F rest = go (any-stuck (P .periods) (P .units) (all-marks (P .periods) bytes)) refl e
       where
         value : leaf-value P (all-marks (P .periods) bytes) (λ t. q at t) (λ t. take (P .periods) (row .values) at t)
             ≡ leaf-value P (marks-in (P .periods) bytes) (λ t. q at t) (λ t. numbers-of (reserve-form P) (lineAt text here) at t)

@@ -10,6 +10,7 @@ pub mod WhichLine
 pub mod Unique
 pub mod Witnesses
 pub mod Rows
+pub mod ReadLines
 pub mod Steps
 pub mod Marked
 pub mod Keys

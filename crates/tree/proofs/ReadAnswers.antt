@@ -23,8 +23,7 @@ use Rattle.tree.specs.Due.{Figures, Due, writer-due, nodes-due, reserve-
 use Rattle.tree.specs.Answers.{Accepted, Refused}
 use Rattle.tree.specs.Coded.{bound-of}
 use Rattle.tree.specs.Reading.{coded, read-as, tree-read}
-use Rattle.tree.proofs.Bounds.{figures-same}
-use Rattle.tree.proofs.Texts.{coded-is}
+use Rattle.tree.proofs.Bounds.{coded-is, figures-same}
 use Rattle.tree.proofs.Answers.{accepted-is, refused-is-first}
 
 -- ---- accepted

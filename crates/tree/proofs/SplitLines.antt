@@ -1,4 +1,4 @@
--- A split line, judged at its place: one law for each way through its reader.
+-- A split line at its place: one law for each way through its reader, and what its reader's answer says.
 use mathlib.Core.Path.{_≡_, refl, sym, ap, _∙_}
 use mathlib.Core.Bool.{Bool, true, false, cond}
 use mathlib.Core.List.{List, [], _∷_}
@@ -6,18 +6,25 @@ use Prim.Native.Nat.{ℕ, suc, pred, _-_, _≤_, _<_}
 use native.Mathlib.Omega.{arith}
 use lib.Dec.{ltb}
 use lib.ListN.{length}
+use borrow.Author.Tests.{ltb-false}
 use Rattle.model.specs.Instance.{Instance, _at_}
 use Rattle.model.specs.Above.{Above, fix}
 use Rattle.text.specs.Lines.{lineAt}
-use Rattle.text.specs.Forms.{numbers-of}
+use Rattle.text.specs.Forms.{numbers-of, after}
 use Rattle.text.specs.Forms as forms
-use Rattle.text.specs.Course.{refused, good}
-use Rattle.text.specs.Tests.{_if_, found}
-use Rattle.tree.specs.NodeLines.{split-line, kind-of, node-form, named, is-fixed, split-again, too-deep, not-short, not-stuck}
-use Rattle.tree.specs.Due.{Figures, with-split, Pending, pending, nodes-due, after-node, judge}
-use Rattle.tree.proofs.NodeLines.{was-split}
+use Rattle.text.specs.Course.{Found, refused, good}
+use Rattle.text.specs.Tests.{Test, _if_, found}
+use Rattle.text.proofs.Tests.{found-refused-is, none-good, good-none}
+use Rattle.text.proofs.Verdicts.{form-found, form-passes}
+use Rattle.tree.specs.declared.splitting.SplitLine.{SplitLine}
+use Rattle.tree.specs.declared.splitting.SplitLine.the-variants as split
+use Rattle.tree.specs.NodeLines.{split-line, kind-of, node-form, named, is-fixed, split-again, too-deep, not-short, not-stuck, node-tests}
+use Rattle.tree.specs.Due.{with-split, pending, nodes-due, after-node, judge}
+use Rattle.tree.specs.Reading.{split-by, split-line-read}
+use Rattle.tree.proofs.NodeLines.{rules, was-split}
+use Rattle.tree.proofs.Rows.{LineRefused, refused-found, Moved, line-moved}
 use Rattle.tree.proofs.Steps.{AtNode}
-use Rattle.tree.proofs.Leaves.{line-passed}
+use Rattle.tree.proofs.Leaves.{judge-by}
 
 -- what the refusals' tests say where nothing is refused
 pub none-refused : (x y : Bool) → cond {A = ℕ} x 31 (cond y 32 0) ≡ 0 → (x ≡ false) × (y ≡ false)
@@ -53,42 +60,100 @@ module _ (P : Instance) (text : List ℕ) (here : ℕ) (g : forms.good (node-for
         is-period = j;
       }
 
-module _ (P : Instance) (text : List ℕ) (here : ℕ) (A : Above) (d : ℕ) (e : kind-of (lineAt text here) ≡ split-line)
-    (g : forms.good (node-form P split-line) (lineAt text here) ≡ true) (vs : List ℕ) (is : vs ≡ numbers-of (node-form P split-line) (lineAt text here)) where
-  again : split-again P A split-line (lineAt text here) ≡ is-fixed (A .marks (vs at 0 - 1) (vs at 1 - 1))
-  unfolding split-again
-  again =
-      let w = two-values P text here g vs is in
-      rw (w .is-unit, w .is-period) refl
+-- ---- what the reader answers
 
-  -- the tests that are left, by 31 and 32
-  by-two : (x y : Bool) → is-fixed (A .marks (vs at 0 - 1) (vs at 1 - 1)) ≡ x → ltb 63 d ≡ y → (F : Figures) (rest : List Pending)
-      → judge P (nodes-due F (pending A d ∷ rest)) (lineAt text here)
-      ≡ found (31 if x ∷ 32 if y ∷ 33 if false ∷ 34 if false ∷ []) (after-node P F (pending A d) rest split-line (lineAt text here))
-  unfolding too-deep not-short not-stuck
-  by-two x y p q F rest =
-      let s = after-node P F (pending A d) rest split-line (lineAt text here) in
-      line-passed P text here A d split-line e g F rest
-      ∙ ap (λ (z : Bool). found (31 if z ∷ 32 if ltb 63 d ∷ 33 if false ∷ 34 if false ∷ []) s) (again ∙ p)
-      ∙ ap (λ (z : Bool). found (31 if x ∷ 32 if z ∷ 33 if false ∷ 34 if false ∷ []) s) q
+module _ (P : Instance) (text : List ℕ) (here : ℕ) (A : Above) (d : ℕ) where
+  pub split-refused : (n : ℕ) → LineRefused (node-form P split-line) (lineAt text here) n → split.Refused n ≡ split-line-read P text here A d
+  unfolding split-line-read
+  split-refused n h = ap split-by (sym (refused-found (node-form P split-line) (lineAt text here) n (rules P A d split-line (lineAt text here)) (split.On _ _ _) h))
 
-  -- 31 or 32 refuses the line
-  pub split-fails : (m : ℕ) → m ≡ cond (is-fixed (A .marks (vs at 0 - 1) (vs at 1 - 1))) 31 (cond (ltb 63 d) 32 0) → (m ≡ 0 → ⊥)
-      → AtNode P text here A d (λ F rest. refused m)
-  split-fails m q h F rest = go (is-fixed (A .marks (vs at 0 - 1) (vs at 1 - 1))) (ltb 63 d) refl refl q
+  module _ (g : forms.good (node-form P split-line) (lineAt text here) ≡ true) (vs : List ℕ) (is : vs ≡ numbers-of (node-form P split-line) (lineAt text here)) where
+    again : split-again P A split-line (lineAt text here) ≡ is-fixed (A .marks (vs at 0 - 1) (vs at 1 - 1))
+    unfolding split-again
+    again =
+        let w = two-values P text here g vs is in
+        rw (w .is-unit, w .is-period) refl
+
+    -- the tests that are left, by 31 and 32
+    by-two : (x y : Bool) → is-fixed (A .marks (vs at 0 - 1) (vs at 1 - 1)) ≡ x → ltb 63 d ≡ y
+        → split-line-read P text here A d
+        ≡ split-by (found (31 if x ∷ 32 if y ∷ 33 if false ∷ 34 if false ∷ []) (split.On (vs at 0 - 1) (vs at 1 - 1) (after (lineAt text here) here)))
+    unfolding split-line-read too-deep not-short not-stuck
+    by-two x y p q =
+        let w = two-values P text here g vs is in
+        let l = lineAt text here in
+        let s = split.On (named (node-form P split-line) l 0) (named (node-form P split-line) l 1) (after l here) in
+        ap split-by (form-found (node-form P split-line) l (rules P A d split-line l) s g)
+        ∙ ap (λ (z : Bool). split-by (found (31 if z ∷ 32 if ltb 63 d ∷ 33 if false ∷ 34 if false ∷ []) s)) (again ∙ p)
+        ∙ ap (λ (z : Bool). split-by (found (31 if x ∷ 32 if z ∷ 33 if false ∷ 34 if false ∷ []) s)) q
+        ∙ rw (w .is-unit, w .is-period) refl
+
+    -- 31 or 32 refuses the line
+    pub split-fails : (m : ℕ) → m ≡ cond (is-fixed (A .marks (vs at 0 - 1) (vs at 1 - 1))) 31 (cond (ltb 63 d) 32 0) → (m ≡ 0 → ⊥)
+        → split.Refused m ≡ split-line-read P text here A d
+    split-fails m q h = go (is-fixed (A .marks (vs at 0 - 1) (vs at 1 - 1))) (ltb 63 d) refl refl q
+      where
+        go : (x y : Bool) → is-fixed (A .marks (vs at 0 - 1) (vs at 1 - 1)) ≡ x → ltb 63 d ≡ y → m ≡ cond x 31 (cond y 32 0)
+            → split.Refused m ≡ split-line-read P text here A d
+        go true y a b c = ap split.Refused c ∙ sym (by-two true y a b)
+        go false true a b c = ap split.Refused c ∙ sym (by-two false true a b)
+        go false false a b c = absurd (h c)
+
+    -- neither does
+    pub split-good : cond {A = ℕ} (is-fixed (A .marks (vs at 0 - 1) (vs at 1 - 1))) 31 (cond (ltb 63 d) 32 0) ≡ 0 → (next : ℕ) → next ≡ after (lineAt text here) here
+        → split.On (vs at 0 - 1) (vs at 1 - 1) next ≡ split-line-read P text here A d
+    split-good q next n =
+        let f = none-refused (is-fixed (A .marks (vs at 0 - 1) (vs at 1 - 1))) (ltb 63 d) q in
+        rw n (sym (by-two false false (f .0) (f .1)))
+
+-- ---- what the answer says
+
+module _ (P : Instance) (text : List ℕ) (here : ℕ) (A : Above) (d : ℕ) (e : kind-of (lineAt text here) ≡ split-line) where
+  pub record SplitOn (U t next : ℕ) : Type 0 where
+    pub judged : AtNode P text here A d
+        (λ F rest. good (nodes-due (with-split F) (pending (fix U t false A) (suc d) ∷ pending (fix U t true A) (suc d) ∷ rest)))
+    pub unit : U < length (P .units)
+    pub period : t < P .periods
+    pub depth : d ≤ 63
+    pub moved : Moved text here next
+
+  tests : List Test
+  tests = node-tests P A d split-line (lineAt text here)
+
+  said : SplitLine
+  said = split.On (named (node-form P split-line) (lineAt text here) 0) (named (node-form P split-line) (lineAt text here) 1) (after (lineAt text here) here)
+
+  pub split-on : (U t next : ℕ) → split.On U t next ≡ split-line-read P text here A d → SplitOn U t next
+  unfolding split-line-read tests said too-deep after-node
+  split-on U t next r = go (found tests said) refl r
     where
-      go : (x y : Bool) → is-fixed (A .marks (vs at 0 - 1) (vs at 1 - 1)) ≡ x → ltb 63 d ≡ y → m ≡ cond x 31 (cond y 32 0)
-          → judge P (nodes-due F (pending A d ∷ rest)) (lineAt text here) ≡ refused m
-      go true y a b c = by-two true y a b F rest ∙ ap refused (sym c)
-      go false true a b c = by-two false true a b F rest ∙ ap refused (sym c)
-      go false false a b c = absurd (h c)
+      go : (x : Found SplitLine) → found tests said ≡ x → split.On U t next ≡ split-by x → SplitOn U t next
+      go (refused n) p r = absurd (let z : _≡_ {A = ℕ} 0 1 = cc in omega arith)
+      go (good x) p r =
+          let h = good-none said x tests p in
+          let f = form-passes (node-form P split-line) (lineAt text here) (rules P A d split-line (lineAt text here)) .0 (h .0) in
+          let w = was-split P (lineAt text here) (f .0) in
+          let q = r ∙ sym (h .1) in
+          let u : U ≡ named (node-form P split-line) (lineAt text here) 0 = cc in
+          let v : t ≡ named (node-form P split-line) (lineAt text here) 1 = cc in
+          let n : next ≡ after (lineAt text here) here = cc in
+          record {
+            judged = λ F rest. judge-by P text here A d split-line e F rest ∙ none-good (after-node P F (pending A d) rest split-line (lineAt text here)) tests (h .0) ∙ rw (u, v) refl;
+            unit = rw u (w .unit);
+            period = rw v (w .period);
+            depth = ltb-false 63 d (f .1 .1 .0);
+            moved = line-moved (node-form P split-line) text here next (f .0) n;
+          }
 
-  -- neither does
-  pub split-read : cond {A = ℕ} (is-fixed (A .marks (vs at 0 - 1) (vs at 1 - 1))) 31 (cond (ltb 63 d) 32 0) ≡ 0
-      → AtNode P text here A d
-      (λ F rest. good (nodes-due (with-split F) (pending (fix (vs at 0 - 1) (vs at 1 - 1) false A) (suc d) ∷ pending (fix (vs at 0 - 1) (vs at 1 - 1) true A) (suc d) ∷ rest)))
-  unfolding after-node
-  split-read q F rest =
-      let f = none-refused (is-fixed (A .marks (vs at 0 - 1) (vs at 1 - 1))) (ltb 63 d) q in
-      let w = two-values P text here g vs is in
-      by-two false false (f .0) (f .1) F rest ∙ rw (w .is-unit, w .is-period) refl
+  pub split-off : (n : ℕ) → split.Refused n ≡ split-line-read P text here A d → AtNode P text here A d (λ F rest. refused n)
+  unfolding split-line-read tests said
+  split-off n r F rest = go (found tests said) refl r
+    where
+      go : (x : Found SplitLine) → found tests said ≡ x → split.Refused n ≡ split-by x → judge P (nodes-due F (pending A d ∷ rest)) (lineAt text here) ≡ refused n
+      go (refused m) p r =
+          let q : m ≡ n = cc in
+          let s = after-node P F (pending A d) rest split-line (lineAt text here) in
+          judge-by P text here A d split-line e F rest ∙ found-refused-is s m tests .1 (found-refused-is said m tests .0 p) ∙ ap refused q
+      go (good x) p r =
+          let q = r ∙ sym (good-none said x tests p .1) in
+          absurd (let z : _≡_ {A = ℕ} 0 1 = cc in omega arith)

@@ -1,45 +1,27 @@
--- To read a node is to go through its lines: one law for each way through the code of the readers.
+-- A reader's answer is what is read by definition: one law for each way through the code of the readers.
 use mathlib.Core.Path.{_≡_, refl, sym, ap, _∙_}
 use mathlib.Core.List.{List, [], _∷_}
-use mathlib.Core.Option.{none}
-use Prim.Native.Nat.{ℕ, suc, _+_, _≤_}
+use Prim.Native.Nat.{ℕ, suc, _+_}
 use native.Mathlib.Numerals.{add-one}
 use native.Mathlib.Omega.{arith}
 use Rattle.model.specs.Instance.{Instance}
 use Rattle.model.specs.Above.{Above}
-use Rattle.text.specs.Lines.{missing, lineAt}
-use Rattle.text.specs.Forms.{malformed}
-use Rattle.text.specs.Course.{Found, refused, good, refused-at}
-use Rattle.text.proofs.Steps as steps
+use Rattle.text.specs.Lines.{lineAt}
+use Rattle.text.specs.Course.{Found, refused, good}
 use Rattle.tree.specs.declared.figures.Bound.{Bound}
 use Rattle.tree.specs.declared.figures.Tally.{Tally}
 use Rattle.tree.specs.declared.leaf.Read.{Read}
 use Rattle.tree.specs.declared.leaf.Read.the-variants.{Refused, Tree}
-use Rattle.tree.specs.Due.{Figures, with-split, with-leaf, Pending, pending, Due, writer-due, nodes-due, reserve-due, nothing-due, tests, judge, end}
-use Rattle.tree.specs.NodeLines.{kind-of}
-use Rattle.tree.specs.Coded.{bound-of, figures, one-split, LeafAdded}
-use Rattle.tree.specs.Reading.{from, NodeRead, LeafRead, TreesRead, ReserveRead, Placed, Past, Moved}
-use Rattle.tree.proofs.Bounds.{figures-same}
-
--- a line that is missing is 12, whatever is due
-judge-missing : (P : Instance) (s : Due) → judge P s missing ≡ refused 12
-unfolding judge tests kind-of malformed
-judge-missing P writer-due = refl
-judge-missing P (nodes-due F []) = refl
-judge-missing P (nodes-due F (p ∷ ps)) = refl
-judge-missing P (reserve-due F A q ps) = refl
-judge-missing P (nothing-due F) = refl
-
-module _ (P : Instance) (text : List ℕ) (at l : ℕ) (s : Due) (e : end s ≡ none) where
-  pub step-refused : (n : ℕ) → judge P s (lineAt text at) ≡ refused n → from P text at l s ≡ refused-at n l
-  step-refused n j = steps.step-refused (judge P) end (judge-missing P) text at l s e n j
-
-  pub step-good : (s′ : Due) (next : ℕ) → judge P s (lineAt text at) ≡ good s′ → Moved text at next → from P text at l s ≡ from P text next (l + 1) s′
-  step-good s′ next j m = rw add-one (steps.step-good (judge P) end (judge-missing P) text at l s s′ next j (m .lines))
+use Rattle.tree.specs.Due.{Figures, with-split, with-leaf, Pending, pending, Due, nodes-due, reserve-due, judge}
+use Rattle.tree.specs.Coded.{bound-of, lower-of, figures, tally-of, one-split, one-leaf}
+use Rattle.tree.specs.Reading.{read-from, node-read, trees-read, reserve-read}
+use Rattle.tree.proofs.Rows.{Moved}
+use Rattle.tree.proofs.ReadLines.{read-over, read-refused, read-good, on, second-read}
 
 -- one leaf more
-leaf-figures : (w : ℕ) (S S′ : Tally) (b : Bound) → LeafAdded S b S′ → with-leaf (figures w S) (bound-of b) ≡ figures w S′
-leaf-figures w S S′ b a = figures-same refl (sym (a .bound)) (sym (a .splits)) (let e = a .leaves in omega arith)
+leaf-tally : (S : Tally) (b : Bound) → one-leaf S b ≡ tally-of (with-leaf (figures 0 S) (bound-of b))
+leaf-tally S b =
+    ap (λ (n : ℕ). record { bound = lower-of (S .bound) b; splits = S .splits; leaves = n }) (let e : S .leaves + 1 ≡ suc (S .leaves) = omega arith in e)
 
 -- the line at a place is found to be this where a node is due, and where a reserve line is
 abbrev pub AtNode : Instance → List ℕ → ℕ → Above → ℕ → (Figures → List Pending → Found Due) → Type 0
@@ -48,97 +30,59 @@ AtNode P text at A d f = (F : Figures) (rest : List Pending) → judge P (nodes-
 abbrev pub AtReserve : Instance → List ℕ → ℕ → Above → List ℕ → (Figures → List Pending → Found Due) → Type 0
 AtReserve P text at A q f = (F : Figures) (rest : List Pending) → judge P (reserve-due F A q rest) (lineAt text at) ≡ f F rest
 
+-- where a leaf's last line is read
+leaf-over : (P : Instance) (text : List ℕ) (l : ℕ) (S : Tally) (b : Bound) (next : ℕ) (S′ : Tally) → S′ ≡ one-leaf S b
+    → Tree next l S′ ≡ read-from P text next l (nodes-due (with-leaf (figures 0 S) (bound-of b)) [])
+leaf-over P text l S b next S′ a = ap (Tree next l) (a ∙ leaf-tally S b) ∙ sym (read-over P text next l (with-leaf (figures 0 S) (bound-of b)))
+
 -- ---- a node
 
 module _ (P : Instance) (text : List ℕ) (at l : ℕ) (S : Tally) (A : Above) (d : ℕ) where
-  pub node-refused : (n : ℕ) → AtNode P text at A d (λ F rest. refused n) → NodeRead P text at l S A d (Refused n l)
-  unfolding NodeRead
-  node-refused n j w rest = step-refused P text at l (nodes-due (figures w S) (pending A d ∷ rest)) refl n (j (figures w S) rest)
+  abbrev node : Due
+  node = nodes-due (figures 0 S) (pending A d ∷ [])
 
-  pub node-leaf : (b : Bound) (next : ℕ) (S′ : Tally) → AtNode P text at A d (λ F rest. good (nodes-due (with-leaf F (bound-of b)) rest)) → Moved text at next → LeafAdded S b S′
-      → NodeRead P text at l S A d (Tree next (l + 1) S′)
-  unfolding NodeRead
-  node-leaf b next S′ j m a w rest =
-      step-good P text at l (nodes-due (figures w S) (pending A d ∷ rest)) refl _ next (j (figures w S) rest) m
-      ∙ ap (λ (F : Figures). from P text next (l + 1) (nodes-due F rest)) (leaf-figures w S S′ b a)
+  pub node-refused : (n : ℕ) → AtNode P text at A d (λ F rest. refused n) → Refused n l ≡ node-read P text at l S A d
+  unfolding node-read
+  node-refused n j = sym (read-refused P text at l node refl n (j (figures 0 S) []))
+
+  pub node-leaf : (b : Bound) (next : ℕ) (S′ : Tally) → AtNode P text at A d (λ F rest. good (nodes-due (with-leaf F (bound-of b)) rest)) → Moved text at next
+      → S′ ≡ one-leaf S b
+      → Tree next (l + 1) S′ ≡ node-read P text at l S A d
+  unfolding node-read
+  node-leaf b next S′ j m a = leaf-over P text (l + 1) S b next S′ a ∙ sym (read-good P text at l node refl _ next (j (figures 0 S) []) m)
 
   pub node-split : (B C : Above) (next : ℕ) (r : Read) → AtNode P text at A d (λ F rest. good (nodes-due (with-split F) (pending B (suc d) ∷ pending C (suc d) ∷ rest)))
-      → Moved text at next → TreesRead P text next (l + 1) (one-split S) B C (d + 1) r
-      → NodeRead P text at l S A d r
-  unfolding NodeRead TreesRead
-  node-split B C next r j m t w rest =
-      step-good P text at l (nodes-due (figures w S) (pending A d ∷ rest)) refl _ next (j (figures w S) rest) m
-      ∙ rw (← (add-one d), ← (add-one (S .splits))) (t w rest)
+      → Moved text at next → r ≡ trees-read P text next (l + 1) (one-split S) B C (d + 1)
+      → r ≡ node-read P text at l S A d
+  unfolding node-read trees-read
+  node-split B C next r j m t =
+      (rw (← (add-one d), ← (add-one (S .splits))) t) ∙ sym (read-good P text at l node refl _ next (j (figures 0 S) []) m)
 
   pub node-price : (q : List ℕ) (next : ℕ) (r : Read) → AtNode P text at A d (λ F rest. good (reserve-due F A q rest)) → Moved text at next
-      → ReserveRead P text next (l + 1) S A q r
-      → NodeRead P text at l S A d r
-  unfolding NodeRead ReserveRead
-  node-price q next r j m t w rest =
-      step-good P text at l (nodes-due (figures w S) (pending A d ∷ rest)) refl _ next (j (figures w S) rest) m ∙ t w rest
+      → r ≡ reserve-read P text next (l + 1) S A q
+      → r ≡ node-read P text at l S A d
+  unfolding node-read reserve-read
+  node-price q next r j m t = t ∙ sym (read-good P text at l node refl _ next (j (figures 0 S) []) m)
 
   -- ---- the two trees of a split
 
-  pub trees-refused : (B : Above) (n m : ℕ) → NodeRead P text at l S A d (Refused n m) → TreesRead P text at l S A B d (Refused n m)
-  unfolding NodeRead TreesRead
-  trees-refused B n m r w rest = r w (pending B d ∷ rest)
+  pub trees-refused : (B : Above) (n m : ℕ) → Refused n m ≡ node-read P text at l S A d → Refused n m ≡ trees-read P text at l S A B d
+  trees-refused B n m r = ap (on P text (read-from P text) Refused 0 (pending B d ∷ [])) r ∙ sym (second-read P text at l S A d B)
 
-  pub trees-both : (B : Above) (next m : ℕ) (S′ : Tally) (r : Read) → NodeRead P text at l S A d (Tree next m S′) → NodeRead P text next m S′ B d r
-      → TreesRead P text at l S A B d r
-  unfolding NodeRead TreesRead
-  trees-both B next m S′ r x y w rest = x w (pending B d ∷ rest) ∙ y w rest
+  pub trees-both : (B : Above) (next m : ℕ) (S′ : Tally) (r : Read) → Tree next m S′ ≡ node-read P text at l S A d → r ≡ node-read P text next m S′ B d
+      → r ≡ trees-read P text at l S A B d
+  unfolding node-read
+  trees-both B next m S′ r x y = y ∙ ap (on P text (read-from P text) Refused 0 (pending B d ∷ [])) x ∙ sym (second-read P text at l S A d B)
 
 -- ---- a reserve line
 
 module _ (P : Instance) (text : List ℕ) (at l : ℕ) (S : Tally) (A : Above) (q : List ℕ) where
-  pub reserve-refused : (n : ℕ) → AtReserve P text at A q (λ F rest. refused n) → ReserveRead P text at l S A q (Refused n l)
-  unfolding ReserveRead
-  reserve-refused n j w rest = step-refused P text at l (reserve-due (figures w S) A q rest) refl n (j (figures w S) rest)
+  pub reserve-refused : (n : ℕ) → AtReserve P text at A q (λ F rest. refused n) → Refused n l ≡ reserve-read P text at l S A q
+  unfolding reserve-read
+  reserve-refused n j = sym (read-refused P text at l (reserve-due (figures 0 S) A q []) refl n (j (figures 0 S) []))
 
   pub reserve-leaf : (b : Bound) (next : ℕ) (S′ : Tally) → AtReserve P text at A q (λ F rest. good (nodes-due (with-leaf F (bound-of b)) rest)) → Moved text at next
-      → LeafAdded S b S′
-      → ReserveRead P text at l S A q (Tree next (l + 1) S′)
-  unfolding ReserveRead
-  reserve-leaf b next S′ j m a w rest =
-      step-good P text at l (reserve-due (figures w S) A q rest) refl _ next (j (figures w S) rest) m
-      ∙ ap (λ (F : Figures). from P text next (l + 1) (nodes-due F rest)) (leaf-figures w S S′ b a)
-
--- ---- places
-
-module _ (text : List ℕ) (at l : ℕ) (S : Tally) (p : Placed text at l S) (next : ℕ) (m : Moved text at next) where
-  -- after a line
-  pub moved-placed : (S′ : Tally) → S′ .splits + S′ .leaves ≤ S .splits + S .leaves + 1 → Placed text next (l + 1) S′
-  moved-placed S′ h =
-      let a = p .short in
-      let b = p .numbered in
-      let c = p .counted in
-      let d = m .past in
-      let e = m .inside in
-      record { short = a; inside = e; numbered = omega arith; counted = omega arith }
-
-  pub leaf-past : (b : Bound) (S′ : Tally) → LeafAdded S b S′ → Past text at (Tree next (l + 1) S′)
-  leaf-past b S′ a =
-      let x = a .splits in
-      let y = a .leaves in
-      let z = m .fewer in
-      (moved-placed S′ (omega arith), omega arith)
-
-  -- what comes after what comes after a line
-  pub later-past : (r : Read) → Past text next r → Past text at r
-  later-past (Refused n k) h = tt
-  later-past (Tree k j T) h = (h .0, let x = h .1 in let y = m .fewer in omega arith)
-
-pub both-past : (text : List ℕ) (at next m : ℕ) (S : Tally) (r : Read) → Past text at (Tree next m S) → Past text next r → Past text at r
-both-past text at next m S (Refused n k) h j = tt
-both-past text at next m S (Tree k i T) h j = (j .0, let x = h .1 in let y = j .1 in omega arith)
-
--- ---- a leaf, whatever its depth
-
-module _ (P : Instance) (text : List ℕ) (at l : ℕ) (S : Tally) (A : Above) where
-  pub leaf-done : (b : Bound) (next : ℕ) (S′ : Tally) → ((d : ℕ) → AtNode P text at A d (λ F rest. good (nodes-due (with-leaf F (bound-of b)) rest)))
-      → Moved text at next → LeafAdded S b S′ → Placed text at l S
-      → LeafRead P text at l S A (Tree next (l + 1) S′) × Past text at (Tree next (l + 1) S′)
-  leaf-done b next S′ j m a p = ((λ d. node-leaf P text at l S A d b next S′ (j d) m a), leaf-past text at l S p next m b S′ a)
-
-  pub leaf-refused : (n : ℕ) → ((d : ℕ) → AtNode P text at A d (λ F rest. refused n)) → LeafRead P text at l S A (Refused n l) × Past text at (Refused n l)
-  leaf-refused n j = ((λ d. node-refused P text at l S A d n (j d)), tt)
+      → S′ ≡ one-leaf S b
+      → Tree next (l + 1) S′ ≡ reserve-read P text at l S A q
+  unfolding reserve-read
+  reserve-leaf b next S′ j m a = leaf-over P text (l + 1) S b next S′ a ∙ sym (read-good P text at l (reserve-due (figures 0 S) A q []) refl _ next (j (figures 0 S) []) m)

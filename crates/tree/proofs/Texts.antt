@@ -22,15 +22,15 @@ use Rattle.text.proofs.Verdicts.{form-found}
 use Rattle.text.proofs.Ends.{end-judged}
 use Rattle.tree.specs.declared.figures.Tally.{Tally}
 use Rattle.tree.specs.declared.figures.Bound.{Bound}
-use Rattle.tree.specs.declared.figures.Bound.the-variants.{Never, Number}
 use Rattle.tree.specs.declared.leaf.Read as code
 use Rattle.tree.specs.declared.leaf.Read.the-variants as read
 use Rattle.tree.specs.declared.TreeRead.the-variants as answer
 use Rattle.tree.specs.Due.{Figures, by-writer, pending, writer-due, nodes-due, nothing-due, tests, next, judge, end, IsTree, judged}
-use Rattle.tree.specs.Coded.{bound-of, figures, none-read}
-use Rattle.tree.specs.Reading.{coded, read-as, from, read-on, Placed, Past, Came, Moved, ended-as}
-use Rattle.tree.proofs.Rows.{refused-found, row-refused, row-good, row-moved}
-use Rattle.tree.proofs.Steps.{step-refused, step-good}
+use Rattle.tree.specs.Coded.{figures, none-read}
+use Rattle.tree.specs.Reading.{read-as, Placed, Came, ended-as}
+use Rattle.tree.proofs.Bounds.{coded-is}
+use Rattle.tree.proofs.Rows.{Moved, refused-found, row-refused, row-good, row-moved}
+use Rattle.tree.proofs.ReadLines.{from, step-refused, step-good, read-on, Past}
 
 -- ---- the first two lines
 
@@ -66,10 +66,6 @@ module _ (P : Instance) (text : List ℕ) (row : Row) (is : row ≡ rowOf writer
         record { short = h; inside = m .inside; numbered = omega arith; counted = omega arith }
 
 -- ---- the end line
-
-pub coded-is : (b : Bound) → coded (bound-of b) ≡ b
-coded-is Never = refl
-coded-is (Number z) = refl
 
 pub past-came : (text : List ℕ) (here : ℕ) (r : code.Read) → Past text here r → Came text r
 past-came text here (read.Refused n l) h = tt

@@ -1,5 +1,4 @@
 -- How the code holds what stands above a node and what was read so far, and what these mean.
-use mathlib.Core.Path.{_≡_}
 use mathlib.Core.Bool.{cond}
 use mathlib.Core.List.{List}
 use Prim.Native.Nat.{ℕ, _+_}
@@ -30,8 +29,20 @@ abbrev pub bound-of : Bound → model-tree.Bound
 bound-of Never = never
 bound-of (Number z) = number z
 
+abbrev pub coded : model-tree.Bound → Bound
+coded never = Never
+coded (number z) = Number z
+
+-- the lower of two
+abbrev pub lower-of : Bound → Bound → Bound
+lower-of a b = coded (lower (bound-of a) (bound-of b))
+
+-- a tally has no writer
 abbrev pub figures : ℕ → Tally → Figures
 figures w S = record { writer = w; bound = bound-of (S .bound); splits = S .splits; leaves = S .leaves }
+
+abbrev pub tally-of : Figures → Tally
+tally-of F = record { bound = coded (F .bound); splits = F .splits; leaves = F .leaves }
 
 abbrev pub none-read : Tally
 none-read = record { bound = Never; splits = 0; leaves = 0 }
@@ -39,11 +50,9 @@ none-read = record { bound = Never; splits = 0; leaves = 0 }
 abbrev pub one-split : Tally → Tally
 one-split S = record { bound = S .bound; splits = S .splits + 1; leaves = S .leaves }
 
--- S′ is S with one leaf more, which has the bound b
-pub record LeafAdded (S : Tally) (b : Bound) (S′ : Tally) : Type 0 where
-  pub bound : bound-of (S′ .bound) ≡ lower (bound-of (S .bound)) (bound-of b)
-  pub splits : S′ .splits ≡ S .splits
-  pub leaves : S′ .leaves ≡ S .leaves + 1
+-- with one leaf more, which has the bound b
+abbrev pub one-leaf : Tally → Bound → Tally
+one-leaf S b = record { bound = lower-of (S .bound) b; splits = S .splits; leaves = S .leaves + 1 }
 
 -- ---- 31 and 32
 

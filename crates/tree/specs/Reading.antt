@@ -1,21 +1,17 @@
--- What the readers of a tree ensure: to read a node is to go through the lines of Due as far as its last line.
-use mathlib.Core.Path.{_≡_}
-use mathlib.Core.Bool.{true, false}
-use mathlib.Core.List.{List, _∷_}
-use Prim.Native.Nat.{ℕ, suc, _+_, _≤_, _<_}
+-- What the readers of a tree answer: to read a node is to go through the lines of Due as far as its last line.
+use mathlib.Core.List.{List, [], _∷_}
+use mathlib.Core.Option.{Option, none, some}
+use Prim.Native.Nat.{ℕ, _+_, _≤_}
 use lib.ListN.{length, drop}
 use Rattle.model.specs.Instance.{Instance}
-use Rattle.model.specs.Above.{Above, fix}
-use Rattle.model.specs.Tree.{Bound, never, number}
-use Rattle.text.specs.Lines.{Line, later, linesOf, lineAt, endTree}
-use Rattle.text.specs.Forms as forms
-use Rattle.text.specs.Forms.{Form, plain}
-use Rattle.text.specs.Course.{refused, good, Judged, refused-at, accepted, judged-from}
+use Rattle.model.specs.Above.{Above}
+use Rattle.text.specs.Lines.{Line, linesOf, lineAt, endTree}
+use Rattle.text.specs.Forms.{plain, after, form-tests}
+use Rattle.text.specs.Course.{Found, refused, good, Judged, refused-at, accepted}
+use Rattle.text.specs.Tests.{found}
 use Rattle.text.specs.Ends.{endOf, endedBy}
 use Rattle.refusal.specs.Refusals.{refusalOf}
 use Rattle.tree.specs.declared.figures.Tally.{Tally}
-use Rattle.tree.specs.declared.figures.Bound as code
-use Rattle.tree.specs.declared.figures.Bound.the-variants.{Never, Number}
 use Rattle.tree.specs.declared.leaf.Read.{Read}
 use Rattle.tree.specs.declared.leaf.Read.the-variants.{Refused, Tree}
 use Rattle.tree.specs.declared.naming.NamedLine.{NamedLine}
@@ -24,15 +20,12 @@ use Rattle.tree.specs.declared.splitting.SplitLine.{SplitLine}
 use Rattle.tree.specs.declared.splitting.SplitLine.the-variants as split
 use Rattle.tree.specs.declared.TreeRead.{TreeRead}
 use Rattle.tree.specs.declared.TreeRead.the-variants as answer
-use Rattle.tree.specs.NodeLines.{named}
-use Rattle.tree.specs.Due.{Figures, with-split, Pending, pending, Due, nodes-due, reserve-due, judge, end, judged}
-use Rattle.tree.specs.Coded.{figures}
+use Rattle.tree.specs.NodeLines.{split-line, node-form, named, node-tests}
+use Rattle.tree.specs.Due.{Figures, pending, Due, writer-due, nodes-due, reserve-due, nothing-due, judge, judged}
+use Rattle.tree.specs.Coded.{figures, tally-of}
+pub use Rattle.tree.specs.Coded.{coded}
 
 -- ---- document 01's answers, by the cases of the code's enum
-
-abbrev pub coded : Bound → code.Bound
-coded never = Never
-coded (number z) = Number z
 
 unfoldable pub read-as : Judged Figures → TreeRead
 read-as (refused-at n l) = answer.Refused (refusalOf n l 0 0)
@@ -44,30 +37,47 @@ tree-read P text = read-as (judged P text)
 
 -- ---- a node
 
--- what is judged from the line l on, which starts at the place `at`, where s says what is due
-abbrev pub from : Instance → List ℕ → ℕ → ℕ → Due → Judged Figures
-from P text at l s = judged-from (judge P) end l s (linesOf (drop at text))
+-- what was read, where no node is left of those that were due
+abbrev pub over : Due → Option Tally
+over writer-due = none
+over (nodes-due F []) = some (tally-of F)
+over (nodes-due F (p ∷ ps)) = none
+over (reserve-due F A q ps) = none
+over (nothing-due F) = none
 
--- what is judged after a node, with `rest` still to be read
-abbrev pub read-on : Instance → List ℕ → ℕ → List Pending → Read → Judged Figures
-read-on P text w rest (Refused n l) = refused-at n l
-read-on P text w rest (Tree next l S) = from P text next l (nodes-due (figures w S) rest)
+-- the line l, which starts at the place `at`, is the first after what was read; or the answer is r
+abbrev pub unless-over : ℕ → ℕ → Option Tally → Read → Read
+unless-over at l none r = r
+unless-over at l (some S) r = Tree at l S
 
--- a node at depth d with A above it, and two nodes
-unfoldable pub NodeRead : Instance → List ℕ → ℕ → ℕ → Tally → Above → ℕ → Read → Type 0
-NodeRead P text at l S A d r = (w : ℕ) (rest : List Pending) → from P text at l (nodes-due (figures w S) (pending A d ∷ rest)) ≡ read-on P text w rest r
+-- what the line l is found to be refuses it, or says what is due then
+abbrev pub at-line : ℕ → Found Due → (Due → Read) → Read
+at-line l (refused n) go = Refused n l
+at-line l (good s) go = go s
 
--- a leaf, at any depth
-abbrev pub LeafRead : Instance → List ℕ → ℕ → ℕ → Tally → Above → Read → Type 0
-LeafRead P text at l S A r = (d : ℕ) → NodeRead P text at l S A d r
+-- from the line l on, which starts at the place `at`, where s says what is due: line by line as in Due, as far as the last line of the
+-- nodes that are due; a line that is missing is 12
+unfoldable pub read-lines : Instance → ℕ → ℕ → Due → List Line → Read
+read-lines P at l s [] = unless-over at l (over s) (Refused 12 l)
+read-lines P at l s (x ∷ ls) = unless-over at l (over s) (at-line l (judge P s x) (λ s′. read-lines P (after x at) (l + 1) s′ ls))
 
-unfoldable pub TreesRead : Instance → List ℕ → ℕ → ℕ → Tally → Above → Above → ℕ → Read → Type 0
-TreesRead P text at l S A B d r =
-    (w : ℕ) (rest : List Pending) → from P text at l (nodes-due (figures w S) (pending A d ∷ pending B d ∷ rest)) ≡ read-on P text w rest r
+abbrev pub read-from : Instance → List ℕ → ℕ → ℕ → Due → Read
+read-from P text at l s = read-lines P at l s (linesOf (drop at text))
 
--- the reserve line of a price leaf
-unfoldable pub ReserveRead : Instance → List ℕ → ℕ → ℕ → Tally → Above → List ℕ → Read → Type 0
-ReserveRead P text at l S A q r = (w : ℕ) (rest : List Pending) → from P text at l (reserve-due (figures w S) A q rest) ≡ read-on P text w rest r
+-- what is found of a node at depth d with A above it, where S was read before; of two nodes; and of the reserve line of a price leaf.
+-- The writer plays no part: 0 stands for one
+unfoldable pub node-read : Instance → List ℕ → ℕ → ℕ → Tally → Above → ℕ → Read
+node-read P text at l S A d = read-from P text at l (nodes-due (figures 0 S) (pending A d ∷ []))
+
+unfoldable pub trees-read : Instance → List ℕ → ℕ → ℕ → Tally → Above → Above → ℕ → Read
+trees-read P text at l S A B d = read-from P text at l (nodes-due (figures 0 S) (pending A d ∷ pending B d ∷ []))
+
+unfoldable pub reserve-read : Instance → List ℕ → ℕ → ℕ → Tally → Above → List ℕ → Read
+reserve-read P text at l S A q = read-from P text at l (reserve-due (figures 0 S) A q [])
+
+-- of a leaf: its depth plays no part, and 0 stands for it
+abbrev pub leaf-read : Instance → List ℕ → ℕ → ℕ → Tally → Above → Read
+leaf-read P text at l S A = node-read P text at l S A 0
 
 -- ---- places and counts
 
@@ -78,47 +88,34 @@ pub record Placed (text : List ℕ) (at l : ℕ) (S : Tally) : Type 0 where
   pub numbered : l ≤ at + 1
   pub counted : S .splits + S .leaves ≤ l
 
--- how many lines are left from a place on
-abbrev pub unread : List ℕ → ℕ → ℕ
-unread text at = length (linesOf (drop at text))
-
--- after a tree, if one was read, fewer lines are left
-abbrev pub Past : List ℕ → ℕ → Read → Type 0
-Past text at (Refused n l) = Unit {0}
-Past text at (Tree next l S) = Placed text next l S × (unread text next < unread text at)
-
 -- at the end of a whole tree
 abbrev pub Came : List ℕ → Read → Type 0
 Came text (Refused n l) = Unit {0}
 Came text (Tree next l S) = Placed text next l S
 
--- from one line to the next
-pub record Moved (text : List ℕ) (at next : ℕ) : Type 0 where
-  pub past : at < next
-  pub inside : next ≤ length text
-  pub lines : linesOf (drop next text) ≡ later (linesOf (drop at text))
-  pub fewer : unread text next + 1 ≡ unread text at
+-- ---- a line that names a unit or a period, and a split line: the first number that refuses it, or what it says
 
--- ---- a line of numbers, and one that names a unit or a period
+abbrev pub named-by : Found NamedLine → NamedLine
+named-by (refused n) = name.Refused n
+named-by (good r) = r
 
--- the first of 12, 14, 13 whose test holds of the line is n
-abbrev pub LineRefused : Form → Line → ℕ → Type 0
-LineRefused f l n = (forms.good f l ≡ false) × (forms.refusedBy f l ≡ n)
+-- the line that starts at the place `at`, where it is due to name one of 1 to most after the key
+unfoldable pub named-line-read : List ℕ → ℕ → List ℕ → ℕ → NamedLine
+named-line-read key most text at =
+    let f = plain key 1 1 most in
+    let l = lineAt text at in
+    named-by (found (form-tests f l []) (name.Names (named f l 0) (after l at)))
 
-abbrev pub NamedRead : List ℕ → ℕ → List ℕ → ℕ → NamedLine → Type 0
-NamedRead key most text at (name.Refused n) = LineRefused (plain key 1 1 most) (lineAt text at) n
-NamedRead key most text at (name.Names i next) =
-    (forms.good (plain key 1 1 most) (lineAt text at) ≡ true) × (i ≡ named (plain key 1 1 most) (lineAt text at) 0) × (i < most) × Moved text at next
+abbrev pub split-by : Found SplitLine → SplitLine
+split-by (refused n) = split.Refused n
+split-by (good r) = r
 
--- ---- a split line
-
-abbrev pub SplitRead : Instance → List ℕ → ℕ → Above → ℕ → SplitLine → Type 0
-SplitRead P text at A d (split.Refused n) =
-    (F : Figures) (rest : List Pending) → judge P (nodes-due F (pending A d ∷ rest)) (lineAt text at) ≡ refused n
-SplitRead P text at A d (split.On U t next) =
-    ((F : Figures) (rest : List Pending) → judge P (nodes-due F (pending A d ∷ rest)) (lineAt text at)
-    ≡ good (nodes-due (with-split F) (pending (fix U t false A) (suc d) ∷ pending (fix U t true A) (suc d) ∷ rest)))
-    × (U < length (P .units)) × (t < P .periods) × (d ≤ 63) × Moved text at next
+-- the line that starts at the place `at`, where a split line is due at depth d with A above it
+unfoldable pub split-line-read : Instance → List ℕ → ℕ → Above → ℕ → SplitLine
+split-line-read P text at A d =
+    let f = node-form P split-line in
+    let l = lineAt text at in
+    split-by (found (node-tests P A d split-line l) (split.On (named f l 0) (named f l 1) (after l at)))
 
 -- ---- the end line
 

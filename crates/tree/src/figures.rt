@@ -1,8 +1,7 @@
 // What the lines of a tree give: its bound and its counts.
 ghost use mathlib.Core.Path.{_≡_};
 ghost use Prim.Native.Nat.{_+_, _<_};
-ghost use Rattle.model.specs.Tree.{lower};
-ghost use Rattle.tree.specs.Coded.{bound-of, none-read, one-split, LeafAdded};
+ghost use Rattle.tree.specs.Coded.{lower-of, none-read, one-split, one-leaf};
 
 // The smallest value of the price leaves, or that there is none.
 pub enum Bound {
@@ -19,7 +18,7 @@ pub struct Tally {
 
 // The smaller of two bounds, never being above every number.
 fn lower_bound(a: Bound, b: Bound) -> Bound
-    ensures { λ r. ⌜ bound-of r ≡ lower (bound-of a) (bound-of b) ⌝ }
+    ensures { λ r. ⌜ r ≡ lower-of a b ⌝ }
 {
     match a {
         Bound::Never => b,
@@ -63,7 +62,7 @@ impl Tally {
     // With one leaf more, which has this bound.
     pub fn with_leaf(self, leaf: Bound) -> Tally
         requires { ⌜ self .leaves < 2000000 ⌝ }
-        ensures { λ r. ⌜ LeafAdded self leaf r ⌝ }
+        ensures { λ r. ⌜ r ≡ one-leaf self leaf ⌝ }
     {
         let bound = self.bound;
         Tally {

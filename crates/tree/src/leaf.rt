@@ -6,7 +6,7 @@ ghost use Rattle.numbers.specs.Numbers.{instance-in, Laid};
 ghost use Rattle.text.specs.Lines.{lineAt};
 ghost use Rattle.tree.specs.NodeLines.{kind-of, short-line, stuck-line, price-line};
 ghost use Rattle.tree.specs.Coded.{above-of};
-ghost use Rattle.tree.specs.Reading.{LeafRead, ReserveRead, Placed, Past};
+ghost use Rattle.tree.specs.Reading.{leaf-read, reserve-read, Placed};
 use crate::figures::Bound;
 use crate::figures::Tally;
 use crate::naming::NamedLine;
@@ -46,8 +46,7 @@ pub fn read_short(
     requires { ⌜ length (now fixed) ≡ 1536 ⌝ }
     requires { ⌜ Placed (now text) at line tally ⌝ }
     requires { ⌜ kind-of (lineAt (now text) at) ≡ short-line ⌝ }
-    ensures read { λ r. ⌜ LeafRead (instance-in (now (numbers .entry))) (now (text .entry)) at line tally (above-of (instance-in (now (numbers .entry)) .periods) (now (fixed .entry))) r ⌝ }
-    ensures past { λ r. ⌜ Past (now (text .entry)) at r ⌝ }
+    ensures { λ r. ⌜ r ≡ leaf-read (instance-in (now (numbers .entry))) (now (text .entry)) at line tally (above-of (instance-in (now (numbers .entry)) .periods) (now (fixed .entry))) ⌝ }
 {
     let periods = periods_in(numbers);
     let found = read_named(text, at, b"short=", periods);
@@ -79,8 +78,7 @@ pub fn read_stuck(
     requires { ⌜ length (now fixed) ≡ 1536 ⌝ }
     requires { ⌜ Placed (now text) at line tally ⌝ }
     requires { ⌜ kind-of (lineAt (now text) at) ≡ stuck-line ⌝ }
-    ensures read { λ r. ⌜ LeafRead (instance-in (now (numbers .entry))) (now (text .entry)) at line tally (above-of (instance-in (now (numbers .entry)) .periods) (now (fixed .entry))) r ⌝ }
-    ensures past { λ r. ⌜ Past (now (text .entry)) at r ⌝ }
+    ensures { λ r. ⌜ r ≡ leaf-read (instance-in (now (numbers .entry))) (now (text .entry)) at line tally (above-of (instance-in (now (numbers .entry)) .periods) (now (fixed .entry))) ⌝ }
 {
     let units = units_in(numbers);
     let found = read_named(text, at, b"stuck=", units);
@@ -113,8 +111,7 @@ fn read_reserve(
     requires { ⌜ length (now fixed) ≡ 1536 ⌝ }
     requires { ⌜ Placed (now text) at line tally ⌝ }
     requires { ⌜ Multipliers (instance-in (now numbers)) (take (instance-in (now numbers) .periods) q) ⌝ }
-    ensures read { λ r. ⌜ ReserveRead (instance-in (now (numbers .entry))) (now (text .entry)) at line tally (above-of (instance-in (now (numbers .entry)) .periods) (now (fixed .entry))) (take (instance-in (now (numbers .entry)) .periods) q) r ⌝ }
-    ensures past { λ r. ⌜ Past (now (text .entry)) at r ⌝ }
+    ensures { λ r. ⌜ r ≡ reserve-read (instance-in (now (numbers .entry))) (now (text .entry)) at line tally (above-of (instance-in (now (numbers .entry)) .periods) (now (fixed .entry))) (take (instance-in (now (numbers .entry)) .periods) q) ⌝ }
 {
     let periods = periods_in(numbers);
     let row = text::read_row(text, at, b"reserve=", periods, Price::LEAST, Price::MOST);
@@ -124,13 +121,13 @@ fn read_reserve(
         Verdict::Good { next } => {
             let s = row.values;
             let least = leaf_value(numbers, &q[..periods], &s[..periods], fixed);
-            match least {
-                Least::Stuck => Read::Refused { number: 35, line },
-                Least::Value(v) => Read::Tree {
-                    next,
-                    line: line + 1,
-                    tally: tally.with_leaf(Bound::Number(v)),
-                },
+            let Least::Value(v) = least else {
+                return Read::Refused { number: 35, line };
+            };
+            Read::Tree {
+                next,
+                line: line + 1,
+                tally: tally.with_leaf(Bound::Number(v)),
             }
         }
     }
@@ -149,8 +146,7 @@ pub fn read_price(
     requires { ⌜ length (now fixed) ≡ 1536 ⌝ }
     requires { ⌜ Placed (now text) at line tally ⌝ }
     requires { ⌜ kind-of (lineAt (now text) at) ≡ price-line ⌝ }
-    ensures read { λ r. ⌜ LeafRead (instance-in (now (numbers .entry))) (now (text .entry)) at line tally (above-of (instance-in (now (numbers .entry)) .periods) (now (fixed .entry))) r ⌝ }
-    ensures past { λ r. ⌜ Past (now (text .entry)) at r ⌝ }
+    ensures { λ r. ⌜ r ≡ leaf-read (instance-in (now (numbers .entry))) (now (text .entry)) at line tally (above-of (instance-in (now (numbers .entry)) .periods) (now (fixed .entry))) ⌝ }
 {
     let periods = periods_in(numbers);
     let row = text::read_row(text, at, b"price=", periods, Price::LEAST, Price::MOST);

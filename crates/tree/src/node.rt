@@ -7,7 +7,7 @@ ghost use Rattle.text.specs.Lines.{lineAt};
 ghost use Rattle.tree.specs.NodeLines.{kind-of};
 ghost use Rattle.tree.specs.Coded.{above-of};
 ghost use Rattle.tree.specs.Kinds.{node-kind};
-ghost use Rattle.tree.specs.Reading.{NodeRead, TreesRead, Placed, Past};
+ghost use Rattle.tree.specs.Reading.{node-read, trees-read, Placed};
 use crate::above::OFF;
 use crate::above::ON;
 use crate::figures::Tally;
@@ -56,8 +56,7 @@ pub fn read_node(
     requires { ⌜ Laid (now numbers) ⌝ }
     requires { ⌜ Placed (now text) at line tally ⌝ }
     requires { ⌜ (depth ≤ 64) × (length (now fixed) ≡ 1536) ⌝ }
-    ensures read { λ r. ⌜ NodeRead (instance-in (now (numbers .entry))) (now (text .entry)) at line tally (above-of (instance-in (now (numbers .entry)) .periods) (now (fixed .entry))) depth r ⌝ }
-    ensures past { λ r. ⌜ Past (now (text .entry)) at r ⌝ }
+    ensures read { λ r. ⌜ r ≡ node-read (instance-in (now (numbers .entry))) (now (text .entry)) at line tally (above-of (instance-in (now (numbers .entry)) .periods) (now (fixed .entry))) depth ⌝ }
     ensures same { λ _. ⌜ now (fixed .exit) ≡ now (fixed .entry) ⌝ }
 {
     let kind = find_kind(text, at);
@@ -95,8 +94,7 @@ fn read_split(
     requires { ⌜ Placed (now text) at line tally ⌝ }
     requires { ⌜ (depth ≤ 64) × (length (now fixed) ≡ 1536) ⌝ }
     requires { ⌜ place < 1536 ⌝ }
-    ensures read { λ r. ⌜ TreesRead (instance-in (now (numbers .entry))) (now (text .entry)) at line tally (above-of (instance-in (now (numbers .entry)) .periods) (set (now (fixed .entry)) place 1)) (above-of (instance-in (now (numbers .entry)) .periods) (set (now (fixed .entry)) place 2)) depth r ⌝ }
-    ensures past { λ r. ⌜ Past (now (text .entry)) at r ⌝ }
+    ensures read { λ r. ⌜ r ≡ trees-read (instance-in (now (numbers .entry))) (now (text .entry)) at line tally (above-of (instance-in (now (numbers .entry)) .periods) (set (now (fixed .entry)) place 1)) (above-of (instance-in (now (numbers .entry)) .periods) (set (now (fixed .entry)) place 2)) depth ⌝ }
     ensures same { λ _. ⌜ now (fixed .exit) ≡ now (fixed .entry) ⌝ }
 {
     let was = fixed[place];

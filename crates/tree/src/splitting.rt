@@ -3,10 +3,8 @@ ghost use mathlib.Core.Path.{_≡_};
 ghost use Prim.Native.Nat.{_+_, _*_, _≤_, _<_};
 ghost use lib.ListN.{length};
 ghost use Rattle.numbers.specs.Numbers.{instance-in, Laid};
-ghost use Rattle.text.specs.Lines.{lineAt};
-ghost use Rattle.tree.specs.NodeLines.{kind-of, split-line};
 ghost use Rattle.tree.specs.Coded.{above-of, split-refusal};
-ghost use Rattle.tree.specs.Reading.{SplitRead};
+ghost use Rattle.tree.specs.Reading.{split-line-read};
 use crate::above::is_fixed;
 use numbers::periods_in;
 use numbers::units_in;
@@ -52,8 +50,8 @@ pub fn read_split_line(
 ) -> SplitLine
     requires { ⌜ Laid (now numbers) ⌝ }
     requires { ⌜ length (now fixed) ≡ 1536 ⌝ }
-    requires { ⌜ (length (now text) ≤ 1048576) × (kind-of (lineAt (now text) at) ≡ split-line) ⌝ }
-    ensures { λ r. ⌜ SplitRead (instance-in (now (numbers .entry))) (now (text .entry)) at (above-of (instance-in (now (numbers .entry)) .periods) (now (fixed .entry))) depth r ⌝ }
+    requires { ⌜ length (now text) ≤ 1048576 ⌝ }
+    ensures { λ r. ⌜ r ≡ split-line-read (instance-in (now (numbers .entry))) (now (text .entry)) at (above-of (instance-in (now (numbers .entry)) .periods) (now (fixed .entry))) depth ⌝ }
 {
     let units = units_in(numbers);
     let periods = periods_in(numbers);

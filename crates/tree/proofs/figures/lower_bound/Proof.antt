@@ -1,11 +1,12 @@
 -- Case by case, as the model takes the lower of two bounds.
 use borrow.Author.Needs.{needs}
-use mathlib.Core.Path.{_≡_, refl}
+use mathlib.Core.Path.{_≡_, refl, sym}
 use mathlib.Core.Bool.{true, false}
 use lib.Signed.{leZ}
 use mir.Syntax.{w64}
 use mir.Val.{SFits}
 use mir.ValLaws.{toZ-ofZ}
+use Rattle.tree.proofs.Bounds.{coded-is}
 use Rattle.tree.proofs.figures.lower_bound.Statement.{statement}
 use Rattle.tree.proofs.figures.lower_bound.Tie as tie
 
@@ -31,7 +32,7 @@ returns c =
     rw (c .before .before .before .before .before .a .given .1, c .before .before .b .given .1, test) refl
 
 returns-2 : tie.Need-returns-2
-returns-2 c = search needs
+returns-2 c = rw (c .enum-told .given .1) (sym (coded-is _))
 
 returns-3 : tie.Need-returns-3
 returns-3 c = rw (c .before .before .before .a .given .1, c .enum-told2 .given .1) refl

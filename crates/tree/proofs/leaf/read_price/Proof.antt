@@ -10,9 +10,9 @@ use Rattle.text.specs.Forms.{plain, rowOf}
 use Rattle.tree.specs.Rendering.{price-key}
 use Rattle.tree.specs.NodeLines.{price-line, node-form}
 use Rattle.tree.specs.Coded.{above-of}
-use Rattle.tree.specs.Reading.{Moved}
-use Rattle.tree.proofs.Rows.{row-refused, row-moved, taken-multipliers}
-use Rattle.tree.proofs.Steps.{leaf-refused, node-price, moved-placed, later-past}
+use Rattle.tree.proofs.Rows.{Moved, row-refused, row-moved, taken-multipliers}
+use Rattle.tree.proofs.ReadLines.{moved-placed}
+use Rattle.tree.proofs.Steps.{node-refused, node-price}
 use Rattle.tree.proofs.Leaves.{line-refused, price-read}
 use Rattle.tree.proofs.leaf.read_price.Statement.{statement}
 use Rattle.tree.proofs.leaf.read_price.Tie as tie
@@ -79,8 +79,8 @@ returns c =
     let v = c .before .verdict .given in
     let P = instance-in (a .numbers .now) in
     let A = above-of (P .periods) (a .fixed .now) in
-    leaf-refused P (a .text .now) (a .at) (a .line) (a .tally) A (v .0 .0)
-    (λ d. line-refused P (a .text .now) (a .at) A d price-line (s .pre .1 .1 .1) (v .0 .0)
+    node-refused P (a .text .now) (a .at) (a .line) (a .tally) A 0 (v .0 .0)
+    (line-refused P (a .text .now) (a .at) A 0 price-line (s .pre .1 .1 .1) (v .0 .0)
     (row-refused (node-form P price-line) (a .text .now) (a .at) (r .read-row .result) (is-row r) (v .0 .0) (v .1)))
 
 returns-2 : tie.Need-returns-2
@@ -91,11 +91,8 @@ returns-2 c =
     let v = c .before .before .before .verdict2 .given in
     let P = instance-in (a .numbers .now) in
     let A = above-of (P .periods) (a .fixed .now) in
-    let m = moved (c .before .before .before) in (
-      (λ d. node-price P (a .text .now) (a .at) (a .line) (a .tally) A d (take (P .periods) (r .read-row .result .values)) (v .0 .0) (c .read-reserve .result)
-          (price-read P (a .text .now) (a .at) A d (s .pre .1 .1 .1) (r .read-row .result) (is-row r) (v .0 .0) (v .1)) m (c .read-reserve .ensures .0)),
-      later-past (a .text .now) (a .at) (a .line) (a .tally) (s .pre .1 .1 .0) (v .0 .0) m (c .read-reserve .result) (c .read-reserve .ensures .1),
-    )
+    node-price P (a .text .now) (a .at) (a .line) (a .tally) A 0 (take (P .periods) (r .read-row .result .values)) (v .0 .0) (c .read-reserve .result)
+    (price-read P (a .text .now) (a .at) A 0 (s .pre .1 .1 .1) (r .read-row .result) (is-row r) (v .0 .0) (v .1)) (moved (c .before .before .before)) (c .read-reserve .ensures)
 
 pub read-price-spec : {M : Type 1} → statement M
 read-price-spec =

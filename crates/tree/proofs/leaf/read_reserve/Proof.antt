@@ -20,12 +20,11 @@ use Rattle.text.specs.Forms.{plain, rowOf}
 use Rattle.tree.specs.declared.figures.Bound.the-variants.{Number}
 use Rattle.tree.specs.Rendering.{reserve-key}
 use Rattle.tree.specs.NodeLines.{reserve-form}
-use Rattle.tree.specs.Coded.{above-of, LeafAdded}
-use Rattle.tree.specs.Reading.{Moved}
+use Rattle.tree.specs.Coded.{above-of, one-leaf}
 use Rattle.tree.proofs.Places.{statuses-fit}
-use Rattle.tree.proofs.Rows.{row-moved, taken-multipliers}
-use Rattle.tree.proofs.Steps.{reserve-refused, reserve-leaf, leaf-past}
-use Rattle.tree.proofs.Leaves.{reserve-line-refused, unit-stuck, leaf-read}
+use Rattle.tree.proofs.Rows.{Moved, row-moved, taken-multipliers}
+use Rattle.tree.proofs.Steps.{reserve-refused, reserve-leaf}
+use Rattle.tree.proofs.Leaves.{reserve-line-refused, unit-stuck, value-read}
 use Rattle.tree.proofs.leaf.read_reserve.Statement.{statement}
 use Rattle.tree.proofs.leaf.read_reserve.Tie as tie
 
@@ -132,45 +131,41 @@ leaf-is c =
     c .leaf-value .ensures
     ∙ ap (λ (n : ℕ). leaf-of P (all-marks (P .periods) (a .fixed .now)) (λ t. take n (a .t5) at t) (λ t. take n (r .read-row .result .values) at t)) (counted r)
 
-enum-told : tie.Need-enum-told
-enum-told c = search needs
-
 enum-known-least : tie.Need-enum-known-least
 enum-known-least c = search needs
 
-add-t26 : tie.Need-add-t26
-add-t26 c = search needs
+enum-told : tie.Need-enum-told
+enum-told c = search needs
+
+add-t25 : tie.Need-add-t25
+add-t25 c = search needs
 
 with-leaf-requires : tie.Need-with-leaf-requires
 with-leaf-requires c κs = search needs
 
 returns : tie.Need-returns
 returns c =
-    let r = c .before .before .before in
-    let s = start r in
-    let a = s .args in
-    let v = c .before .verdict .given in
-    let P = instance-in (a .numbers .now) in
-    let q = take (P .periods) (a .t5) in (
-      reserve-refused P (a .text .now) (a .at) (a .line) (a .tally) (above-of (P .periods) (a .fixed .now)) q (v .0 .0)
-          (reserve-line-refused P (s .pre .0 .well-formed) (a .text .now) (a .at) (a .fixed .now) q (r .read-row .result) (is-row r) (v .0 .0) (v .1)),
-      tt,
-    )
-
-returns-2 : tie.Need-returns-2
-returns-2 c =
     let w = c .before .before .before .before .before .before .before in
     let r = w .before .before in
     let s = start r in
     let a = s .args in
     let v = w .verdict2 .given in
     let P = instance-in (a .numbers .now) in
-    let q = take (P .periods) (a .t5) in (
-      reserve-refused P (a .text .now) (a .at) (a .line) (a .tally) (above-of (P .periods) (a .fixed .now)) q 35
-          (unit-stuck P (s .pre .0 .well-formed) (a .text .now) (a .at) (a .fixed .now) q (r .read-row .result) (is-row r) (v .0 .0) (v .1)
-          (sym (c .enum-told .given .1) ∙ leaf-is (c .before .before))),
-      tt,
-    )
+    let q = take (P .periods) (a .t5) in
+    reserve-refused P (a .text .now) (a .at) (a .line) (a .tally) (above-of (P .periods) (a .fixed .now)) q 35
+    (unit-stuck P (s .pre .0 .well-formed) (a .text .now) (a .at) (a .fixed .now) q (r .read-row .result) (is-row r) (v .0 .0) (v .1)
+    (sym (c .enum-told .given .1) ∙ leaf-is (c .before .before)))
+
+returns-2 : tie.Need-returns-2
+returns-2 c =
+    let r = c .before .before .before in
+    let s = start r in
+    let a = s .args in
+    let v = c .before .verdict .given in
+    let P = instance-in (a .numbers .now) in
+    let q = take (P .periods) (a .t5) in
+    reserve-refused P (a .text .now) (a .at) (a .line) (a .tally) (above-of (P .periods) (a .fixed .now)) q (v .0 .0)
+    (reserve-line-refused P (s .pre .0 .well-formed) (a .text .now) (a .at) (a .fixed .now) q (r .read-row .result) (is-row r) (v .0 .0) (v .1))
 
 returns-3 : tie.Need-returns-3
 returns-3 c =
@@ -183,12 +178,10 @@ returns-3 c =
     let P = instance-in (a .numbers .now) in
     let q = take (P .periods) (a .t5) in
     let fits : SFits w64 (x .0 .0) = search needs in
-    let added = subst (λ (z : ℤ). LeafAdded (a .tally) (Number z) (c .with-leaf .result)) (toZ-ofZ w64 (x .0 .0) fits) (c .with-leaf .ensures) in (
-      reserve-leaf P (a .text .now) (a .at) (a .line) (a .tally) (above-of (P .periods) (a .fixed .now)) q (Number (x .0 .0)) (v .0 .0) (c .with-leaf .result)
-          (leaf-read P (s .pre .0 .well-formed) (a .text .now) (a .at) (a .fixed .now) q (r .read-row .result) (is-row r) (v .0 .0) (v .1) (x .0 .0)
-          (sym (x .1) ∙ leaf-is (c .before .before .before .before))) (moved w) added,
-      leaf-past (a .text .now) (a .at) (a .line) (a .tally) (s .pre .1 .1 .0) (v .0 .0) (moved w) (Number (x .0 .0)) (c .with-leaf .result) added,
-    )
+    reserve-leaf P (a .text .now) (a .at) (a .line) (a .tally) (above-of (P .periods) (a .fixed .now)) q (Number (x .0 .0)) (v .0 .0) (c .with-leaf .result)
+    (value-read P (s .pre .0 .well-formed) (a .text .now) (a .at) (a .fixed .now) q (r .read-row .result) (is-row r) (v .0 .0) (v .1) (x .0 .0)
+    (sym (x .1) ∙ leaf-is (c .before .before .before .before))) (moved w)
+    (c .with-leaf .ensures ∙ ap (λ (z : ℤ). one-leaf (a .tally) (Number z)) (toZ-ofZ w64 (x .0 .0) fits))
 
 pub read-reserve-spec : {M : Type 1} → statement M
 read-reserve-spec =
@@ -204,10 +197,10 @@ read-reserve-spec =
     array-share-prefix-s
     slice-aggregate-leaf-value-2
     leaf-value-requires
-    enum-told
     enum-known-least
-    add-t26
-    with-leaf-requires
+    enum-told
     returns
+    add-t25
+    with-leaf-requires
     returns-2
     returns-3)

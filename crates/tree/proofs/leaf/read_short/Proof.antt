@@ -1,6 +1,6 @@
 -- The line is the one that names a period, and what the code finds of the rule decides between good and 33.
 use borrow.Author.Needs.{needs}
-use mathlib.Core.Path.{_≡_, refl, sym, subst, _∙_}
+use mathlib.Core.Path.{_≡_, refl, sym, ap, _∙_}
 use Prim.Native.Nat.{ℕ}
 use native.Mathlib.Omega.{arith}
 use Rattle.numbers.specs.Numbers.{instance-in}
@@ -10,9 +10,10 @@ use Rattle.tree.specs.declared.naming.NamedLine.the-variants.{Refused, N
 use Rattle.tree.specs.Rendering.{short-key}
 use Rattle.tree.specs.NodeLines.{short-line}
 use Rattle.tree.specs.Coded.{above-of}
-use Rattle.tree.specs.Reading.{NamedRead}
+use Rattle.tree.specs.Reading.{named-line-read}
 use Rattle.tree.proofs.Places.{statuses-fit}
-use Rattle.tree.proofs.Steps.{leaf-done, leaf-refused}
+use Rattle.tree.proofs.Rows.{NamesOne, names-one, names-none}
+use Rattle.tree.proofs.Steps.{node-refused, node-leaf}
 use Rattle.tree.proofs.Leaves.{line-refused, short-same, short-holds, short-fails}
 use Rattle.tree.proofs.leaf.read_short.Statement.{statement}
 use Rattle.tree.proofs.leaf.read_short.Tie as tie
@@ -23,17 +24,16 @@ start c = c .before .before .before .before .before .before
 -- what the line is found to be, for the problem
 said : (c : tie.After-read-named) (r : NamedLine) → c .read-named .result ≡ r →
     let a = start c .args in
-    NamedRead short-key (instance-in (a .numbers .now) .periods) (a .text .now) (a .at) r
+    r ≡ named-line-read short-key (instance-in (a .numbers .now) .periods) (a .text .now) (a .at)
 said c r e =
     let a = start c .args in
-    subst (λ (n : ℕ). NamedRead short-key n (a .text .now) (a .at) r) (c .before .before .periods-in .ensures)
-    (subst (λ (x : NamedLine). NamedRead short-key (c .before .before .periods-in .result) (a .text .now) (a .at) x) e (c .read-named .ensures))
+    sym e ∙ c .read-named .ensures ∙ ap (λ (n : ℕ). named-line-read short-key n (a .text .now) (a .at)) (c .before .before .periods-in .ensures)
 
 -- the one that it names
 names : (c : tie.After-found2) →
     let a = start (c .before .before) .args in
-    NamedRead short-key (instance-in (a .numbers .now) .periods) (a .text .now) (a .at) (Names (c .found2 .given .0 .0) (c .found2 .given .0 .1 .0))
-names c = said (c .before .before) (Names (c .found2 .given .0 .0) (c .found2 .given .0 .1 .0)) (c .found2 .given .1)
+    NamesOne short-key (instance-in (a .numbers .now) .periods) (a .text .now) (a .at) (c .found2 .given .0 .0) (c .found2 .given .0 .1 .0)
+names c = names-one _ _ _ _ _ _ (said (c .before .before) (Names (c .found2 .given .0 .0) (c .found2 .given .0 .1 .0)) (c .found2 .given .1))
 
 periods-in-requires : tie.Need-periods-in-requires
 periods-in-requires c κs = c .before .before .before .pre .0
@@ -57,7 +57,7 @@ is-short-requires : tie.Need-is-short-requires
 is-short-requires c κs =
     let s = start (c .before .before .before) in
     let P = instance-in (s .args .numbers .now) in
-    (s .pre .0, (names (c .before) .2, rw (s .pre .1 .0) (statuses-fit P (s .pre .0 .well-formed))))
+    (s .pre .0, (names (c .before) .below, rw (s .pre .1 .0) (statuses-fit P (s .pre .0 .well-formed))))
 
 add-t17 : tie.Need-add-t17
 add-t17 c = search needs
@@ -74,9 +74,9 @@ returns c =
     let n = names f in
     let P = instance-in (a .numbers .now) in
     let A = above-of (P .periods) (a .fixed .now) in
-    leaf-done P (a .text .now) (a .at) (a .line) (a .tally) A Never (g .1 .0) (c .with-leaf .result)
-    (λ d. short-holds P (a .text .now) (a .at) A d (s .pre .1 .1 .1) (n .0) (g .0) (n .1) (sym (c .before .if1 .taken) ∙ c .before .before .is-short .ensures ∙ short-same P (a .fixed .now) (g .0) (n .2)))
-    (n .3) (c .with-leaf .ensures) (s .pre .1 .1 .0)
+    node-leaf P (a .text .now) (a .at) (a .line) (a .tally) A 0 Never (g .1 .0) (c .with-leaf .result)
+    (short-holds P (a .text .now) (a .at) A 0 (s .pre .1 .1 .1) (n .line-good) (g .0) (n .is-named) (sym (c .before .if1 .taken) ∙ c .before .before .is-short .ensures ∙ short-same P (a .fixed .now) (g .0) (n .below)))
+    (n .moved) (c .with-leaf .ensures)
 
 returns-2 : tie.Need-returns-2
 returns-2 c =
@@ -86,8 +86,8 @@ returns-2 c =
     let n = f .found .given .0 .0 in
     let P = instance-in (a .numbers .now) in
     let A = above-of (P .periods) (a .fixed .now) in
-    leaf-refused P (a .text .now) (a .at) (a .line) (a .tally) A n
-    (λ d. line-refused P (a .text .now) (a .at) A d short-line (s .pre .1 .1 .1) n (said (f .before .before) (Refused n) (f .found .given .1)))
+    node-refused P (a .text .now) (a .at) (a .line) (a .tally) A 0 n
+    (line-refused P (a .text .now) (a .at) A 0 short-line (s .pre .1 .1 .1) n (names-none _ _ _ _ n (said (f .before .before) (Refused n) (f .found .given .1))))
 
 returns-3 : tie.Need-returns-3
 returns-3 c =
@@ -97,8 +97,8 @@ returns-3 c =
     let n = names f in
     let P = instance-in (a .numbers .now) in
     let A = above-of (P .periods) (a .fixed .now) in
-    leaf-refused P (a .text .now) (a .at) (a .line) (a .tally) A 33
-    (λ d. short-fails P (a .text .now) (a .at) A d (s .pre .1 .1 .1) (n .0) (f .found2 .given .0 .0) (n .1) (sym (c .if1 .left) ∙ c .before .is-short .ensures ∙ short-same P (a .fixed .now) (f .found2 .given .0 .0) (n .2)))
+    node-refused P (a .text .now) (a .at) (a .line) (a .tally) A 0 33
+    (short-fails P (a .text .now) (a .at) A 0 (s .pre .1 .1 .1) (n .line-good) (f .found2 .given .0 .0) (n .is-named) (sym (c .if1 .left) ∙ c .before .is-short .ensures ∙ short-same P (a .fixed .now) (f .found2 .given .0 .0) (n .below)))
 
 pub read-short-spec : {M : Type 1} → statement M
 read-short-spec =

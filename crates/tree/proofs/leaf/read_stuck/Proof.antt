@@ -1,6 +1,6 @@
 -- The line is the one that names a unit, and what the code finds of the rule decides between good and 34.
 use borrow.Author.Needs.{needs}
-use mathlib.Core.Path.{_≡_, refl, sym, subst, _∙_}
+use mathlib.Core.Path.{_≡_, refl, sym, ap, _∙_}
 use Prim.Native.Nat.{ℕ}
 use native.Mathlib.Omega.{arith}
 use lib.ListN.{length}
@@ -11,9 +11,10 @@ use Rattle.tree.specs.declared.naming.NamedLine.the-variants.{Refused, N
 use Rattle.tree.specs.Rendering.{stuck-key}
 use Rattle.tree.specs.NodeLines.{stuck-line}
 use Rattle.tree.specs.Coded.{above-of}
-use Rattle.tree.specs.Reading.{NamedRead}
+use Rattle.tree.specs.Reading.{named-line-read}
 use Rattle.tree.proofs.Places.{statuses-fit}
-use Rattle.tree.proofs.Steps.{leaf-done, leaf-refused}
+use Rattle.tree.proofs.Rows.{NamesOne, names-one, names-none}
+use Rattle.tree.proofs.Steps.{node-refused, node-leaf}
 use Rattle.tree.proofs.Leaves.{line-refused, stuck-same, stuck-holds, stuck-fails}
 use Rattle.tree.proofs.leaf.read_stuck.Statement.{statement}
 use Rattle.tree.proofs.leaf.read_stuck.Tie as tie
@@ -24,17 +25,16 @@ start c = c .before .before .before .before .before .before
 -- what the line is found to be, for the problem
 said : (c : tie.After-read-named) (r : NamedLine) → c .read-named .result ≡ r →
     let a = start c .args in
-    NamedRead stuck-key (length (instance-in (a .numbers .now) .units)) (a .text .now) (a .at) r
+    r ≡ named-line-read stuck-key (length (instance-in (a .numbers .now) .units)) (a .text .now) (a .at)
 said c r e =
     let a = start c .args in
-    subst (λ (n : ℕ). NamedRead stuck-key n (a .text .now) (a .at) r) (c .before .before .units-in .ensures)
-    (subst (λ (x : NamedLine). NamedRead stuck-key (c .before .before .units-in .result) (a .text .now) (a .at) x) e (c .read-named .ensures))
+    sym e ∙ c .read-named .ensures ∙ ap (λ (n : ℕ). named-line-read stuck-key n (a .text .now) (a .at)) (c .before .before .units-in .ensures)
 
 -- the one that it names
 names : (c : tie.After-found2) →
     let a = start (c .before .before) .args in
-    NamedRead stuck-key (length (instance-in (a .numbers .now) .units)) (a .text .now) (a .at) (Names (c .found2 .given .0 .0) (c .found2 .given .0 .1 .0))
-names c = said (c .before .before) (Names (c .found2 .given .0 .0) (c .found2 .given .0 .1 .0)) (c .found2 .given .1)
+    NamesOne stuck-key (length (instance-in (a .numbers .now) .units)) (a .text .now) (a .at) (c .found2 .given .0 .0) (c .found2 .given .0 .1 .0)
+names c = names-one _ _ _ _ _ _ (said (c .before .before) (Names (c .found2 .given .0 .0) (c .found2 .given .0 .1 .0)) (c .found2 .given .1))
 
 units-in-requires : tie.Need-units-in-requires
 units-in-requires c κs = c .before .before .before .pre .0
@@ -58,7 +58,7 @@ is-unit-stuck-requires : tie.Need-is-unit-stuck-requires
 is-unit-stuck-requires c κs =
     let s = start (c .before .before .before) in
     let P = instance-in (s .args .numbers .now) in
-    (s .pre .0, (omega (arith, names (c .before) .2), rw (s .pre .1 .0) (statuses-fit P (s .pre .0 .well-formed))))
+    (s .pre .0, (omega (arith, names (c .before) .below), rw (s .pre .1 .0) (statuses-fit P (s .pre .0 .well-formed))))
 
 add-t17 : tie.Need-add-t17
 add-t17 c = search needs
@@ -75,9 +75,9 @@ returns c =
     let n = names f in
     let P = instance-in (a .numbers .now) in
     let A = above-of (P .periods) (a .fixed .now) in
-    leaf-done P (a .text .now) (a .at) (a .line) (a .tally) A Never (g .1 .0) (c .with-leaf .result)
-    (λ d. stuck-holds P (a .text .now) (a .at) A d (s .pre .1 .1 .1) (n .0) (g .0) (n .1) (sym (c .before .if1 .taken) ∙ c .before .before .is-unit-stuck .ensures ∙ stuck-same P (a .fixed .now) (g .0)))
-    (n .3) (c .with-leaf .ensures) (s .pre .1 .1 .0)
+    node-leaf P (a .text .now) (a .at) (a .line) (a .tally) A 0 Never (g .1 .0) (c .with-leaf .result)
+    (stuck-holds P (a .text .now) (a .at) A 0 (s .pre .1 .1 .1) (n .line-good) (g .0) (n .is-named) (sym (c .before .if1 .taken) ∙ c .before .before .is-unit-stuck .ensures ∙ stuck-same P (a .fixed .now) (g .0)))
+    (n .moved) (c .with-leaf .ensures)
 
 returns-2 : tie.Need-returns-2
 returns-2 c =
@@ -87,8 +87,8 @@ returns-2 c =
     let n = f .found .given .0 .0 in
     let P = instance-in (a .numbers .now) in
     let A = above-of (P .periods) (a .fixed .now) in
-    leaf-refused P (a .text .now) (a .at) (a .line) (a .tally) A n
-    (λ d. line-refused P (a .text .now) (a .at) A d stuck-line (s .pre .1 .1 .1) n (said (f .before .before) (Refused n) (f .found .given .1)))
+    node-refused P (a .text .now) (a .at) (a .line) (a .tally) A 0 n
+    (line-refused P (a .text .now) (a .at) A 0 stuck-line (s .pre .1 .1 .1) n (names-none _ _ _ _ n (said (f .before .before) (Refused n) (f .found .given .1))))
 
 returns-3 : tie.Need-returns-3
 returns-3 c =
@@ -98,8 +98,8 @@ returns-3 c =
     let n = names f in
     let P = instance-in (a .numbers .now) in
     let A = above-of (P .periods) (a .fixed .now) in
-    leaf-refused P (a .text .now) (a .at) (a .line) (a .tally) A 34
-    (λ d. stuck-fails P (a .text .now) (a .at) A d (s .pre .1 .1 .1) (n .0) (f .found2 .given .0 .0) (n .1) (sym (c .if1 .left) ∙ c .before .is-unit-stuck .ensures ∙ stuck-same P (a .fixed .now) (f .found2 .given .0 .0)))
+    node-refused P (a .text .now) (a .at) (a .line) (a .tally) A 0 34
+    (stuck-fails P (a .text .now) (a .at) A 0 (s .pre .1 .1 .1) (n .line-good) (f .found2 .given .0 .0) (n .is-named) (sym (c .if1 .left) ∙ c .before .is-unit-stuck .ensures ∙ stuck-same P (a .fixed .now) (f .found2 .given .0 .0)))
 
 pub read-stuck-spec : {M : Type 1} → statement M
 read-stuck-spec =

@@ -7,7 +7,7 @@ use Rattle.text.specs.Lines.{lineAt}
 use Rattle.text.specs.Forms.{plain}
 use Rattle.text.proofs.Verdicts.{ruled-refused}
 use Rattle.text.proofs.Fills.{PlainFilled, plain-filled}
-use Rattle.tree.proofs.Rows.{line-moved, one-value}
+use Rattle.tree.proofs.Rows.{one-value, named-refused, named-good}
 use Rattle.tree.proofs.naming.read_named.Statement.{statement}
 use Rattle.tree.proofs.naming.read_named.Tie as tie
 
@@ -44,14 +44,14 @@ returns c =
     let a = c .before .before .before .before .before .before .before .before .args in
     let r = c .before .before .before .before .fill-row in
     let v = c .before .verdict .given in
-    ruled-refused (plain (a .key .now) 1 1 (a .most)) (lineAt (a .text .now) (a .at)) (a .at) (r .result) (r .ensures .0) (v .0 .0) (v .1)
+    named-refused (a .key .now) (a .most) (a .text .now) (a .at) (v .0 .0)
+    (ruled-refused (plain (a .key .now) 1 1 (a .most)) (lineAt (a .text .now) (a .at)) (a .at) (r .result) (r .ensures .0) (v .0 .0) (v .1))
 
 returns-2 : tie.Need-returns-2
 returns-2 c =
     let a = c .before .before .before .before .before .before .before .before .args in
     let g = filled c in
-    let w = one-value g in
-    (g .line-good, w .is-named, omega (arith, w .low, w .high), line-moved (plain (a .key .now) 1 1 (a .most)) (a .text .now) (a .at) _ (g .line-good) (g .next-is))
+    named-good (a .key .now) (a .most) (a .text .now) (a .at) (g .line-good) _ _ (one-value g .is-named) (g .next-is)
 
 pub read-named-spec : {M : Type 1} → statement M
 read-named-spec =

@@ -8,16 +8,20 @@ use native.Mathlib.Omega.{arith}
 use lib.ListN.{length, set, length-set}
 use Rattle.model.specs.Above.{fix}
 use Rattle.numbers.specs.Numbers.{instance-in}
+use Rattle.text.specs.Lines.{lineAt}
 use Rattle.least.specs.Marks.{mark-of}
-use Rattle.tree.specs.declared.splitting.SplitLine.{SplitLine}
-use Rattle.tree.specs.declared.splitting.SplitLine.the-variants.{On}
 use Rattle.tree.specs.Kinds.{node-kind}
 use Rattle.tree.specs.Coded.{above-of}
 use Rattle.tree.specs.declared.leaf.Read.{Read}
-use Rattle.tree.specs.Reading.{unread, NodeRead, TreesRead, Past, SplitRead}
+use Rattle.tree.specs.NodeLines.{kind-of, split-line, short-line, stuck-line, price-line}
+use Rattle.tree.specs.Reading.{node-read, trees-read}
 use Rattle.tree.proofs.Places.{place-inside}
 use Rattle.tree.proofs.Marked.{split-is, set-length, set-over, set-back}
-use Rattle.tree.proofs.Steps.{node-refused, node-split, trees-refused, trees-both, moved-placed, later-past, both-past}
+use Rattle.tree.proofs.Rows.{unread}
+use Rattle.tree.proofs.SplitLines.{SplitOn, split-on, split-off}
+use Rattle.tree.proofs.ReadLines.{node-past, moved-placed}
+use Rattle.tree.proofs.Leaves.{leaf-anywhere}
+use Rattle.tree.proofs.Steps.{node-refused, node-split, trees-refused, trees-both}
 use Prim.Native.Nat.{ℕ, _+_, _*_, _<_}
 use borrow.Fn.Kinds.{In}
 use borrow.Fn.PlainCycle.{Measures, is, falls, and}
@@ -90,6 +94,9 @@ AtStart t = read-node-lts.Start (read-node-calls t) (read-node-at t) read-node.P
 abbrev AtKind : ℕ → Type 0
 AtKind t = read-node-lts.After-find-kind (read-node-calls t) (read-node-at t) read-node.Post
 
+abbrev AtLine : ℕ → Type 0
+AtLine t = read-node-lts.After-read-split-line (read-node-calls t) (read-node-at t) read-node.Post
+
 abbrev AtSplit : ℕ → Type 0
 AtSplit t = read-node-lts.After-found2 (read-node-calls t) (read-node-at t) read-node.Post
 
@@ -102,6 +109,10 @@ start t c = c .before .before .before .before
 abbrev split-start : (t : ℕ) → AtSplit t → AtStart t
 split-start t c = start t (c .before .before .before .before .before .before)
 
+-- a split line is due there
+is-split : (t : ℕ) (c : AtLine t) → let a = start t (c .before .before .before .before) .args in kind-of (lineAt (a .text .now) (a .at)) ≡ split-line
+is-split t c = sym (c .before .before .before .before .find-kind .ensures) ∙ ap node-kind (c .before .before .enum-told4 .given .1)
+
 -- ---- facts at a split line that is good
 
 -- what the line says
@@ -109,11 +120,10 @@ split-known : (t : ℕ) (c : AtSplit t) →
     let a = split-start t c .args in
     let P = instance-in (a .numbers .now) in
     let g = c .found2 .given .0 in
-    SplitRead P (a .text .now) (a .at) (above-of (P .periods) (a .fixed .now)) (a .depth) (On (g .0) (g .1 .0) (g .1 .1 .0))
+    SplitOn P (a .text .now) (a .at) (above-of (P .periods) (a .fixed .now)) (a .depth) (is-split t (c .before .before)) (g .0) (g .1 .0) (g .1 .1 .0)
 split-known t c =
-    let a = split-start t c .args in
-    let P = instance-in (a .numbers .now) in
-    subst (λ (x : SplitLine). SplitRead P (a .text .now) (a .at) (above-of (P .periods) (a .fixed .now)) (a .depth) x) (c .found2 .given .1) (c .before .before .read-split-line .ensures)
+    let l = c .before .before in
+    split-on _ _ _ _ _ (is-split t l) _ _ _ (sym (c .found2 .given .1) ∙ l .read-split-line .ensures)
 
 -- its status has a place
 place-in : (t : ℕ) (c : AtPlace t) → let g = c .before .before .found2 .given .0 in g .0 * c .periods-in .result + g .1 .0 < 1536
@@ -121,7 +131,7 @@ place-in t c =
     let f = c .before .before in
     let s = split-start t f in
     let k = split-known t f in
-    place-inside (instance-in (s .args .numbers .now)) (s .pre .1 .0 .well-formed) _ _ _ (c .periods-in .ensures) (k .1) (k .2)
+    place-inside (instance-in (s .args .numbers .now)) (s .pre .1 .0 .well-formed) _ _ _ (c .periods-in .ensures) (k .unit) (k .period)
 
 -- ---- a node
 
@@ -162,7 +172,7 @@ read-node-read-split-line-requires : (t : ℕ) → read-node-lts.Need-read-split
 read-node-read-split-line-requires t c κs =
     let f = c .before .before .before in
     let p = start t f .pre .1 in
-    (p .0, (p .1 .1 .1, (p .1 .0 .short, sym (f .find-kind .ensures) ∙ ap node-kind (c .before .enum-told4 .given .1))))
+    (p .0, (p .1 .1 .1, p .1 .0 .short))
 
 read-node-enum-known-found : (t : ℕ) → read-node-lts.Need-enum-known-found (read-node-calls t) (read-node-at t) read-node.Post
 read-node-enum-known-found t c = search needs
@@ -198,7 +208,7 @@ read-node-read-split-requires t c κs =
     let s = split-start t f in
     let a = s .args in
     let k = split-known t f in
-    let m = k .4 in
+    let m = k .moved in
     let w = c .before in
     let e = w .with-split .ensures in (
       omega (arith, s .pre .0, m .fewer),
@@ -206,7 +216,7 @@ read-node-read-split-requires t c κs =
         s .pre .1 .0,
         (
           moved-placed (a .text .now) (a .at) (a .line) (a .tally) (s .pre .1 .1 .0) (f .found2 .given .0 .1 .1 .0) m (w .with-split .result) (rw e (omega arith)),
-          ((omega (arith, k .3), s .pre .1 .1 .1 .1), place-in t (c .before .before)),
+          ((omega (arith, k .depth), s .pre .1 .1 .1 .1), place-in t (c .before .before)),
         ),
       ),
     )
@@ -216,24 +226,42 @@ read-node-same-length t c = search needs
 
 read-node-returns : (t : ℕ) → read-node-lts.Need-returns (read-node-calls t) (read-node-at t) read-node.Post
 read-node-returns t c =
-    let s = start t (c .before .before .before .before) in
-    (c .read-short .ensures .0 (s .args .depth), (c .read-short .ensures .1, refl))
+    let k = c .before .before .before .before in
+    let a = start t k .args in
+    let P = instance-in (a .numbers .now) in (
+      c .read-short .ensures
+          ∙ leaf-anywhere P (a .text .now) (a .at) (a .line) (a .tally) (above-of (P .periods) (a .fixed .now)) (a .depth) short-line tt
+          (sym (k .find-kind .ensures) ∙ ap node-kind (c .before .before .enum-told .given .1)),
+      refl,
+    )
 
 read-node-same-length-2 : (t : ℕ) → read-node-lts.Need-same-length-2 (read-node-calls t) (read-node-at t) read-node.Post
 read-node-same-length-2 t c = search needs
 
 read-node-returns-2 : (t : ℕ) → read-node-lts.Need-returns-2 (read-node-calls t) (read-node-at t) read-node.Post
 read-node-returns-2 t c =
-    let s = start t (c .before .before .before .before) in
-    (c .read-stuck .ensures .0 (s .args .depth), (c .read-stuck .ensures .1, refl))
+    let k = c .before .before .before .before in
+    let a = start t k .args in
+    let P = instance-in (a .numbers .now) in (
+      c .read-stuck .ensures
+          ∙ leaf-anywhere P (a .text .now) (a .at) (a .line) (a .tally) (above-of (P .periods) (a .fixed .now)) (a .depth) stuck-line tt
+          (sym (k .find-kind .ensures) ∙ ap node-kind (c .before .before .enum-told2 .given .1)),
+      refl,
+    )
 
 read-node-same-length-3 : (t : ℕ) → read-node-lts.Need-same-length-3 (read-node-calls t) (read-node-at t) read-node.Post
 read-node-same-length-3 t c = search needs
 
 read-node-returns-3 : (t : ℕ) → read-node-lts.Need-returns-3 (read-node-calls t) (read-node-at t) read-node.Post
 read-node-returns-3 t c =
-    let s = start t (c .before .before .before .before) in
-    (c .read-price .ensures .0 (s .args .depth), (c .read-price .ensures .1, refl))
+    let k = c .before .before .before .before in
+    let a = start t k .args in
+    let P = instance-in (a .numbers .now) in (
+      c .read-price .ensures
+          ∙ leaf-anywhere P (a .text .now) (a .at) (a .line) (a .tally) (above-of (P .periods) (a .fixed .now)) (a .depth) price-line tt
+          (sym (k .find-kind .ensures) ∙ ap node-kind (c .before .before .enum-told3 .given .1)),
+      refl,
+    )
 
 read-node-same-length-4 : (t : ℕ) → read-node-lts.Need-same-length-4 (read-node-calls t) (read-node-at t) read-node.Post
 read-node-same-length-4 t c = search needs
@@ -246,8 +274,8 @@ read-node-returns-4 t c =
     let A = above-of (P .periods) (a .fixed .now) in
     let g = c .before .found .given in (
       node-refused P (a .text .now) (a .at) (a .line) (a .tally) A (a .depth) (g .0 .0)
-          (subst (λ (x : SplitLine). SplitRead P (a .text .now) (a .at) A (a .depth) x) (g .1) (l .read-split-line .ensures)),
-      (tt, refl),
+          (split-off P (a .text .now) (a .at) A (a .depth) (is-split t l) (g .0 .0) (sym (g .1) ∙ l .read-split-line .ensures)),
+      refl,
     )
 
 read-node-same-length-5 : (t : ℕ) → read-node-lts.Need-same-length-5 (read-node-calls t) (read-node-at t) read-node.Post
@@ -267,18 +295,16 @@ read-node-returns-5 t c =
     let P = instance-in (a .numbers .now) in
     let T = P .periods in
     let A = above-of T (a .fixed .now) in
-    let inside : g .0 * T + g .1 .0 < length (a .fixed .now) = omega (arith, place-inside P (s .pre .1 .0 .well-formed) T (g .0) (g .1 .0) refl (k .1) (k .2), s .pre .1 .1 .1 .1) in
-    let off = split-is T (a .fixed .now) (g .0) (g .1 .0) 1 false inside (k .2) refl in
-    let on = split-is T (a .fixed .now) (g .0) (g .1 .0) 2 true inside (k .2) refl in
-    let both = subst (λ (n : ℕ). TreesRead P (a .text .now) (g .1 .1 .0) (a .line + 1) (w .with-split .result) (above-of T (set (a .fixed .now) (g .0 * n + g .1 .0) 1)) (above-of T (set (a .fixed .now) (g .0 * n + g .1 .0) 2)) (a .depth + 1) (q .read-split .result))
+    let inside : g .0 * T + g .1 .0 < length (a .fixed .now) = omega (arith, place-inside P (s .pre .1 .0 .well-formed) T (g .0) (g .1 .0) refl (k .unit) (k .period), s .pre .1 .1 .1 .1) in
+    let off = split-is T (a .fixed .now) (g .0) (g .1 .0) 1 false inside (k .period) refl in
+    let on = split-is T (a .fixed .now) (g .0) (g .1 .0) 2 true inside (k .period) refl in
+    let both = subst (λ (n : ℕ). q .read-split .result
+    ≡ trees-read P (a .text .now) (g .1 .1 .0) (a .line + 1) (w .with-split .result) (above-of T (set (a .fixed .now) (g .0 * n + g .1 .0) 1)) (above-of T (set (a .fixed .now) (g .0 * n + g .1 .0) 2)) (a .depth + 1))
     (p .periods-in .ensures) (q .read-split .ensures .0) in
     let trees = rw (off, on, w .with-split .ensures) at both in (
       node-split P (a .text .now) (a .at) (a .line) (a .tally) A (a .depth) (fix (g .0) (g .1 .0) false A) (fix (g .0) (g .1 .0) true A) (g .1 .1 .0) (q .read-split .result)
-          (k .0) (k .4) trees,
-      (
-        later-past (a .text .now) (a .at) (a .line) (a .tally) (s .pre .1 .1 .0) (g .1 .1 .0) (k .4) (q .read-split .result) (q .read-split .ensures .1 .0),
-        q .read-split .ensures .1 .1,
-      ),
+          (k .judged) (k .moved) trees,
+      q .read-split .ensures .1,
     )
 
 -- ---- the trees of a split
@@ -295,12 +321,19 @@ trees-start t c = c .before .before .before .before .before .before
 abbrev first-of : (t : ℕ) → AtSecond t → AtFirst t
 first-of t c = c .before .before .before .before .before .before .before
 
+-- the first tree, by what was found of it
+first-is : (t : ℕ) (c : AtFirst t) (r : Read) → c .read-node .result ≡ r →
+    let a = trees-start t c .args in
+    let P = instance-in (a .numbers .now) in
+    r ≡ node-read P (a .text .now) (a .at) (a .line) (a .tally) (above-of (P .periods) (set (a .fixed .now) (a .place) 1)) (a .depth)
+first-is t c r e = sym e ∙ c .read-node .ensures .0
+
 -- as many statuses after each tree as before
 first-long : (t : ℕ) (c : AtFirst t) → length (c .read-node .last .1 .1 .1 .1 .1 .0) ≡ 1536
-first-long t c = let s = trees-start t c in set-length (s .args .fixed .now) (s .args .place) _ (c .read-node .ensures .1 .1) ∙ s .pre .1 .1 .1 .0 .1
+first-long t c = let s = trees-start t c in set-length (s .args .fixed .now) (s .args .place) _ (c .read-node .ensures .1) ∙ s .pre .1 .1 .1 .0 .1
 
 second-long : (t : ℕ) (c : AtSecond t) → length (c .read-node2 .last .1 .1 .1 .1 .1 .0) ≡ 1536
-second-long t c = let b = first-of t c in set-length (b .read-node .last .1 .1 .1 .1 .1 .0) (trees-start t b .args .place) _ (c .read-node2 .ensures .1 .1) ∙ first-long t b
+second-long t c = let b = first-of t c in set-length (b .read-node .last .1 .1 .1 .1 .1 .0) (trees-start t b .args .place) _ (c .read-node2 .ensures .1) ∙ first-long t b
 
 read-split-slice-read-was : (t : ℕ) → read-split-lts.Need-slice-read-was (read-split-calls t) (read-split-at t) read-split.Post
 read-split-slice-read-was t c = search needs
@@ -338,7 +371,7 @@ read-split-read-node-requires-2 t c κs =
     let b = o .before .before .before .before in
     let s = trees-start t b in
     let p = s .pre .1 in
-    let q = subst (λ (x : Read). Past (s .args .text .now) (s .args .at) x) (o .one2 .given .1) (b .read-node .ensures .1 .0) in
+    let q = node-past _ _ _ _ _ _ _ (p .1 .0) _ (first-is t b _ (o .one2 .given .1)) in
     (omega (arith, s .pre .0, q .1), (p .0, (q .0, (p .1 .1 .0 .0, simp length-set (first-long t b)))))
 
 read-split-slice-write-fixed-4 : (t : ℕ) → read-split-lts.Need-slice-write-fixed-4 (read-split-calls t) (read-split-at t) read-split.Post
@@ -361,8 +394,8 @@ read-split-returns t c =
     let A = above-of T (set (a .fixed .now) (a .place) 1) in
     let g = c .before .one .given in (
       trees-refused P (a .text .now) (a .at) (a .line) (a .tally) A (a .depth) (above-of T (set (a .fixed .now) (a .place) 2)) (g .0 .0) (g .0 .1 .0)
-          (subst (λ (x : Read). NodeRead P (a .text .now) (a .at) (a .line) (a .tally) A (a .depth) x) (g .1) (b .read-node .ensures .0)),
-      (tt, set-back (a .fixed .now) (a .place) 1 (b .read-node .ensures .1 .1)),
+          (first-is t b _ (g .1)),
+      set-back (a .fixed .now) (a .place) 1 (b .read-node .ensures .1),
     )
 
 read-split-same-length-2 : (t : ℕ) → read-split-lts.Need-same-length-2 (read-split-calls t) (read-split-at t) read-split.Post
@@ -380,15 +413,11 @@ read-split-returns-2 t c =
     let A = above-of T (set (a .fixed .now) (a .place) 1) in
     let g = r .before .before .before .one2 .given in
     let two = r .read-node2 in
-    let changed = set-over (a .fixed .now) (a .place) 1 (b .read-node .ensures .1 .1) 2 in (
+    let changed = set-over (a .fixed .now) (a .place) 1 (b .read-node .ensures .1) 2 in (
       trees-both P (a .text .now) (a .at) (a .line) (a .tally) A (a .depth) (above-of T (set (a .fixed .now) (a .place) 2)) (g .0 .0) (g .0 .1 .0) (g .0 .1 .1 .0) (two .result)
-          (subst (λ (x : Read). NodeRead P (a .text .now) (a .at) (a .line) (a .tally) A (a .depth) x) (g .1) (b .read-node .ensures .0))
-          (subst (λ (x : List ℕ). NodeRead P (a .text .now) (g .0 .0) (g .0 .1 .0) (g .0 .1 .1 .0) (above-of T x) (a .depth) (two .result)) changed (two .ensures .0)),
-      (
-        both-past (a .text .now) (a .at) (g .0 .0) (g .0 .1 .0) (g .0 .1 .1 .0) (two .result)
-            (subst (λ (x : Read). Past (a .text .now) (a .at) x) (g .1) (b .read-node .ensures .1 .0)) (two .ensures .1 .0),
-        set-back (a .fixed .now) (a .place) 2 (two .ensures .1 .1 ∙ changed),
-      ),
+          (first-is t b _ (g .1))
+          (two .ensures .0 ∙ ap (λ (x : List ℕ). node-read P (a .text .now) (g .0 .0) (g .0 .1 .0) (g .0 .1 .1 .0) (above-of T x) (a .depth)) changed),
+      set-back (a .fixed .now) (a .place) 2 (two .ensures .1 ∙ changed),
     )
 
 pub +read-node+read-split-spec : {M : Type 1} → statement M

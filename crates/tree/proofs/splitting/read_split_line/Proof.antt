@@ -7,7 +7,7 @@ use Prim.Native.Nat.{ℕ, _+_, _*_, _-_, _<_}
 use native.Mathlib.Omega.{arith}
 use lib.Dec.{ltb}
 use lib.ListN.{length}
-use borrow.Author.Tests.{lt-ltb, ltb-false}
+use borrow.Author.Tests.{lt-ltb}
 use Rattle.model.specs.Instance.{Instance, _at_}
 use Rattle.model.specs.Ranges.{WellFormed}
 use Rattle.numbers.specs.Numbers.{instance-in}
@@ -21,9 +21,7 @@ use Rattle.tree.specs.NodeLines.{split-line, node-form, is-fixed}
 use Rattle.tree.specs.Coded.{marks-in, above-of, split-refusal}
 use Rattle.tree.proofs.Places.{place-inside}
 use Rattle.tree.proofs.Marked.{mark-there}
-use Rattle.tree.proofs.Rows.{line-moved}
-use Rattle.tree.proofs.Leaves.{line-refused}
-use Rattle.tree.proofs.SplitLines.{none-refused, TwoValues, two-values, split-fails, split-read}
+use Rattle.tree.proofs.SplitLines.{TwoValues, two-values, split-refused, split-fails, split-good}
 use Rattle.tree.proofs.splitting.read_split_line.Statement.{statement}
 use Rattle.tree.proofs.splitting.read_split_line.Tie as tie
 
@@ -160,35 +158,26 @@ refuse-split-requires c κs = inside c
 returns : tie.Need-returns
 returns c =
     let b = c .before .before in
-    let s = start (filling b) in
-    let a = s .args in
-    split-fails (instance-in (a .numbers .now)) (a .text .now) (a .at) (above-of (instance-in (a .numbers .now) .periods) (a .fixed .now)) (a .depth) (s .pre .1 .1 .1) (left b .line-good) (numbers b) (left b .values)
+    let a = start (filling b) .args in
+    split-fails (instance-in (a .numbers .now)) (a .text .now) (a .at) (above-of (instance-in (a .numbers .now) .periods) (a .fixed .now)) (a .depth) (left b .line-good) (numbers b) (left b .values)
     (c .before .refuse-split .result) (number-is (c .before)) (c .if1 .taken)
 
 returns-2 : tie.Need-returns-2
 returns-2 c =
     let f = c .before .before .before .before in
-    let s = start f in
-    let a = s .args in
+    let a = start f .args in
     let v = c .before .verdict .given in
     let P = instance-in (a .numbers .now) in
-    line-refused P (a .text .now) (a .at) (above-of (instance-in (a .numbers .now) .periods) (a .fixed .now)) (a .depth) split-line (s .pre .1 .1 .1) (v .0 .0)
+    split-refused P (a .text .now) (a .at) (above-of (P .periods) (a .fixed .now)) (a .depth) (v .0 .0)
     (ruled-refused (node-form P split-line) (lineAt (a .text .now) (a .at)) (a .at) (f .fill-line .result) (is-verdict f) (v .0 .0) (v .1))
 
 returns-3 : tie.Need-returns-3
 returns-3 c =
     let b = c .before .before in
-    let s = start (filling b) in
-    let a = s .args in
+    let a = start (filling b) .args in
     let P = instance-in (a .numbers .now) in
-    let e = sym (number-is (c .before)) ∙ c .if1 .left in
-    let w = values b in (
-      split-read P (a .text .now) (a .at) (above-of (instance-in (a .numbers .now) .periods) (a .fixed .now)) (a .depth) (s .pre .1 .1 .1) (left b .line-good) (numbers b) (left b .values) e,
-      w .unit,
-      w .period,
-      ltb-false 63 (a .depth) (none-refused (is-fixed (marks-in (instance-in (a .numbers .now) .periods) (a .fixed .now) (numbers b at 0 - 1) (numbers b at 1 - 1))) (ltb 63 (a .depth)) e .1),
-      line-moved (node-form P split-line) (a .text .now) (a .at) (b .before .verdict2 .given .0 .0) (left b .line-good) (left b .next-is),
-    )
+    split-good P (a .text .now) (a .at) (above-of (P .periods) (a .fixed .now)) (a .depth) (left b .line-good) (numbers b) (left b .values)
+    (sym (number-is (c .before)) ∙ c .if1 .left) (b .before .verdict2 .given .0 .0) (left b .next-is)
 
 pub read-split-line-spec : {M : Type 1} → statement M
 read-split-line-spec =
