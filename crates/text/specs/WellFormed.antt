@@ -1,5 +1,5 @@
--- Document 01, Texts: well-formed, for a schedule or tree, means that 11 doesn't apply to the text and none of its lines, judged at its place, breaks
--- 12 to 15 or a rule for split lines (31, 32).
+-- Document 01, Texts: when the text of a schedule or a tree is well-formed. It has at most 1,048,576 bytes, and no line, at the place where it stands, is refused by
+-- 12 to 15, 31 or 32; whether the rules are met and the leaves hold plays no part.
 use Prim.Native.Nat.{ℕ, _≤_}
 use mathlib.Core.Path.{_≡_}
 use mathlib.Core.Bool.{Bool, cond, _&&_, _||_}
