@@ -24,28 +24,28 @@ module _ (k : ℕ) (y : Option Breach) (c : ℕ) where
 
 -- ---- a judgement taken apart
 
-pub is-breach : (o : Option Breach) (c : ℕ) (b : Broken) → judged o c ≡ Breaks b
-    → o ≡ some (record { number = b .number; unit = b .unit; period = b .period })
-is-breach none c b e = let z : _≡_ {A = ℕ} 0 1 = cc in absurd (omega arith)
-is-breach (some x) c b e =
-    let r : record { number = x .number; unit = x .unit; period = x .period } ≡ b = cc in
-    ap (λ (y : Broken). some (record { number = y .number; unit = y .unit; period = y .period })) r
-
-pub is-cost : (o : Option Breach) (c k : ℕ) → judged o c ≡ Costs k → (o ≡ none) × (c ≡ k)
-is-cost none c k e = (refl, cc)
-is-cost (some x) c k e = let z : _≡_ {A = ℕ} 0 1 = cc in absurd (omega arith)
-
 module _ (P : Instance) (s : Schedule) where
   -- a schedule is refused by its first breach ..
   pub refused-is : (b : Broken) → judgement P s ≡ Breaks b
-      → first-breach P s ≡ some (record { number = b .number; unit = b .unit; period = b .period })
+      → first-breach P s ≡ some (record { number = b .number; unit = b .place .unit; period = b .place .period })
   unfolding judgement
-  refused-is b e = is-breach (first-breach P s) (cost P s) b e
+  refused-is b = go (first-breach P s)
+    where
+      go : (o : Option Breach) → judged o (cost P s) ≡ Breaks b
+          → o ≡ some (record { number = b .number; unit = b .place .unit; period = b .place .period })
+      go none e = let z : _≡_ {A = ℕ} 0 1 = cc in absurd (omega arith)
+      go (some x) e =
+          let r : record { number = x .number; place = record { unit = x .unit; period = x .period } } ≡ b = cc in
+          ap (λ (y : Broken). some (record { number = y .number; unit = y .place .unit; period = y .place .period })) r
 
   -- .. and, if it has none, answered with its cost
   pub accepted-is : (k : ℕ) → judgement P s ≡ Costs k → (first-breach P s ≡ none) × (cost P s ≡ k)
   unfolding judgement
-  accepted-is k e = is-cost (first-breach P s) (cost P s) k e
+  accepted-is k = go (first-breach P s)
+    where
+      go : (o : Option Breach) → judged o (cost P s) ≡ Costs k → (o ≡ none) × (cost P s ≡ k)
+      go none e = (refl, cc)
+      go (some x) e = let z : _≡_ {A = ℕ} 0 1 = cc in absurd (omega arith)
 
 -- ---- rule by rule
 

@@ -40,7 +40,7 @@ unfoldable pub two : ℕ → ℕ → ℕ → ℕ → Schedule
 two a b c d = (a ∷ b ∷ []) ∷ (c ∷ d ∷ []) ∷ []
 
 unfoldable pub breach : ℕ → ℕ → ℕ → Judgement
-breach k u t = Breaks (record { number = k; unit = u; period = t })
+breach k u t = Breaks (record { number = k; place = record { unit = u; period = t } })
 
 abbrev pub All-of : List (Judgement × Judgement) → Type 0
 All-of [] = Unit {0}

@@ -18,12 +18,12 @@ found (some x) = At (record { unit = x .unit; period = x .period })
 
 -- the judgement that the rule with a number is broken at a place
 abbrev pub named : ℕ → Place → Judgement
-named k x = Breaks (record { number = k; unit = x .unit; period = x .period })
+named k x = Breaks (record { number = k; place = x })
 
 -- the rule that is broken, or else the cost
 abbrev pub judged : Option Breach → ℕ → Judgement
 judged none c = Costs c
-judged (some b) c = Breaks (record { number = b .number; unit = b .unit; period = b .period })
+judged (some b) c = named (b .number) (record { unit = b .unit; period = b .period })
 
 unfoldable pub judgement : Instance → Schedule → Judgement
 judgement P s = judged (first-breach P s) (cost P s)

@@ -127,9 +127,8 @@ fn judge_rows(problem: Problem, writer: u64, rows: [u16; 1536]) -> ScheduleRead
     let judgement = judge::judge(problem, &rows[..n]);
     match judgement {
         Judgement::Breaks(broken) => {
-            let unit = broken.unit as usize;
-            let period = broken.period as usize;
-            refuse_text(broken.number, 0, unit, period)
+            let place = broken.place;
+            refuse_text(broken.number, 0, place.unit, place.period)
         }
         Judgement::Costs(cost) => ScheduleRead {
             answer: ScheduleAnswer::Accepted(Priced { writer, cost }),

@@ -62,14 +62,10 @@ find-breach-requires c κs = search needs
 enum-known-place : tie.Need-enum-known-place
 enum-known-place c = search needs
 
-name-breach-requires : tie.Need-name-breach-requires
-name-breach-requires c κs = search needs
-
 returns : tie.Need-returns
 returns c =
-    let s = c .before .before .before .before .before .before .before .before .before in
-    c .name-breach .ensures
-    ∙ sym (breaks21 (P-of s) (rows-of s) _ (sym (c .before .before .before .before .find-breach .ensures) ∙ c .before .before .place .given .1))
+    let s = c .before .before .before .before .before .before .before .before in
+    sym (breaks21 (P-of s) (rows-of s) _ (sym (c .before .before .before .find-breach .ensures) ∙ c .before .place .given .1))
 
 enum-told : tie.Need-enum-told
 enum-told c = search needs
@@ -80,14 +76,10 @@ find-unmet-demand-requires c κs = search needs
 enum-known-place-2 : tie.Need-enum-known-place-2
 enum-known-place-2 c = search needs
 
-name-breach-requires-2 : tie.Need-name-breach-requires-2
-name-breach-requires-2 c κs = search needs
-
 returns-2 : tie.Need-returns-2
 returns-2 c =
-    let s = c .before .before .before .before .before .before .before .before .before in
-    c .name-breach2 .ensures
-    ∙ sym (breaks22 (P-of s) (rows-of s) (left22 (c .before .before .before .before .before)) _ (sym (c .before .before .before .before .find-unmet-demand .ensures) ∙ c .before .before .place2 .given .1))
+    let s = c .before .before .before .before .before .before .before .before in
+    sym (breaks22 (P-of s) (rows-of s) (left22 (c .before .before .before .before)) _ (sym (c .before .before .before .find-unmet-demand .ensures) ∙ c .before .place2 .given .1))
 
 enum-told-2 : tie.Need-enum-told-2
 enum-told-2 c = search needs
@@ -98,14 +90,10 @@ find-unmet-spare-requires c κs = search needs
 enum-known-place-3 : tie.Need-enum-known-place-3
 enum-known-place-3 c = search needs
 
-name-breach-requires-3 : tie.Need-name-breach-requires-3
-name-breach-requires-3 c κs = search needs
-
 returns-3 : tie.Need-returns-3
 returns-3 c =
-    let s = c .before .before .before .before .before .before .before .before .before .before .before .before in
-    c .name-breach3 .ensures
-    ∙ sym (breaks23 (P-of s) (rows-of s) (left23 (c .before .before .before .before .before)) _ (sym (c .before .before .before .before .find-unmet-spare .ensures) ∙ c .before .before .place3 .given .1))
+    let s = c .before .before .before .before .before .before .before .before .before .before .before in
+    sym (breaks23 (P-of s) (rows-of s) (left23 (c .before .before .before .before)) _ (sym (c .before .before .before .find-unmet-spare .ensures) ∙ c .before .place3 .given .1))
 
 enum-told-3 : tie.Need-enum-told-3
 enum-told-3 c = search needs
@@ -116,14 +104,10 @@ find-breach-requires-2 c κs = search needs
 enum-known-place-4 : tie.Need-enum-known-place-4
 enum-known-place-4 c = search needs
 
-name-breach-requires-4 : tie.Need-name-breach-requires-4
-name-breach-requires-4 c κs = search needs
-
 returns-4 : tie.Need-returns-4
 returns-4 c =
-    let s = c .before .before .before .before .before .before .before .before .before .before .before .before .before .before .before .before .before in
-    c .name-breach4 .ensures
-    ∙ sym (breaks24 (P-of s) (rows-of s) (left24 (c .before .before .before .before .before .before .before)) _ (sym (c .before .before .before .before .find-breach2 .ensures) ∙ c .before .before .place4 .given .1))
+    let s = c .before .before .before .before .before .before .before .before .before .before .before .before .before .before .before .before in
+    sym (breaks24 (P-of s) (rows-of s) (left24 (c .before .before .before .before .before .before)) _ (sym (c .before .before .before .find-breach2 .ensures) ∙ c .before .place4 .given .1))
 
 enum-told-4 : tie.Need-enum-told-4
 enum-told-4 c = search needs
@@ -134,14 +118,10 @@ find-breach-requires-3 c κs = search needs
 enum-known-place-5 : tie.Need-enum-known-place-5
 enum-known-place-5 c = search needs
 
-name-breach-requires-5 : tie.Need-name-breach-requires-5
-name-breach-requires-5 c κs = search needs
-
 returns-5 : tie.Need-returns-5
 returns-5 c =
-    let s = c .before .before .before .before .before .before .before .before .before .before .before .before .before .before .before .before .before .before .before in
-    c .name-breach5 .ensures
-    ∙ sym (breaks25 (P-of s) (rows-of s) (left25 (c .before .before .before .before .before .before .before)) _ (sym (c .before .before .before .before .find-breach3 .ensures) ∙ c .before .before .place5 .given .1))
+    let s = c .before .before .before .before .before .before .before .before .before .before .before .before .before .before .before .before .before .before in
+    sym (breaks25 (P-of s) (rows-of s) (left25 (c .before .before .before .before .before .before)) _ (sym (c .before .before .before .find-breach3 .ensures) ∙ c .before .place5 .given .1))
 
 enum-told-5 : tie.Need-enum-told-5
 enum-told-5 c = search needs
@@ -166,27 +146,22 @@ judge-spec =
     tally-requires
     find-breach-requires
     enum-known-place
-    name-breach-requires
     returns
     enum-told
     find-unmet-demand-requires
     enum-known-place-2
-    name-breach-requires-2
     returns-2
     enum-told-2
     find-unmet-spare-requires
     enum-known-place-3
-    name-breach-requires-3
     returns-3
     enum-told-3
     find-breach-requires-2
     enum-known-place-4
-    name-breach-requires-4
     returns-4
     enum-told-4
     find-breach-requires-3
     enum-known-place-5
-    name-breach-requires-5
     returns-5
     enum-told-5
     returns-6

@@ -1,3 +1,4 @@
+-- The rows in the front of the array are judged, and the answer is what the rules say of them.
 use native.Mathlib.Omega.{arith}
 use mathlib.Core.Path.{_≡_, sym, ap, _∙_}
 use lib.ListN.{length}
@@ -35,21 +36,27 @@ refuse-text-requires c κs = search needs
 enum-known-judgement-2 : tie.Need-enum-known-judgement-2
 enum-known-judgement-2 c = search needs
 
+-- what the rows are judged to be
+judged : (c : tie.After-judge) →
+    let a = c .before .before .before .args in
+    judgement (view (a .problem)) (schedule-of (a .problem) (a .t3)) ≡ c .judge .result
+judged c =
+    let a = c .before .before .before .args in
+    ap (judgement (view (a .problem))) (sym (cut-take (a .problem .units) (a .problem .periods) (a .t3))) ∙ sym (c .judge .ensures)
+
 returns : tie.Need-returns
 returns c =
-    let a = c .before .before .before .before .before .before .before .args in
-    let same = cut-take (a .problem .units) (a .problem .periods) (a .t3) in
-    let judged = ap (judgement (view (a .problem))) (sym same) ∙ sym (c .before .before .before .before .judge .ensures) ∙ c .before .before .judgement .given .1 in
-    c .refuse-text .ensures ∙ ap in-arrays (ruled-breaks (view (a .problem)) (schedule-of (a .problem) (a .t3)) (a .writer) _ judged)
+    let a = c .before .before .before .before .before .before .before .before .args in
+    let e = judged (c .before .before .before .before .before) ∙ c .before .before .before .judgement .given .1 in
+    c .refuse-text .ensures ∙ ap in-arrays (ruled-breaks (view (a .problem)) (schedule-of (a .problem) (a .t3)) (a .writer) _ e)
 
 returns-2 : tie.Need-returns-2
 returns-2 c =
     let s = c .before .before .before .before .before .before in
     let a = s .args in
-    let same = cut-take (a .problem .units) (a .problem .periods) (a .t3) in
-    let judged = ap (judgement (view (a .problem))) (sym same) ∙ sym (c .before .before .before .judge .ensures) ∙ c .before .judgement2 .given .1 in
+    let e = judged (c .before .before .before) ∙ c .before .judgement2 .given .1 in
     accepted-held (a .problem .units) (a .problem .periods) (a .t3) (a .writer) _ (s .pre .1)
-    ∙ ap in-arrays (ruled-costs (view (a .problem)) (schedule-of (a .problem) (a .t3)) (a .writer) _ judged)
+    ∙ ap in-arrays (ruled-costs (view (a .problem)) (schedule-of (a .problem) (a .t3)) (a .writer) _ e)
 
 pub judge-rows-spec : {M : Type 1} → statement M
 judge-rows-spec =
