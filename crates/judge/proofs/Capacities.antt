@@ -13,11 +13,12 @@ use Rattle.model.specs.Instance.{_at_, sum}
 use Rattle.model.specs.Held.{view, blank-generator}
 use Rattle.model.specs.Ranges.{All, GoodOutput}
 use Rattle.model.specs.Rules.{on, if-on, capacity}
+use Rattle.model.proofs.PeriodSums.{sum-eq}
 use Rattle.judge.specs.Rows.{schedule-of, Fitting}
 use Rattle.judge.specs.Capacities.{capacities, Standing, capacity-in}
 use Rattle.judge.proofs.Rows.{all-at}
 use Rattle.judge.proofs.Units.{unit, units-most, unit-in}
-use Rattle.judge.proofs.Sums.{sum-same, capacities-are, if-on-most}
+use Rattle.judge.proofs.Sums.{capacities-are, if-on-most}
 
 -- ---- the list fills up
 
@@ -68,7 +69,7 @@ module _ (p : Problem) (l : List ℕ) (F : Fitting p l) (many : length (p .gener
   pub caps-are : (t : ℕ) → t < p .periods → capacity-in caps (p .periods) l t ≡ capacity (view p) (schedule-of p l) t
   caps-are t h =
       ap (λ (n : ℕ). sum n (λ i. if-on (on (l at (i * p .periods + t))) (caps at i))) caps-long
-      ∙ sum-same (p .units) _ _ (λ i k. ap (λ (x : ℕ). if-on (on (l at (i * p .periods + t))) x) (caps-at i k))
+      ∙ sum-eq (p .units) _ _ (λ i k. ap (λ (x : ℕ). if-on (on (l at (i * p .periods + t))) x) (caps-at i k))
       ∙ sym (capacities-are p l F many t h)
 
 -- ---- what is summed

@@ -13,10 +13,11 @@ use Rattle.model.specs.declared.arrays.Problem.{Problem}
 use Rattle.model.specs.Instance.{_at_, sum}
 use Rattle.model.specs.Rules.{on, permits}
 use Rattle.model.specs.Breach.{off-ramp, first-place}
+use Rattle.model.proofs.PeriodSums.{sum-eq, sum-most}
 use Rattle.judge.specs.Rows.{Fitting}
 use Rattle.judge.specs.Counts.{bit, breaches, all-breaches}
 use Rattle.judge.proofs.Tests.{is-off, is-on}
-use Rattle.judge.proofs.Sums.{sum-same, sum-more, sum-most}
+use Rattle.judge.proofs.Sums.{sum-next}
 use Rattle.judge.proofs.Units.{unit, part, periods-most}
 use Rattle.judge.proofs.Search.{Clear, first-in, search-ends}
 
@@ -37,7 +38,7 @@ all-breaches-most q p l F k =
 -- one unit more
 pub all-breaches-more : (q : ℕ → Generator → List ℕ → Bool) (p : Problem) (l : List ℕ) (k : ℕ)
     → all-breaches q p l (k + 1) ≡ all-breaches q p l k + breaches q (unit p k) (part p l k) (p .periods)
-all-breaches-more q p l k = sum-more k (λ i. breaches q (unit p i) (part p l i) (p .periods))
+all-breaches-more q p l k = sum-next k (λ i. breaches q (unit p i) (part p l i) (p .periods))
 
 -- ---- where there is none
 
@@ -123,4 +124,4 @@ steep-is g r zero = refl
 steep-is g r (suc t) = refl
 
 pub steep-breaches : (g : Generator) (r : List ℕ) (n : ℕ) → sum n (steep (g .UR) (g .DR) r) ≡ breaches off-ramp g r n
-steep-breaches g r n = sum-same n (steep (g .UR) (g .DR) r) (λ t. bit (off-ramp t g r)) (λ t h. steep-is g r t)
+steep-breaches g r n = sum-eq n (steep (g .UR) (g .DR) r) (λ t. bit (off-ramp t g r)) (λ t h. steep-is g r t)

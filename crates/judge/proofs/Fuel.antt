@@ -10,9 +10,9 @@ use Rattle.model.specs.Instance.{_at_, sum}
 use Rattle.model.specs.Ranges.{InRange, All, GoodOutput}
 use Rattle.model.specs.Rules.{on}
 use Rattle.model.specs.Cost.{fuel-cost}
+use Rattle.model.proofs.PeriodSums.{sum-most}
 use Rattle.judge.specs.Counts.{bit}
 use Rattle.judge.proofs.Rows.{all-at}
-use Rattle.judge.proofs.Sums.{sum-most}
 use Rattle.judge.proofs.Counts.{bit-most}
 
 -- ---- the three sums over a row

@@ -1,22 +1,23 @@
 -- The walk along a row's statuses: one status further, what it comes to at the row's end, and the room that it has.
 use mathlib.Core.Path.{_≡_, refl, sym, ap, _∙_}
-use mathlib.Core.Bool.{Bool, true, false, not, cond, Bool·not-not}
+use mathlib.Core.Bool.{Bool, true, false, not, Bool·not-not}
 use mathlib.Core.List.{List, [], _∷_}
 use Prim.Native.Nat.{ℕ, zero, suc, _+_, _*_, _≤_, _<_}
 use native.Mathlib.Numerals.{add-one}
 use native.Mathlib.Omega.{arith}
-use lib.Dec.{leb}
 use lib.ListN.{length}
 use Rattle.model.specs.declared.generator.Generator.{Generator}
 use Rattle.model.specs.Instance.{_at_, sum}
-use Rattle.model.specs.Ranges.{InRange}
+use Rattle.model.specs.Ranges.{GoodUnit}
 use Rattle.model.specs.Rules.{on, statuses, permits, spent}
 use Rattle.model.specs.Cost.{switch-cost, switch-costs}
+use Rattle.model.proofs.PeriodSums.{sum-most}
+use Rattle.model.proofs.WalkSizes.{switch-cost-fits}
 use Rattle.judge.specs.declared.tallies.Walk.{Walk}
 use Rattle.judge.specs.Before.{status-before, spent-before}
 use Rattle.judge.specs.Counts.{bit, barred}
 use Rattle.judge.specs.Walk.{passed, Room, switch-in, walk-to}
-use Rattle.judge.proofs.Sums.{sum-more, sum-most}
+use Rattle.judge.proofs.Sums.{sum-next}
 use Rattle.judge.proofs.Counts.{breaches-most}
 use Rattle.judge.proofs.Before.{status-next, spent-next, permitted-by}
 
@@ -39,8 +40,8 @@ module _ (g : Generator) (r : List ℕ) where
         walk-same
         (rw (add-one t) (sym (status-next (g .on) r t h)))
         (rw (add-one t) (sym (spent-next (g .on) (g .since) r t h)))
-        (omega (arith, counted, sum-more t (λ i. bit (barred i g r))))
-        (sym (sum-more t (switch-in g r)))
+        (omega (arith, counted, sum-next t (λ i. bit (barred i g r))))
+        (sym (sum-next t (switch-in g r)))
 
   -- what the walk costs is what the starts and stops do
   pub switches-are : sum (length r) (switch-in g r) ≡ switch-costs g (g .on) (g .since) (statuses r)
@@ -64,24 +65,15 @@ spent-most b k (d ∷ run) (suc t) = omega (arith, spent-most d (spent b k d) ru
     one false true = omega arith
     one false false = omega arith
 
-module _ (g : Generator) (R : InRange g) where
-  pub switch-most : (b : Bool) (k : ℕ) (d : Bool) → switch-cost g b k d ≤ 1000000000
-  switch-most true k true = omega arith
-  switch-most true k false = R .Dc-in .1
-  switch-most false k true = go (leb k (g .TD + g .Tcold))
-    where
-      go : (c : Bool) → cond c (g .Hsc) (g .Csc) ≤ 1000000000
-      go true = R .Hsc-in .1
-      go false = R .Csc-in .1
-  switch-most false k false = omega arith
+module _ (g : Generator) (good : GoodUnit g) (r : List ℕ) where
+  pub switches-most : (t : ℕ) → sum t (switch-in g r) ≤ t * 1000000000
+  switches-most t =
+      sum-most t 1000000000 (switch-in g r)
+      (λ i h. switch-cost-fits g good (status-before (g .on) (statuses r) i) (spent-before (g .on) (g .since) (statuses r) i) (on (r at i)))
 
-  module _ (r : List ℕ) where
-    pub switches-most : (t : ℕ) → sum t (switch-in g r) ≤ t * 1000000000
-    switches-most t = sum-most t 1000000000 (switch-in g r) (λ i h. switch-most (status-before (g .on) (statuses r) i) (spent-before (g .on) (g .since) (statuses r) i) (on (r at i)))
-
-    pub walk-room : (t : ℕ) → t ≤ 48 → Room (walk-to g r t)
-    walk-room t h = record {
-      spent-in = omega (arith, R .since-in .1, spent-most (g .on) (g .since) (statuses r) t);
-      barred-in = omega (arith, breaches-most barred g r t);
-      cost-in = omega (arith, switches-most t);
-    }
+  pub walk-room : (t : ℕ) → t ≤ 48 → Room (walk-to g r t)
+  walk-room t h = record {
+    spent-in = omega (arith, good .in-range .since-in .1, spent-most (g .on) (g .since) (statuses r) t);
+    barred-in = omega (arith, breaches-most barred g r t);
+    cost-in = omega (arith, switches-most t);
+  }

@@ -2,7 +2,7 @@
 ghost use mathlib.Core.Path.{_≡_};
 ghost use Prim.Native.Nat.{_≤_};
 ghost use lib.ListN.{length};
-ghost use Rattle.model.specs.Ranges.{InRange, All, GoodOutput};
+ghost use Rattle.model.specs.Ranges.{GoodUnit, All, GoodOutput};
 ghost use Rattle.judge.specs.Rows.{Fitting};
 ghost use Rattle.judge.specs.Walk.{Room, passed, walk-to};
 ghost use Rattle.judge.specs.Tallied.{row-tallies, tallies};
@@ -32,7 +32,7 @@ pub struct Tallies {
 
 // The walk one status further.
 fn pass(g: Generator, walk: Walk, after: bool) -> Walk
-    requires { ⌜ InRange g × Room walk ⌝ }
+    requires { ⌜ GoodUnit g × Room walk ⌝ }
     ensures { λ r. ⌜ r ≡ passed g walk after ⌝ }
 {
     let before = walk.on;
@@ -55,7 +55,7 @@ fn pass(g: Generator, walk: Walk, after: bool) -> Walk
 
 // The walk along a whole row, from Tini on.
 fn walk_row(g: Generator, row: &[u16]) -> Walk
-    requires { ⌜ InRange g × (length (now row) ≤ 48) ⌝ }
+    requires { ⌜ GoodUnit g × (length (now row) ≤ 48) ⌝ }
     ensures { λ r. ⌜ r ≡ walk-to g (now (row .entry)) (length (now (row .entry))) ⌝ }
 {
     let mut walk = Walk {
@@ -72,7 +72,7 @@ fn walk_row(g: Generator, row: &[u16]) -> Walk
 
 // The tallies of one unit's row.
 fn tally_row(g: Generator, row: &[u16]) -> Tallies
-    requires { ⌜ InRange g × (length (now row) ≤ 48) × (1 ≤ length (now row)) × All GoodOutput (now row) ⌝ }
+    requires { ⌜ GoodUnit g × (length (now row) ≤ 48) × (1 ≤ length (now row)) × All GoodOutput (now row) ⌝ }
     ensures { λ r. ⌜ r ≡ row-tallies (length (now (row .entry))) g (now (row .entry)) ⌝ }
 {
     let limits = limits::count_off_limits(g, row);

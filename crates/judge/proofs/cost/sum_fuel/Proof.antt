@@ -8,7 +8,7 @@ use Rattle.model.specs.Instance.{_at_, sum}
 use Rattle.model.specs.Ranges.{GoodOutput}
 use Rattle.model.specs.Rules.{on}
 use Rattle.judge.proofs.Rows.{all-at}
-use Rattle.judge.proofs.Sums.{sum-more}
+use Rattle.judge.proofs.Sums.{sum-next}
 use Rattle.judge.proofs.Counts.{bit-most}
 use Rattle.judge.proofs.Fuel.{ons, outputs, squares, fuel-sum, ons-most, outputs-most, squares-most, square-most, a-most, b-most, c-most}
 use Rattle.judge.proofs.cost.sum_fuel.Statement.{statement}
@@ -93,8 +93,8 @@ loop-again c =
     let l = c .before .before .before .before .loop in (
       omega arith,
       (
-        omega (arith, c .count-on .ensures, l .inv .1 .0, sum-more (l .t) (ons r)),
-        (omega (arith, l .inv .1 .1 .0, sum-more (l .t) (outputs r)), omega (arith, l .inv .1 .1 .1, sum-more (l .t) (squares r))),
+        omega (arith, c .count-on .ensures, l .inv .1 .0, sum-next (l .t) (ons r)),
+        (omega (arith, l .inv .1 .1 .0, sum-next (l .t) (outputs r)), omega (arith, l .inv .1 .1 .1, sum-next (l .t) (squares r))),
       ),
     )
 

@@ -10,7 +10,7 @@ use Rattle.model.specs.Instance.{_at_, sum}
 use Rattle.model.specs.Rules.{on}
 use Rattle.model.specs.Breach.{off-limits}
 use Rattle.judge.specs.Counts.{bit, breaches}
-use Rattle.judge.proofs.Sums.{sum-more}
+use Rattle.judge.proofs.Sums.{sum-next}
 use Rattle.judge.proofs.Counts.{bit-most}
 use Rattle.judge.proofs.limits.count_off_limits.Statement.{statement}
 use Rattle.judge.proofs.limits.count_off_limits.Tie as tie
@@ -63,7 +63,7 @@ loop-again c =
     let a = c .before .before .before .before .before .before .before .args in
     let l = c .before .before .before .loop in (
       omega arith,
-      (omega (arith, found c), omega (arith, c .count-off .ensures, l .inv .1 .1, sum-more (l .t) (λ i. bit (off-limits i (a .g) (a .row .now))))),
+      (omega (arith, found c), omega (arith, c .count-off .ensures, l .inv .1 .1, sum-next (l .t) (λ i. bit (off-limits i (a .g) (a .row .now))))),
     )
 
 returns : tie.Need-returns Inv-loop μ-loop

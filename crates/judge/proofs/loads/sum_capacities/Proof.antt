@@ -6,7 +6,8 @@ use borrow.Author.Needs.{needs}
 use lib.ListN.{length}
 use Rattle.model.specs.Instance.{_at_, sum}
 use Rattle.model.specs.Rules.{on, if-on}
-use Rattle.judge.proofs.Sums.{sum-more, sum-most}
+use Rattle.model.proofs.PeriodSums.{sum-most}
+use Rattle.judge.proofs.Sums.{sum-next}
 use Rattle.judge.proofs.Capacities.{stands, cap-most}
 use Rattle.judge.proofs.loads.sum_capacities.Statement.{statement}
 use Rattle.judge.proofs.loads.sum_capacities.Tie as tie
@@ -71,7 +72,7 @@ loop-again : tie.Need-loop-again Inv-loop μ-loop
 loop-again c =
     let s = c .before .before .before .before .before .before .before in
     let l = c .before .before .before .before .loop in
-    (omega arith, omega (arith, c .count-if-on .ensures, l .inv .1, sum-more (l .u) (each s)))
+    (omega arith, omega (arith, c .count-if-on .ensures, l .inv .1, sum-next (l .u) (each s)))
 
 returns : tie.Need-returns Inv-loop μ-loop
 returns c =

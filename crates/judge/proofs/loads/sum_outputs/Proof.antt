@@ -4,8 +4,9 @@ use Prim.Native.Nat.{_+_, _-_, _*_, _≤_, _<_}
 use native.Mathlib.Omega.{arith}
 use lib.ListN.{length, length-map}
 use Rattle.model.specs.Instance.{_at_, sum}
+use Rattle.model.proofs.PeriodSums.{sum-most}
 use Rattle.judge.proofs.Units.{units-most, part-within, output-most}
-use Rattle.judge.proofs.Sums.{sum-more, sum-most, outputs-are}
+use Rattle.judge.proofs.Sums.{sum-next, outputs-are}
 use Rattle.judge.proofs.loads.sum_outputs.Statement.{statement}
 use Rattle.judge.proofs.loads.sum_outputs.Tie as tie
 
@@ -70,7 +71,7 @@ loop-less c = omega arith
 loop-again : tie.Need-loop-again Inv-loop μ-loop
 loop-again c =
     let l = c .before .before .loop in
-    (omega arith, omega (arith, l .inv .1, sum-more (l .u) (λ i. c .before .before .before .args .rows .now at (i * c .before .before .before .args .problem .periods + c .before .before .before .args .t))))
+    (omega arith, omega (arith, l .inv .1, sum-next (l .u) (λ i. c .before .before .before .args .rows .now at (i * c .before .before .before .args .problem .periods + c .before .before .before .args .t))))
 
 returns : tie.Need-returns Inv-loop μ-loop
 returns c =

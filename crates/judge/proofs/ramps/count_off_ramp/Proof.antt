@@ -10,7 +10,7 @@ use Rattle.model.specs.Instance.{_at_, sum}
 use Rattle.model.specs.Ranges.{GoodOutput}
 use Rattle.model.specs.Rules.{on}
 use Rattle.judge.proofs.Rows.{all-at}
-use Rattle.judge.proofs.Sums.{sum-more}
+use Rattle.judge.proofs.Sums.{sum-next}
 use Rattle.judge.proofs.Counts.{bit-most, steep, steep-later, steep-breaches}
 use Rattle.judge.proofs.ramps.count_off_ramp.Statement.{statement}
 use Rattle.judge.proofs.ramps.count_off_ramp.Tie as tie
@@ -83,7 +83,7 @@ loop-again c =
     let l = c .before .before .before .before .loop in
     let k = c .count-steep .ensures ∙ sym (steep-later (a .g .UR) (a .g .DR) (a .row .now) (l .t) (l .inv .0)) in (
       omega arith,
-      (omega arith, (omega (arith, found c), omega (arith, k, l .inv .1 .1 .1, sum-more (l .t) (steep (a .g .UR) (a .g .DR) (a .row .now))))),
+      (omega arith, (omega (arith, found c), omega (arith, k, l .inv .1 .1 .1, sum-next (l .t) (steep (a .g .UR) (a .g .DR) (a .row .now))))),
     )
 
 returns : tie.Need-returns Inv-loop μ-loop

@@ -6,11 +6,12 @@ use native.Mathlib.Omega.{arith}
 use borrow.Author.Needs.{needs}
 use Rattle.model.specs.Rules.{permits}
 use Rattle.model.specs.Cost.{switch-cost}
+use Rattle.model.proofs.WalkSizes.{switch-cost-fits}
 use Rattle.judge.specs.Counts.{bit}
 use Rattle.judge.proofs.Tests.{beq-true, beq-false}
 use Rattle.judge.proofs.Switch.{spent-same, spent-other, permits-same, switch-none, other-is}
 use Rattle.judge.proofs.Counts.{bit-most}
-use Rattle.judge.proofs.Walk.{walk-same, switch-most}
+use Rattle.judge.proofs.Walk.{walk-same}
 use Rattle.judge.proofs.tallies.pass.Statement.{statement}
 use Rattle.judge.proofs.tallies.pass.Tie as tie
 
@@ -43,7 +44,7 @@ add-t11 : tie.Need-add-t11
 add-t11 c =
     let s = c .before .before .before .before .before in
     let b = s .args .walk .on in
-    omega (arith, c .before .charge-switch .ensures, switch-most (s .args .g) (s .pre .0) b (s .args .walk .spent) (not b), s .pre .1 .cost-in)
+    omega (arith, c .before .charge-switch .ensures, switch-cost-fits (s .args .g) (s .pre .0) b (s .args .walk .spent) (not b), s .pre .1 .cost-in)
 
 returns-2 : tie.Need-returns-2
 returns-2 c =

@@ -6,11 +6,12 @@ use lib.ListN.{length, length-map}
 use Rattle.model.specs.Instance.{sum}
 use Rattle.model.specs.Breach.{off-limits, off-ramp}
 use Rattle.model.specs.Cost.{row-cost}
+use Rattle.model.proofs.PeriodSums.{sum-most}
 use Rattle.judge.specs.declared.tallies.Tallies.{Tallies}
 use Rattle.judge.specs.Counts.{barred, all-breaches}
 use Rattle.judge.specs.Tallied.{row-tallies}
-use Rattle.judge.proofs.Units.{unit, part, units-most, periods-most, periods-least, part-within, part-long, part-outputs, unit-in}
-use Rattle.judge.proofs.Sums.{sum-more, sum-most, cost-is}
+use Rattle.judge.proofs.Units.{unit, part, units-most, periods-most, periods-least, part-within, part-long, part-outputs, unit-good}
+use Rattle.judge.proofs.Sums.{sum-next, cost-is}
 use Rattle.judge.proofs.Counts.{all-breaches-most, all-breaches-more}
 use Rattle.judge.proofs.CostSize.{part-cost-most}
 use Rattle.judge.proofs.Tallied.{tallies-same}
@@ -72,7 +73,7 @@ more c =
             arith,
             ap (λ (x : Tallies). x .cost) e,
             l .inv .1 .1 .1 .1,
-            sum-more (l .u) (λ i. row-cost (a .t1 .periods) (unit (a .t1) i) (part (a .t1) (a .rows .now) i)),
+            sum-next (l .u) (λ i. row-cost (a .t1 .periods) (unit (a .t1) i) (part (a .t1) (a .rows .now) i)),
           ),
         ),
       ),
@@ -143,7 +144,7 @@ tally-row-requires c κs =
     let e : u * T + T - u * T ≡ T = omega arith in
     let n = part-long (s .args .t1) (s .args .rows .now) (s .pre) u more in
     rw e (
-      unit-in (s .args .t1) (s .args .rows .now) (s .pre) (many s) u more,
+      unit-good (s .args .t1) (s .args .rows .now) (s .pre) (many s) u more,
       omega (arith, periods-most (s .args .t1) (s .args .rows .now) (s .pre)),
       omega (arith, periods-least (s .args .t1) (s .args .rows .now) (s .pre)),
       part-outputs (s .args .t1) (s .args .rows .now) (s .pre) u,
