@@ -5,7 +5,7 @@ pub mod Shapes
 pub mod Search
 pub mod Counts
 pub mod Sums
-pub mod Capacities
+pub mod Standing
 pub mod Shortage
 pub mod Tests
 pub mod Switch

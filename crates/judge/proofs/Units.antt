@@ -44,9 +44,6 @@ module _ (p : Problem) (l : List ℕ) (F : Fitting p l) where
   pub part-at : (i t : ℕ) → t < p .periods → part p l i at t ≡ l at (i * p .periods + t)
   part-at i t h = getD-take (p .periods) (drop (i * p .periods) l) t 0 h ∙ getD-drop (i * p .periods) l t 0
 
-  pub output-most : (i t : ℕ) → i < p .units → t < p .periods → l at (i * p .periods + t) ≤ 10000
-  output-most i t h k = all-at GoodOutput l 0 (F .outputs-in) (i * p .periods + t) (omega (arith, part-within i h)) .1
-
   pub demand-most : (t : ℕ) → t < p .periods → p .demand at t ≤ 320000
   unfolding view
   demand-most t h =

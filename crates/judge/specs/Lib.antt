@@ -5,5 +5,5 @@ pub mod Judgement
 pub mod Counts
 pub mod Walk
 pub mod Tallied
-pub mod Capacities
+pub mod Loads
 pub mod Rule

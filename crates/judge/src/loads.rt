@@ -1,24 +1,23 @@
 // 22 and 23: demand and spare, by (2) and (3).
 ghost use mathlib.Core.Path.{_≡_};
 ghost use Prim.Native.Nat.{_<_};
+ghost use lib.ListN.{length};
 ghost use Rattle.model.specs.Held.{view};
-ghost use Rattle.model.specs.Rules.{output, if-on, on};
+ghost use Rattle.model.specs.Ranges.{All, GoodOutput};
+ghost use Rattle.model.specs.Rules.{if-on, on};
 ghost use Rattle.model.specs.Breach.{place22, place23};
 ghost use Rattle.judge.specs.Judgement.{found};
 ghost use Rattle.judge.specs.Rows.{schedule-of, Fitting};
-ghost use Rattle.judge.specs.Capacities.{capacities, Standing, capacity-in};
+ghost use Rattle.judge.specs.Loads.{Standing, output-in, capacities, capacity-in};
 use crate::place::Found;
 use crate::place::Place;
 use model::arrays::Problem;
 
-// What the units give in period t.
-fn sum_outputs(problem: Problem, rows: &[u16], t: usize) -> u64
-    requires { ⌜ Fitting problem (now rows) ⌝ }
-    requires { ⌜ t < problem .periods ⌝ }
-    ensures { λ r. ⌜ r ≡ output (view problem) (schedule-of problem (now (rows .entry))) t ⌝ }
+// What so many units give in period t, in rows of so many periods.
+fn sum_outputs(units: usize, periods: usize, rows: &[u16], t: usize) -> u64
+    requires { ⌜ Standing units periods (now rows) × (t < periods) ⌝ }
+    ensures { λ r. ⌜ r ≡ output-in units periods (now (rows .entry)) t ⌝ }
 {
-    let periods = problem.periods;
-    let units = problem.units;
     let mut total = 0;
     for u in 0..units {
         let from = u * periods;
@@ -51,7 +50,7 @@ fn list_capacities(problem: Problem) -> [u64; 32]
 
 // The pU of the units that are on in period t, in rows of so many periods.
 fn sum_capacities(capacities: &[u64], periods: usize, rows: &[u16], t: usize) -> u64
-    requires { ⌜ Standing (now capacities) periods (now rows) × (t < periods) ⌝ }
+    requires { ⌜ Standing (length (now capacities)) periods (now rows) × (t < periods) × All GoodOutput (now capacities) ⌝ }
     ensures { λ r. ⌜ r ≡ capacity-in (now (capacities .entry)) periods (now (rows .entry)) t ⌝ }
 {
     let mut total = 0;
@@ -68,9 +67,10 @@ pub fn find_unmet_demand(problem: Problem, rows: &[u16]) -> Found
     ensures { λ r. ⌜ r ≡ found (place22 (view problem) (schedule-of problem (now (rows .entry)))) ⌝ }
 {
     let periods = problem.periods;
+    let units = problem.units;
     for t in 0..periods {
         let demand = problem.demand[t];
-        if sum_outputs(problem, rows, t) < demand {
+        if sum_outputs(units, periods, rows, t) < demand {
             return Found::At(Place {
                 unit: 0,
                 period: t + 1,

@@ -11,9 +11,9 @@ use Rattle.model.specs.Held.{view}
 use Rattle.model.specs.Rules.{capacity}
 use Rattle.judge.specs.Judgement.{found}
 use Rattle.judge.specs.Rows.{schedule-of}
-use Rattle.judge.specs.Capacities.{capacity-in}
+use Rattle.judge.specs.Loads.{capacity-in}
 use Rattle.judge.proofs.Units.{periods-most, units-most, demand-most, spare-most}
-use Rattle.judge.proofs.Capacities.{caps-long, caps-standing, caps-are}
+use Rattle.judge.proofs.Standing.{caps-long, caps-standing, caps-in, caps-are}
 use Rattle.judge.proofs.Shortage.{SpareMet, spare-found, spare-ends}
 use Rattle.judge.proofs.loads.find_unmet_spare.Statement.{statement}
 use Rattle.judge.proofs.loads.find_unmet_spare.Tie as tie
@@ -78,9 +78,12 @@ slice-aggregate-sum-capacities c =
 sum-capacities-requires : tie.Need-sum-capacities-requires Inv-loop μ-loop
 sum-capacities-requires c κs =
     let s = c .before .before .before .before .before .before .before in
-    let p = s .args .t1 in (
-      rw (c .before .before .before .before .before .list-capacities .ensures) (caps-standing p (s .args .rows .now) (s .pre) (many s)),
+    let p = s .args .t1 in
+    let r = s .args .rows .now in
+    rw (c .before .before .before .before .before .list-capacities .ensures) (
+      caps-standing p r (s .pre) (many s),
       c .before .before .before .loop-test .taken,
+      caps-in p r (s .pre) (many s),
     )
 
 add-if1 : tie.Need-add-if1 Inv-loop μ-loop

@@ -3,10 +3,9 @@ use mathlib.Core.Path.{_≡_, refl}
 use Prim.Native.Nat.{_-_, _≤_}
 use native.Mathlib.Omega.{arith}
 use borrow.Author.Needs.{needs}
-use lib.ListN.{length, length-map}
-use Rattle.judge.proofs.Capacities.{listed-more, listed-all}
-use Rattle.judge.specs.Capacities.{capacities}
-use lib.ListN.{take}
+use lib.ListN.{length, take, length-map}
+use Rattle.judge.specs.Loads.{capacities}
+use Rattle.judge.proofs.Standing.{listed-more, listed-all}
 use Rattle.judge.proofs.loads.list_capacities.Statement.{statement}
 use Rattle.judge.proofs.loads.list_capacities.Tie as tie
 

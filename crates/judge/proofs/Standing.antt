@@ -1,5 +1,6 @@
--- The units' pU in a list: filling it, and (3) over it.
+-- (2) and (3) over the rows in a list: what stands there, and how large it is; the units' pU in a list, and filling it.
 use mathlib.Core.Path.{_≡_, sym, ap, _∙_}
+use mathlib.Core.Bool.{Bool}
 use mathlib.Core.List.{List, [], _∷_, _++_, map}
 use Prim.Native.Nat.{ℕ, suc, _+_, _*_, _≤_, _<_}
 use native.Mathlib.Numerals.{add-one}
@@ -15,7 +16,7 @@ use Rattle.model.specs.Ranges.{All, GoodOutput}
 use Rattle.model.specs.Rules.{on, if-on, capacity}
 use Rattle.model.proofs.PeriodSums.{sum-eq}
 use Rattle.judge.specs.Rows.{schedule-of, Fitting}
-use Rattle.judge.specs.Capacities.{capacities, Standing, capacity-in}
+use Rattle.judge.specs.Loads.{Standing, capacities, capacity-in}
 use Rattle.judge.proofs.Rows.{all-at}
 use Rattle.judge.proofs.Units.{unit, units-most, unit-in}
 use Rattle.judge.proofs.Sums.{capacities-are, if-on-most}
@@ -44,7 +45,11 @@ module _ (gs : List Generator) (many : length gs ≡ 32) where
 
 -- ---- the part of it that the problem's units have
 
+pub standing : {p : Problem} {l : List ℕ} → Fitting p l → Standing (p .units) (p .periods) l
+standing {p} {l} F = record { few = units-most p l F; long = F .long; outputs-in = F .outputs-in }
+
 module _ (p : Problem) (l : List ℕ) (F : Fitting p l) (many : length (p .generators) ≡ 32) where
+  -- the pU of the problem's units
   abbrev caps : List ℕ
   caps = take (p .units) (capacities p)
 
@@ -58,12 +63,11 @@ module _ (p : Problem) (l : List ℕ) (F : Fitting p l) (many : length (p .gener
   all-from-at [] f = tt
   all-from-at (x ∷ xs) f = ((omega arith, f 0 (omega arith)), all-from-at xs (λ i h. f (suc i) (omega arith)))
 
-  pub caps-standing : Standing caps (p .periods) l
-  caps-standing = record {
-    few = omega (arith, caps-long, units-most p l F);
-    long = F .long ∙ ap (λ (n : ℕ). n * p .periods) (sym caps-long);
-    caps-in = all-from-at caps (λ i h. let k : i < p .units = omega (arith, caps-long) in omega (arith, caps-at i k, unit-in p l F many i k .pU-in .1));
-  }
+  pub caps-standing : Standing (length caps) (p .periods) l
+  caps-standing = rw caps-long (standing F)
+
+  pub caps-in : All GoodOutput caps
+  caps-in = all-from-at caps (λ i h. let k : i < p .units = omega (arith, caps-long) in omega (arith, caps-at i k, unit-in p l F many i k .pU-in .1))
 
   -- (3)
   pub caps-are : (t : ℕ) → t < p .periods → capacity-in caps (p .periods) l t ≡ capacity (view p) (schedule-of p l) t
@@ -74,9 +78,13 @@ module _ (p : Problem) (l : List ℕ) (F : Fitting p l) (many : length (p .gener
 
 -- ---- what is summed
 
-module _ (cs : List ℕ) (n : ℕ) (l : List ℕ) (S : Standing cs n l) (t : ℕ) (in-row : t < n) where
-  pub stands : (i : ℕ) → i < length cs → i * n + t < length l
+module _ {k n : ℕ} {l : List ℕ} (S : Standing k n l) {t : ℕ} (in-row : t < n) where
+  -- unit i's output in period t stands in the list
+  pub stands : (i : ℕ) → i < k → i * n + t < length l
   stands i h = omega (arith, S .long, mul-le-mul-right n h)
 
-  pub cap-most : (i : ℕ) → i < length cs → if-on (on (l at (i * n + t))) (cs at i) ≤ 10000
-  cap-most i h = omega (arith, if-on-most (on (l at (i * n + t))) (cs at i), all-at GoodOutput cs 0 (S .caps-in) i h .1)
+  pub output-most : (i : ℕ) → i < k → l at (i * n + t) ≤ 10000
+  output-most i h = all-at GoodOutput l 0 (S .outputs-in) (i * n + t) (stands i h) .1
+
+pub cap-most : (cs : List ℕ) → All GoodOutput cs → (b : Bool) (i : ℕ) → i < length cs → if-on b (cs at i) ≤ 10000
+cap-most cs good b i h = omega (arith, if-on-most b (cs at i), all-at GoodOutput cs 0 good i h .1)
