@@ -6,9 +6,10 @@ use lib.ListN.{length, length-map}
 use Rattle.model.specs.Instance.{Instance, Schedule}
 use Rattle.model.specs.Held.{view}
 use Rattle.judge.specs.declared.Judgement.the-variants.{Costs}
+use Rattle.judge.specs.declared.breach.Rule.the-variants.{Limits, UpDown, Ramps}
 use Rattle.judge.specs.declared.tallies.Tallies.{Tallies}
 use Rattle.judge.specs.Rows.{schedule-of}
-use Rattle.judge.proofs.Tallied.{none21, none24, none25}
+use Rattle.judge.proofs.Tallied.{none-broken}
 use Rattle.judge.proofs.Answers.{from22, from23, from24, from25, Left, breaks21, keeps21, breaks22, keeps22, breaks23, keeps23, breaks24, keeps24, breaks25, costs}
 use Rattle.judge.proofs.judge.Statement.{statement}
 use Rattle.judge.proofs.judge.Tie as tie
@@ -29,7 +30,7 @@ left22 c =
     let s = c .before .before .before .before in
     keeps21 (P-of s) (rows-of s)
     (⊎-elim (λ w. sym (w .1 .ensures) ∙ w .3 .given .1)
-    (λ w. none21 (s .args .problem) (s .args .rows .now) (s .pre) (many s) (sym (ap (λ (x : Tallies). x .limits) (c .before .before .tally .ensures)) ∙ w .left))
+    (λ w. none-broken (s .args .problem) (s .args .rows .now) (s .pre) (many s) Limits (sym (ap (λ (x : Tallies). x .limits) (c .before .before .tally .ensures)) ∙ w .left))
     (c .if1 .came))
 
 -- 22 is kept
@@ -50,7 +51,7 @@ left25 c =
     let s = c .before .before .before .before .before .before .before .before .before .before .before .before in
     keeps24 (P-of s) (rows-of s) (left24 (c .before .before))
     (⊎-elim (λ w. sym (w .1 .ensures) ∙ w .3 .given .1)
-    (λ w. none24 (s .args .problem) (s .args .rows .now) (s .pre) (many s) (sym (ap (λ (x : Tallies). x .updown) (c .before .before .before .before .before .before .before .before .before .before .tally .ensures)) ∙ w .left))
+    (λ w. none-broken (s .args .problem) (s .args .rows .now) (s .pre) (many s) UpDown (sym (ap (λ (x : Tallies). x .updown) (c .before .before .before .before .before .before .before .before .before .before .tally .ensures)) ∙ w .left))
     (c .if2 .came))
 
 tally-requires : tie.Need-tally-requires
@@ -136,7 +137,7 @@ returns-7 : tie.Need-returns-7
 returns-7 c =
     let s = c .before .before .before .before .before .before .before .before .before .before .before .before .before .before in
     let e = c .before .before .before .before .before .before .before .before .before .before .before .before .tally .ensures in
-    let none = none25 (s .args .problem) (s .args .rows .now) (s .pre) (many s) (sym (ap (λ (x : Tallies). x .ramps) e) ∙ c .if3 .left) in
+    let none = none-broken (s .args .problem) (s .args .rows .now) (s .pre) (many s) Ramps (sym (ap (λ (x : Tallies). x .ramps) e) ∙ c .if3 .left) in
     ap Costs (ap (λ (x : Tallies). x .cost) e) ∙ sym (costs (P-of s) (rows-of s) (left25 (c .before .before)) none)
 
 pub judge-spec : {M : Type 1} → statement M

@@ -5,10 +5,10 @@ use native.Mathlib.Nat.{not-suc-le-zero}
 use native.Mathlib.Omega.{arith}
 use borrow.Author.Count.{below-more}
 use lib.ListN.{length, length-map}
-use Rattle.judge.specs.Rule.{broken-by}
 use Rattle.model.specs.Held.{view}
 use Rattle.judge.specs.declared.place.Found.the-variants.{Nothing}
 use Rattle.judge.specs.Judgement.{found}
+use Rattle.judge.specs.Rule.{broken-by}
 use Rattle.judge.proofs.Units.{unit, part, units-most, periods-most, part-within, part-long, unit-in}
 use Rattle.judge.proofs.Search.{Passed, Clear, search-found, search-ends}
 use Rattle.judge.proofs.breach.find_breach.Statement.{statement}
