@@ -1,7 +1,6 @@
 -- What the definitions imply.
 pub mod Rows
 pub mod Units
-pub mod Shapes
 pub mod Search
 pub mod Counts
 pub mod Sums

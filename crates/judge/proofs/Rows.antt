@@ -1,13 +1,15 @@
--- Row i of a list that is cut into rows of n outputs is the part of n outputs from i times n on.
+-- Row i of a list that is cut into rows of n outputs is the part of n outputs from i times n on; rows of n outputs, joined, are as long
+-- as so many times n.
 use mathlib.Core.Path.{_≡_, refl, ap, _∙_}
 use mathlib.Core.List.{List, [], _∷_, _++_}
 use Prim.Native.Nat.{ℕ, zero, suc, _+_, _*_, _≤_, _<_}
 use native.Mathlib.Nat.{zero-mul, mul-le-mul-right}
 use native.Mathlib.Omega.{arith}
-use lib.ListN.{length, getD, take, drop, length-drop}
+use lib.ListN.{length, getD, take, drop, length-append, length-drop}
 use lib.Seq.{drop-drop, length-take-le}
+use Rattle.model.specs.Instance.{Schedule}
 use Rattle.model.specs.Ranges.{All}
-use Rattle.judge.specs.Rows.{cut-rows}
+use Rattle.judge.specs.Rows.{cut-rows, joined}
 
 abbrev pub row : ℕ → List ℕ → ℕ → List ℕ
 row n l i = take n (drop (i * n) l)
@@ -31,6 +33,11 @@ within k n l i e h = omega (arith, mul-le-mul-right n h)
 
 pub row-long : (k n : ℕ) (l : List ℕ) (i : ℕ) → length l ≡ k * n → i < k → length (row n l i) ≡ n
 row-long k n l i e h = length-take-le n (drop (i * n) l) (omega (arith, length-drop (i * n) l, within k n l i e h))
+
+pub joined-long : (n : ℕ) (s : Schedule) → All (λ r. length r ≡ n) s → length (joined s) ≡ length s * n
+unfolding joined
+joined-long n [] h = omega arith
+joined-long n (r ∷ s) h = omega (arith, length-append r (joined s), h .0, joined-long n s (h .1))
 
 module _ {A : Type 0} (R : A → Type 0) where
   pub all-at : (l : List A) (d : A) → All R l → (i : ℕ) → i < length l → R (getD l i d)

@@ -15,7 +15,7 @@ use Rattle.model.specs.Held as arrays
 use Rattle.model.proofs.Held.{take-pad}
 use Rattle.model.proofs.Unbroken.{meets-shaped}
 use Rattle.judge.specs.Rows.{joined}
-use Rattle.judge.proofs.Shapes.{joined-long}
+use Rattle.judge.proofs.Rows.{joined-long}
 use Rattle.docket.specs.declared.Docket.{Docket}
 use Rattle.docket.specs.declared.held.Held.{Held}
 use Rattle.docket.specs.declared.held.CostBy.{CostBy}

@@ -14,7 +14,7 @@ use Rattle.model.proofs.Held.{length-pad}
 use Rattle.model.proofs.Lists.{IsFirst, held-least}
 use Rattle.model.proofs.Unbroken.{meets-shaped}
 use Rattle.judge.specs.Rows.{joined}
-use Rattle.judge.proofs.Shapes.{joined-long}
+use Rattle.judge.proofs.Rows.{joined-long}
 use Rattle.docket.specs.Docket.{fresh-docket}
 use Rattle.docket.specs.Verdicts.{Costed, Verdict, schedules, known-at-end}
 use Rattle.docket.specs.Lodging.{lodge-of}
