@@ -16,8 +16,10 @@ use Rattle.model.proofs.PeriodSums.{sum-part}
 use Rattle.model.proofs.LeafSizes.{all-at}
 use Rattle.model.proofs.WalkSizes.{worth-fits, added-fits, price-walk-fits, offset-fits}
 use Rattle.model.proofs.WalkPeriods.{walk-ext}
-use Rattle.least.specs.Limits.{GoodPrices, GoodSlopes, GoodCosts}
-use Rattle.least.specs.Steps.{costs-of, Priced}
+use Rattle.walk.specs.Limits.{GoodCosts}
+use Rattle.walk.specs.Steps.{costs-of}
+use Rattle.least.specs.Limits.{GoodPrices, GoodSlopes}
+use Rattle.least.specs.Priced.{Priced}
 
 -- a list whose every entry is in range
 pub all-of : (M : ℕ) (l : List ℕ) → ((t : ℕ) → t < length l → l at t ≤ M) → All (λ v. Between 0 v M) l

@@ -1,11 +1,5 @@
 -- What the functions' proofs lean on.
 pub mod Outputs
-pub mod StatusMarks
-pub mod Chains
-pub mod Rising
-pub mod Walks
-pub mod WholeTables
-pub mod Fronts
 pub mod Costs
 pub mod Signed
 pub mod UnitAnswers

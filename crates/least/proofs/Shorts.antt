@@ -1,15 +1,31 @@
 -- Short: what the units not fixed off have available, unit by unit, and its size.
-use mathlib.Core.Path.{_≡_}
-use mathlib.Core.Bool.{true, false}
+use mathlib.Core.Path.{_≡_, refl}
+use mathlib.Core.Bool.{Bool, true, false, cond}
 use mathlib.Core.List.{List, [], _∷_}
 use Prim.Native.Nat.{ℕ, zero, suc, _+_, _*_, _≤_, _<_}
 use native.Mathlib.Omega.{arith}
+use borrow.Author.Tests.{eq-eqb, ne-eqb}
+use lib.Dec.{eqb}
 use lib.ListN.{length, getD, take, length-take}
 use Rattle.model.specs.declared.generator.Generator.{Generator}
 use Rattle.model.specs.Ranges.{All, GoodUnit}
 use Rattle.model.specs.Above.{Mark, free, fixed, Marks, rest}
 use Rattle.model.specs.Leaf.{unless-off, available}
+use Rattle.walk.specs.Marks.{mark-of}
 use Rattle.least.proofs.Units.{all-front}
+
+-- what a unit has available: nothing where it is fixed off
+pub unless-off-one : (x v : ℕ) → x ≡ 1 → 0 ≡ unless-off (mark-of x) v
+unfolding mark-of
+unless-off-one x v e = rw (eq-eqb x 1 e)
+
+pub unless-off-other : (x v : ℕ) → (x ≡ 1 → ⊥) → v ≡ unless-off (mark-of x) v
+unfolding mark-of
+unless-off-other x v h = rw (ne-eqb x 1 h) (go (eqb x 2))
+  where
+    go : (b : Bool) → v ≡ unless-off (cond b (fixed true) free) v
+    go true = refl
+    go false = refl
 
 -- one unit more
 pub available-more : (u : ℕ) (l : List Generator) (d : Generator) (m : Marks) (t : ℕ) → u < length l

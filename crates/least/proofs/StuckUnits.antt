@@ -12,10 +12,10 @@ use Rattle.model.specs.Leaf.{is-stuck, stuck-at}
 use Rattle.model.specs.Walk.{walk}
 use Rattle.model.proofs.Stuck.{is-stuck-is}
 use Rattle.model.proofs.Extents.{is-stuck-ext}
-use Rattle.least.specs.Marks.{marks-of, all-marks}
-use Rattle.least.specs.Limits.{GoodCosts}
-use Rattle.least.specs.Steps.{costs-of}
-use Rattle.least.proofs.Fronts.{front-length, front-at}
+use Rattle.walk.specs.Marks.{marks-of, all-marks}
+use Rattle.walk.specs.Limits.{GoodCosts}
+use Rattle.walk.specs.Steps.{costs-of}
+use Rattle.walk.proofs.Fronts.{front-length, front-at}
 use Rattle.least.proofs.Costs.{all-of}
 use Rattle.least.proofs.Units.{part-marks}
 

@@ -16,8 +16,8 @@ use Rattle.model.specs.Leaf.{is-stuck, any-stuck, unit-least, units-least}
 use Rattle.model.proofs.WalkSizes.{unit-least-fits}
 use Rattle.model.proofs.LeafSizes.{units-least-fits}
 use Rattle.model.proofs.Extents.{Same, is-stuck-ext, unit-least-ext}
+use Rattle.walk.specs.Marks.{mark-of, marks-of, all-marks}
 use Rattle.least.specs.declared.unit.Least.the-variants.{Stuck, Value}
-use Rattle.least.specs.Marks.{mark-of, marks-of, all-marks}
 use Rattle.least.specs.Answers.{least-of, leasts-of}
 use Rattle.least.specs.Limits.{GoodPrices, Small}
 use Rattle.least.proofs.Costs.{price-in, reserve-in}

@@ -1,5 +1,5 @@
--- What callers ensure of the numbers they hand over. The limits of prices are document 01's (Texts); those of slopes and of
--- what a period costs are wider than prices need.
+-- What callers ensure of the numbers they hand over. The limits of prices are document 01's (Texts); those of slopes are wider than
+-- prices need.
 use mathlib.Core.Path.{_≡_}
 use mathlib.Core.List.{List}
 use Prim.Native.Nat.{ℕ, _<_, _^_}
@@ -20,22 +20,6 @@ pub record GoodPrices (n : ℕ) (q s : List ℕ) : Type 0 where
 pub record GoodSlopes (x y : ℕ) : Type 0 where
   pub x-in : Between 0 x 10_000_000_000
   pub y-in : Between 0 y 10_000_000_000
-
--- what a period costs
-abbrev pub GoodCost : ℕ → Type 0
-GoodCost v = Between 0 v 1_000_000_000_000_000
-
--- what the periods on cost, and the periods off
-pub record GoodCosts (n : ℕ) (on off : List ℕ) : Type 0 where
-  pub periods-in : Between 1 n 48
-  pub on-long : length on ≡ n
-  pub off-long : length off ≡ n
-  pub on-in : All GoodCost on
-  pub off-in : All GoodCost off
-
--- a coded value that leaves room for a sum
-abbrev pub GoodValue : ℕ → Type 0
-GoodValue v = Between 0 v 1_000_000_000_000_000_000
 
 -- a signed value that leaves room for a sum
 abbrev pub Small : ℤ → Type 0

@@ -7,7 +7,7 @@ ghost use Rattle.model.specs.Instance.{_at_};
 ghost use Rattle.model.specs.Ranges.{GoodLoad, GoodPrice};
 ghost use Rattle.model.specs.Leaf.{requirement};
 ghost use Rattle.numbers.specs.Numbers.{instance-in, Laid};
-ghost use Rattle.least.specs.Marks.{all-marks};
+ghost use Rattle.walk.specs.Marks.{all-marks};
 ghost use Rattle.least.specs.Answers.{leasts-of, leaf-of};
 ghost use Rattle.least.specs.Limits.{GoodPrices, Small};
 use crate::unit::Least;

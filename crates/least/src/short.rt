@@ -4,7 +4,7 @@ ghost use Prim.Native.Nat.{_*_, _≤_, _<_};
 ghost use lib.ListN.{length};
 ghost use Rattle.model.specs.Leaf.{available, unless-off};
 ghost use Rattle.numbers.specs.Numbers.{instance-in, Laid};
-ghost use Rattle.least.specs.Marks.{mark-of, all-marks};
+ghost use Rattle.walk.specs.Marks.{mark-of, all-marks};
 ghost use Rattle.least.specs.Answers.{short-at};
 use numbers::demand_at;
 use numbers::pU_at;

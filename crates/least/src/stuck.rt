@@ -5,11 +5,11 @@ ghost use lib.ListN.{length};
 ghost use Rattle.model.specs.Ranges.{Between, GoodUnit};
 ghost use Rattle.model.specs.Leaf.{is-stuck, stuck-at};
 ghost use Rattle.numbers.specs.Numbers.{instance-in, Laid};
-ghost use Rattle.least.specs.Marks.{marks-of, all-marks};
-use crate::table::walk_value;
+ghost use Rattle.walk.specs.Marks.{marks-of, all-marks};
 use model::generator::Generator;
 use numbers::generator_at;
 use numbers::periods_in;
+use walk::walk_value;
 
 // Whether no run of the unit obeys (5) to (10) and agrees with the fixed statuses.
 fn is_stuck(g: Generator, fixed: &[u8]) -> bool

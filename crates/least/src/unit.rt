@@ -5,13 +5,13 @@ ghost use lib.ListN.{length};
 ghost use Rattle.model.specs.Instance.{_at_};
 ghost use Rattle.model.specs.Ranges.{GoodUnit};
 ghost use Rattle.model.specs.Prices.{price-walk, offset};
-ghost use Rattle.least.specs.Marks.{marks-of};
+ghost use Rattle.walk.specs.Marks.{marks-of};
 ghost use Rattle.least.specs.Answers.{least-of};
 ghost use Rattle.least.specs.Limits.{GoodPrices};
-ghost use Rattle.least.specs.Steps.{Priced};
+ghost use Rattle.least.specs.Priced.{Priced};
 use crate::output::least_on;
-use crate::table::walk_value;
 use model::generator::Generator;
+use walk::walk_value;
 
 // That a unit is stuck, or a least value.
 pub enum Least {

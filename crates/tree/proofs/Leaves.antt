@@ -21,8 +21,8 @@ use Rattle.text.specs.declared.Row.{Row}
 use Rattle.text.specs.declared.Verdict.the-variants.{Refused, Good}
 use Rattle.text.specs.Tests.{_if_, found}
 use Rattle.text.proofs.Verdicts.{form-found}
+use Rattle.walk.specs.Marks.{all-marks}
 use Rattle.least.specs.declared.unit.Least.the-variants.{Stuck, Value}
-use Rattle.least.specs.Marks.{all-marks}
 use Rattle.least.specs.Answers.{short-at, leaf-of}
 use Rattle.tree.specs.Rendering.{price-key, reserve-key}
 use Rattle.tree.specs.NodeLines.{Kind, split-line, short-line, stuck-line, price-line, kind-of, node-form, reserve-form, named, split-again, too-deep, not-short, not-stuck, node-tests}

@@ -13,7 +13,7 @@ use borrow.Author.Tests.{eqb-true, eqb-false, lt-ltb, ltb-true}
 use Rattle.model.specs.Instance.{_at_}
 use Rattle.model.specs.Above.{free, fixed, root, mark, fix}
 use Rattle.model.proofs.Extents.{SameMarks}
-use Rattle.least.specs.Marks.{mark-of, all-marks}
+use Rattle.walk.specs.Marks.{mark-of, all-marks}
 use Rattle.tree.specs.Coded.{marks-in, above-of}
 
 -- ---- the root

@@ -7,7 +7,7 @@ use Rattle.model.specs.Instance.{_at_}
 use Rattle.model.specs.Above.{free, Marks, Above}
 use Rattle.model.specs.Tree.{never, number, lower}
 use Rattle.model.specs.Tree as model-tree
-use Rattle.least.specs.Marks.{mark-of, all-marks}
+use Rattle.walk.specs.Marks.{mark-of, all-marks}
 use Rattle.tree.specs.declared.figures.Bound.{Bound}
 use Rattle.tree.specs.declared.figures.Bound.the-variants.{Never, Number}
 use Rattle.tree.specs.declared.figures.Tally.{Tally}

@@ -1,7 +1,7 @@
 // The statuses that the splits above a node fix, a byte each: OFF, ON, or neither. Those of a unit begin at its number, from 0,
 // times the periods.
 ghost use mathlib.Core.Path.{_≡_};
-ghost use Rattle.least.specs.Marks.{mark-of};
+ghost use Rattle.walk.specs.Marks.{mark-of};
 ghost use Rattle.tree.specs.NodeLines.{is-fixed};
 
 pub const OFF: u8 = 1;

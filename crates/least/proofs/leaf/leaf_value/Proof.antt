@@ -9,8 +9,8 @@ use mir.ValLaws.{toZ-pos}
 use lib.IntN.{pos, _+ℤ_}
 use Rattle.model.specs.Instance.{_at_}
 use Rattle.numbers.specs.Numbers.{instance-in}
+use Rattle.walk.specs.Marks.{all-marks}
 use Rattle.least.specs.declared.unit.Least.the-variants.{Stuck, Value}
-use Rattle.least.specs.Marks.{all-marks}
 use Rattle.least.proofs.Signed.{pos-fits}
 use Rattle.least.proofs.Requirements.{required-sum-fits}
 use Rattle.least.proofs.LeafAnswers.{leaf-stuck, leaf-found, leasts-small}

@@ -1,5 +1,5 @@
 -- `available_of` meets its contract: only the byte 1 fixes off.
-use Rattle.least.proofs.StatusMarks.{unless-off-one, unless-off-other}
+use Rattle.least.proofs.Shorts.{unless-off-one, unless-off-other}
 use Rattle.least.proofs.short.available_of.Statement.{statement}
 use Rattle.least.proofs.short.available_of.Tie as tie
 

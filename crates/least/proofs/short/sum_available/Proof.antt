@@ -13,7 +13,7 @@ use Rattle.model.specs.Instance.{_at_}
 use Rattle.model.specs.Held.{blank-generator}
 use Rattle.model.specs.Leaf.{unless-off, available}
 use Rattle.numbers.specs.Numbers.{instance-in}
-use Rattle.least.specs.Marks.{mark-of, all-marks}
+use Rattle.walk.specs.Marks.{mark-of, all-marks}
 use Rattle.least.proofs.Shorts.{available-more, available-front-fits}
 use Rattle.least.proofs.short.sum_available.Statement.{statement}
 use Rattle.least.proofs.short.sum_available.Tie as tie

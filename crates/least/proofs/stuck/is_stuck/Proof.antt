@@ -4,8 +4,8 @@ use Prim.Native.Nat.{ℕ}
 use borrow.Author.Needs.{needs}
 use lib.Dec.{eqb}
 use lib.ListN.{length}
-use Rattle.least.specs.Marks.{marks-of}
-use Rattle.least.proofs.Fronts.{front-length}
+use Rattle.walk.specs.Marks.{marks-of}
+use Rattle.walk.proofs.Fronts.{front-length}
 use Rattle.least.proofs.StuckUnits.{free-good, free-walk}
 use Rattle.least.proofs.stuck.is_stuck.Statement.{statement}
 use Rattle.least.proofs.stuck.is_stuck.Tie as tie

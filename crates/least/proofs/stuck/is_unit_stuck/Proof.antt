@@ -11,7 +11,7 @@ use Rattle.model.specs.Ranges.{GoodUnit}
 use Rattle.model.specs.Held.{blank-generator}
 use Rattle.model.specs.Leaf.{is-stuck, stuck-at}
 use Rattle.numbers.specs.Numbers.{instance-in}
-use Rattle.least.specs.Marks.{marks-of, all-marks}
+use Rattle.walk.specs.Marks.{marks-of, all-marks}
 use Rattle.least.proofs.Units.{all-getD}
 use Rattle.least.proofs.StuckUnits.{part-stuck}
 use Rattle.least.proofs.stuck.is_unit_stuck.Statement.{statement}

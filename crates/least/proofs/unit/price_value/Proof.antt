@@ -5,9 +5,9 @@ use mathlib.Core.List.{List}
 use Prim.Native.Nat.{ℕ, _≤_}
 use borrow.Author.Needs.{needs}
 use lib.ListN.{length, drop, replicate}
-use Rattle.least.specs.Marks.{marks-of}
+use Rattle.walk.specs.Marks.{marks-of}
+use Rattle.walk.proofs.Fronts.{front-length}
 use Rattle.least.proofs.Costs.{on-front-fits, off-front-fits, on-front-long, off-front-long, front-good, front-walk}
-use Rattle.least.proofs.Fronts.{front-length}
 use Rattle.least.proofs.unit.price_value.Statement.{statement}
 use Rattle.least.proofs.unit.price_value.Tie as tie
 

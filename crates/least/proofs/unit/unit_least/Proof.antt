@@ -6,7 +6,7 @@ use borrow.Author.Needs.{needs}
 use lib.ListN.{length}
 use lib.IntN.{pos, _-ℤ_}
 use Rattle.model.specs.Instance.{_at_}
-use Rattle.least.specs.Marks.{marks-of}
+use Rattle.walk.specs.Marks.{marks-of}
 use Rattle.least.specs.declared.unit.Least.the-variants.{Value}
 use Rattle.least.proofs.Costs.{price-value-fits, sum-offset-fits}
 use Rattle.least.proofs.Signed.{pos-fits, read-sub-fits, read-sub}

@@ -1,7 +1,7 @@
 -- 1 and 2 are the bytes that fix a status.
 use mathlib.Core.Path.{refl}
 use borrow.Author.Tests.{eq-eqb, ne-eqb}
-use Rattle.least.specs.Marks.{mark-of}
+use Rattle.walk.specs.Marks.{mark-of}
 use Rattle.tree.proofs.above.is_fixed.Statement.{statement}
 use Rattle.tree.proofs.above.is_fixed.Tie as tie
 

@@ -12,7 +12,7 @@ use mir.ValLaws.{toZ-ofZ}
 use Rattle.model.specs.Instance.{_at_}
 use Rattle.model.specs.Tree.{Multipliers}
 use Rattle.numbers.specs.Numbers.{instance-in}
-use Rattle.least.specs.Marks.{all-marks}
+use Rattle.walk.specs.Marks.{all-marks}
 use Rattle.least.specs.Answers.{leaf-of}
 use Rattle.least.specs.Limits.{GoodPrices}
 use Rattle.text.specs.Lines.{lineAt}

@@ -9,7 +9,7 @@ use lib.ListN.{length, set, length-set}
 use Rattle.model.specs.Above.{fix}
 use Rattle.numbers.specs.Numbers.{instance-in}
 use Rattle.text.specs.Lines.{lineAt}
-use Rattle.least.specs.Marks.{mark-of}
+use Rattle.walk.specs.Marks.{mark-of}
 use Rattle.tree.specs.Kinds.{node-kind}
 use Rattle.tree.specs.Coded.{above-of}
 use Rattle.tree.specs.declared.leaf.Read.{Read}

@@ -1,0 +1,87 @@
+-- `lower_valued` meets its contract. The loop's invariant: the states from the first to this one are written, and no other.
+use mathlib.Core.Path.{_≡_, _∙_, ap}
+use Prim.Native.Nat.{ℕ, _+_, _-_, _≤_, min}
+use native.Mathlib.Omega.{arith}
+use borrow.Author.Needs.{needs}
+use Rattle.model.specs.Instance.{_at_}
+use Rattle.walk.specs.Steps.{Written}
+use Rattle.walk.proofs.Chains.{written-none, written-more}
+use Rattle.walk.proofs.valued.lower_valued.Statement.{statement}
+use Rattle.walk.proofs.valued.lower_valued.Tie as tie
+
+abbrev Inv-loop : tie.InvT-loop
+Inv-loop states₀ from to early cost i₀ states i = (from ≤ i) × (i ≤ to) × Written states₀ states from i (λ k. min early (cost + states₀ at (k + 1)))
+
+abbrev μ-loop : tie.MeasureT-loop
+μ-loop states₀ from to early cost i₀ states i = to - i
+
+loop-holds : tie.Need-loop-holds Inv-loop μ-loop
+loop-holds c = (omega arith, omega arith, written-none _ _ _)
+
+add-smaller-value : tie.Need-add-smaller-value Inv-loop μ-loop
+add-smaller-value c = omega arith
+
+mul-smaller-value : tie.Need-mul-smaller-value Inv-loop μ-loop
+mul-smaller-value c = omega arith
+
+slice-read-smaller-value : tie.Need-slice-read-smaller-value Inv-loop μ-loop
+slice-read-smaller-value c = omega (arith, c .before .before .loop .inv .2 .same)
+
+add-smaller-value-2 : tie.Need-add-smaller-value-2 Inv-loop μ-loop
+add-smaller-value-2 c =
+    let loop = c .before .before in
+    let s = loop .before .before in
+    let i = loop .loop .i in
+    rw (loop .loop .inv .2 .above (i + 1) (omega arith)) (omega (arith, s .pre .1 .0, s .pre .1 .1 (i + 1) (omega arith)))
+
+smaller-value-requires : tie.Need-smaller-value-requires Inv-loop μ-loop
+smaller-value-requires c κs = search needs
+
+mul-states : tie.Need-mul-states Inv-loop μ-loop
+mul-states c = omega arith
+
+slice-write-states : tie.Need-slice-write-states Inv-loop μ-loop
+slice-write-states c = omega arith
+
+add-i : tie.Need-add-i Inv-loop μ-loop
+add-i c = omega arith
+
+loop-less : tie.Need-loop-less Inv-loop μ-loop
+loop-less c = omega arith
+
+loop-again : tie.Need-loop-again Inv-loop μ-loop
+loop-again c =
+    let loop = c .before .before .before in
+    let a = loop .before .before .args in
+    let inv = loop .loop .inv in
+    let i = loop .loop .i in
+    let here = c .smaller-value .ensures ∙ ap (λ (y : ℕ). min (a .early) (a .cost + y)) (inv .2 .above (i + 1) (omega arith)) in
+    (omega arith, omega arith, written-more _ _ _ i _ _ (inv .0) (omega arith) (inv .2) here)
+
+same-length : tie.Need-same-length Inv-loop μ-loop
+same-length c = c .before .loop .inv .2 .same
+
+returns : tie.Need-returns Inv-loop μ-loop
+returns c =
+    let e : c .before .loop .i ≡ c .before .before .before .args .to = omega arith in
+    rw e at (c .before .loop .inv .2)
+
+pub lower-valued-spec : {M : Type 1} → statement M
+lower-valued-spec =
+    tie.close
+    (tie.spec
+    Inv-loop
+    μ-loop
+    loop-holds
+    add-smaller-value
+    mul-smaller-value
+    slice-read-smaller-value
+    add-smaller-value-2
+    smaller-value-requires
+    mul-states
+    slice-write-states
+    add-i
+    loop-less
+    loop-again
+    same-length
+    returns)
