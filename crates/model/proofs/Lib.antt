@@ -39,4 +39,3 @@ pub mod WalkPeriods
 pub mod Tables
 pub mod WrongOutputs
 pub mod Extents
-pub mod LeafLoops

@@ -9,7 +9,6 @@ use lib.ListN.{length, getD}
 use Rattle.model.specs.declared.generator.Generator.{Generator}
 use Rattle.model.specs.Above.{Mark, allows}
 use Rattle.model.specs.Walk.{plus, lesser, Values, walk, cap}
-use Rattle.model.specs.Prices.{worth}
 
 -- the values of the states of the status b
 pub record Tabled (g : Generator) (X : Values) (b : Bool) (l : List ℕ) : Type 0 where
@@ -44,7 +43,3 @@ pub record Chained (old new : List ℕ) (need early last : ℕ) (allowed : Bool)
 -- the values before period t of n: those of the periods t, t + 1, .., n - 1
 unfoldable pub values : ℕ → Generator → (ℕ → Mark) → (ℕ → Bool → ℕ) → ℕ → Values
 values n g m w t = walk (n - t) g (λ i. m (t + i)) (λ i. w (t + i))
-
--- in prices
-abbrev pub price-values : ℕ → (ℕ → ℕ) → (ℕ → ℕ) → Generator → (ℕ → Mark) → ℕ → Values
-price-values n q s g m = values n g m (λ t. worth g (q t) (s t))

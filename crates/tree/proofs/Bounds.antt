@@ -29,10 +29,6 @@ min-assoc x y z =
     same : (v w : ℤ) (a b c k : ℕ) → up v + k ≡ min a (min b c) + down v → up w + k ≡ min (min a b) c + down w → v ≡ w
     same v w a b c k h j = nat→eq v w (let e : min a (min b c) ≡ min (min a b) c = omega arith in omega arith)
 
-lower-never : (x : Bound) → lower x never ≡ x
-lower-never never = refl
-lower-never (number x) = refl
-
 lower-assoc : (x y z : Bound) → lower x (lower y z) ≡ lower (lower x y) z
 lower-assoc never y z = refl
 lower-assoc (number x) never z = refl
