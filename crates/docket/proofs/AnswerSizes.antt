@@ -17,6 +17,7 @@ use Rattle.model.specs.Broken.{Of, Broken, limits, demand, spare, updown, ramps
 use Rattle.model.specs.Breach.{Breach}
 use Rattle.model.specs.Above.{root}
 use Rattle.model.specs.Held.{view, blank-problem}
+use Rattle.model.proofs.Valid.{valid-is}
 use Rattle.model.proofs.CostSizes.{meets-small, cost-fits}
 use Rattle.model.proofs.LeafSizes.{bound-fits}
 use Rattle.refusal.specs.declared.Refusal.{Refusal}
@@ -43,7 +44,6 @@ use Rattle.docket.specs.Verdicts.{Verdict, refused, problem, schedule, t
 use Rattle.docket.specs.Texts.{Is, too-long, no-kind, second-problem, schedule-early, tree-early, problem-refused, a-problem, schedule-refused, a-schedule, tree-refused, a-tree}
 use Rattle.docket.specs.Lodging.{pick, refuse-whole, admit-kind, admit, by-lines, judged, lodged, with-schedule, with-bound, is-less, is-higher, given-figures, hold, lodge-of}
 use Rattle.docket.proofs.OneVerdict.{Fine, verdict-of, verdict-is}
-use Rattle.docket.proofs.Soundness.{passes-valid}
 use Rattle.docket.proofs.Steps.{given-is}
 use Rattle.docket.proofs.Following.{sound-valid, lodge-sound, lodge-unsound}
 use Rattle.docket.proofs.LineCounts.{before-count, tree-count}
@@ -174,7 +174,7 @@ module _ (d : Docket) (many : length (d .problem .demand) ≡ 48) (more : length
     (text : List ℕ) where
   judged-fits : (known : Bool) → sound d ≡ true → d .known ≡ known → length (answer-line (stated (hold d d (judged known (view (d .problem)) text) .answer))) ≤ 64
   judged-fits true e k =
-      let ok = passes-valid (d .problem) many more units (sound-valid d e k) in
+      let ok = valid-is (d .problem) many more units .0 (sound-valid d e k) in
       verdict-fits (some (view (d .problem))) (ok .well-formed) text d d
   judged-fits false e k =
       subst (λ (v : Verdict). length (answer-line (stated (hold d d v .answer))) ≤ 64) (unknown-any (view blank-problem) (view (d .problem)) text)

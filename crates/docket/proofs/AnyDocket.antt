@@ -10,6 +10,7 @@ use lib.Dec.{ltb}
 use lib.ListN.{length}
 use Rattle.model.specs.Instance.{Instance}
 use Rattle.model.specs.Held.{view, blank-problem}
+use Rattle.model.proofs.Valid.{valid-is}
 use Rattle.refusal.specs.declared.Refusal.{Refusal}
 use Rattle.report.specs.Report.{has-room}
 use Rattle.report.specs.Answers as report-answers
@@ -29,7 +30,6 @@ use Rattle.docket.specs.Report.{text-shown, report-of, buffer-of}
 use Rattle.docket.specs.ReportDue.{Outcome}
 use Rattle.docket.specs.Promised.{Long, if-known, judged-under}
 use Rattle.docket.proofs.OneVerdict.{Fine, verdict-of, verdict-is, is-verdict}
-use Rattle.docket.proofs.Soundness.{passes-valid}
 use Rattle.docket.proofs.Following.{sound-valid}
 use Rattle.docket.proofs.ReportDue.{written-or-refused}
 
@@ -54,7 +54,7 @@ fine-under : (d : Docket) → Long d → Fine (judged-under d)
 fine-under d long = go (sound d) refl
   where
     known : (c : Bool) → d .known ≡ c → sound d ≡ true → Fine (if-known c (view (d .problem)))
-    known true k s = passes-valid (d .problem) (long .0) (long .1) (long .2) (sound-valid d s k) .well-formed
+    known true k s = valid-is (d .problem) (long .0) (long .1) (long .2) .0 (sound-valid d s k) .well-formed
     known false k s = tt
 
     go : (s : Bool) → sound d ≡ s → Fine (if-known (pick s d fresh-docket .known) (view (pick s d fresh-docket .problem)))

@@ -11,6 +11,7 @@ use mir.Val.{SFits}
 use borrow.Author.Tests.{ltb-true}
 use Rattle.decimal.proofs.Digits.{and-true}
 use Rattle.model.specs.declared.arrays.Problem.{Problem}
+use Rattle.model.specs.Held.{valid-problem}
 use Rattle.docket.specs.declared.Docket.{Docket}
 use Rattle.docket.specs.declared.held.Held.{Held}
 use Rattle.writer.specs.Written.{figureOf}
@@ -20,7 +21,7 @@ use Rattle.docket.specs.declared.held.HeldCost.{HeldCost}
 use Rattle.docket.specs.declared.held.HeldCost.the-variants as cost
 use Rattle.docket.specs.declared.held.HeldBound.{HeldBound}
 use Rattle.docket.specs.declared.held.HeldBound.the-variants as bound
-use Rattle.docket.specs.Docket.{size-limit, small-number, small-cost, small-bound, no-cost, no-bound, valid-problem, sound-by, sound}
+use Rattle.docket.specs.Docket.{size-limit, small-number, small-cost, small-bound, no-cost, no-bound, sound-by, sound}
 use Rattle.docket.specs.Report.{gap-shown}
 
 -- ---- the difference

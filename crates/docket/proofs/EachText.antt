@@ -9,7 +9,7 @@ use Prim.Native.Nat.{ℕ}
 use native.Mathlib.Omega.{arith}
 use lib.Dec.{ltb}
 use Rattle.model.specs.Instance.{Instance, Schedule}
-use Rattle.model.specs.Ranges.{WellFormed, GoodWriter, GoodRows}
+use Rattle.model.specs.Ranges.{WellFormed, GoodWriter, GoodRows, every}
 use Rattle.model.specs.Rules.{Meets}
 use Rattle.model.specs.Cost.{cost}
 use Rattle.model.specs.Above.{root}
@@ -31,7 +31,6 @@ use Rattle.tree.proofs.Unique.{tree-once}
 use Rattle.tree.proofs.WellFormed as tree-formed
 use Rattle.answer.specs.Answers as answers
 use Rattle.answer.specs.Answers.{Values, no-values, its-cost, its-bound, Stated, Carries}
-use Rattle.docket.specs.Docket.{every}
 use Rattle.docket.specs.Verdicts.{Verdict, refused, problem, schedule, tree, schedules, trees, known-after, known-at-end}
 use Rattle.docket.specs.Texts.{Short, Is, Are, too-long, no-kind, second-problem, schedule-early, tree-early, problem-refused, a-problem, schedule-refused, a-schedule, tree-refused, a-tree}
 use Rattle.docket.specs.Lodging.{lodge-of}

@@ -9,7 +9,7 @@ use lib.Dec.{ltb}
 use lib.ListN.{length}
 use borrow.Author.Tests.{ltb-false, lt-ltb, le-ltb}
 use Rattle.model.specs.Instance.{Instance}
-use Rattle.model.specs.Held.{view}
+use Rattle.model.specs.Held.{view, valid-problem}
 use Rattle.model.specs.Tree.{Bound, never, number}
 use Rattle.refusal.specs.declared.Refusal.{Refusal}
 use Rattle.text.specs.Lines.{lineAt, kindOf}
@@ -30,7 +30,7 @@ use Rattle.docket.specs.declared.admission.Admission.{Admission}
 use Rattle.docket.specs.declared.admission.Admission.the-variants as admission
 use Rattle.docket.specs.declared.admission.Screened.the-variants as screened
 use Rattle.answer.specs.declared.Answer.the-variants.{Refused}
-use Rattle.docket.specs.Docket.{fresh-docket, valid-problem, sound-by, sound}
+use Rattle.docket.specs.Docket.{fresh-docket, sound-by, sound}
 use Rattle.docket.specs.Texts.{Short}
 use Rattle.docket.specs.Lodging.{pick, refuse-whole, admit-kind, admit, by-problem, by-schedule, by-tree, by-lines, judged, lodged, hold, trusted, lodge-of}
 use Rattle.docket.specs.Following.{screen, hold-problem, hold-schedule, hold-tree}

@@ -3,7 +3,6 @@ pub mod OneVerdict
 pub mod ListVerdicts
 pub mod BestSoFar
 pub mod GoodVerdicts
-pub mod Soundness
 pub mod Reached
 pub mod Steps
 pub mod Lists
@@ -42,7 +41,6 @@ pub mod SpecimenList
 pub mod ListedExample
 pub mod Unsound
 pub mod Following
-pub mod Every
 pub mod Reports
 pub mod LineCounts
 pub mod AnswerSizes

@@ -5,16 +5,17 @@ use mathlib.Core.List.{List}
 use mathlib.Core.Option.{Option, none, some}
 use Prim.Native.Nat.{ℕ}
 use native.Mathlib.Omega.{arith}
-use lib.Dec.{T, ltb}
+use lib.Dec.{T, ltb, lt→ltb}
 use lib.IntN.{ℤ, pos, negsuc}
 use lib.ListN.{replicate}
 use Rattle.model.specs.Instance.{Instance}
 use Rattle.model.specs.Ranges.{WellFormed, All}
 use Rattle.model.specs.Held as arrays
-use Rattle.model.specs.Held.{pad}
+use Rattle.model.specs.Held.{pad, valid-problem}
 use Rattle.model.specs.Above.{root}
 use Rattle.model.specs.Tree.{Bound, never, number}
-use Rattle.model.proofs.Tests.{T-and}
+use Rattle.model.proofs.Tests.{T-true, T-and}
+use Rattle.model.proofs.Valid.{held-passes}
 use Rattle.model.proofs.Lists.{held-after, IsFirst, cheaper, raises, held-least, held-highest}
 use Rattle.model.proofs.CostSizes.{meets-small, cost-fits}
 use Rattle.model.proofs.LeafSizes.{Fits, bound-fits}
@@ -25,12 +26,11 @@ use Rattle.docket.specs.declared.held.HeldCost.{HeldCost}
 use Rattle.docket.specs.declared.held.HeldCost.the-variants as cost
 use Rattle.docket.specs.declared.held.HeldBound.{HeldBound}
 use Rattle.docket.specs.declared.held.HeldBound.the-variants as bound
-use Rattle.docket.specs.Docket.{fresh-docket, valid-problem, size-limit, small-cost, small-bound, small-number, sound}
+use Rattle.docket.specs.Docket.{fresh-docket, size-limit, small-cost, small-bound, small-number, sound}
 use Rattle.docket.specs.Verdicts.{Costed, Verdict, schedules, trees}
 use Rattle.docket.specs.Lodging.{bound-by}
 use Rattle.docket.proofs.BestSoFar.{first-mem}
 use Rattle.docket.proofs.GoodVerdicts.{GoodSchedule, GoodTree, all-mem, Proper}
-use Rattle.docket.proofs.Soundness.{T-true, held-passes, small-natural}
 
 -- ---- the docket that the verdicts so far determine
 
@@ -74,11 +74,11 @@ module _ (P : Instance) (W : WellFormed P) where
   cost-small (some h) l f g =
       let s = all-mem (GoodSchedule P) l g h (first-mem by-cost h l f) in
       let e = s .cost-is in
-      T-true _ (small-natural (h .cost) (omega (arith, cost-fits P W (h .rows) (meets-small P W (h .rows) (s .meets)))))
+      T-true _ (lt→ltb (h .cost) size-limit (omega (arith, cost-fits P W (h .rows) (meets-small P W (h .rows) (s .meets)))))
 
   number-small : (z : ℤ) → Fits (number z) → T (small-number z)
-  number-small (pos n) f = small-natural n (omega arith)
-  number-small (negsuc n) f = T-and (ltb n size-limit) true (small-natural n (omega arith)) tt
+  number-small (pos n) f = lt→ltb n size-limit (omega arith)
+  number-small (negsuc n) f = T-and (ltb n size-limit) true (lt→ltb n size-limit (omega arith)) tt
 
   fits-small : (b : Bound) (w : ℕ) → Fits b → small-bound (bound-by b w) ≡ true
   fits-small never w f = refl

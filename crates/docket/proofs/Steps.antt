@@ -7,6 +7,7 @@ use mathlib.Core.Option.{Option, none, some}
 use Prim.Native.Nat.{ℕ}
 use lib.Dec.{ltb}
 use Rattle.model.specs.Instance.{Instance}
+use Rattle.model.specs.Ranges.{every}
 use Rattle.model.specs.Held.{view}
 use Rattle.model.specs.Tree.{Bound, never, number}
 use Rattle.model.specs.Best.{higher}
@@ -17,7 +18,7 @@ use Rattle.tree.specs.Coded.{bound-of}
 use Rattle.tree.specs.Reading.{coded}
 use Rattle.docket.specs.declared.Docket.{Docket}
 use Rattle.answer.specs.declared.Answer.the-variants.{ScheduleHeld, SchedulePassed, TreeHeld, TreePassed}
-use Rattle.docket.specs.Docket.{fresh-docket, every, sound}
+use Rattle.docket.specs.Docket.{fresh-docket, sound}
 use Rattle.answer.specs.Answers.{its-cost, its-bound, stated}
 use Rattle.docket.specs.Verdicts.{Costed, Verdict, refused, problem, schedule, tree, schedules, trees, known-after}
 use Rattle.docket.specs.Lodging.{pick, judged, lodged, with-schedule, with-bound, is-less, is-higher, bound-by, given-figures, hold, lodge-of}

@@ -8,6 +8,7 @@ use Prim.Native.Nat.{ℕ, _<_}
 use native.Mathlib.Omega.{arith}
 use lib.Dec.{lit<, lit≤}
 use lib.IntN.{pos}
+use Rattle.model.specs.Ranges.{every}
 use Rattle.model.specs.declared.arrays.Problem.{Problem}
 use Rattle.model.specs.Held as arrays
 use Rattle.model.specs.Above.{root}
@@ -20,7 +21,6 @@ use Rattle.tree.specs.Rendering as rendered-trees
 use Rattle.tree.specs.Due.{Figures}
 use Rattle.docket.specs.declared.Docket.{Docket}
 use Rattle.docket.specs.declared.held.HeldBound.{HeldBound}
-use Rattle.docket.specs.Docket.{every}
 use Rattle.answer.specs.Answers.{its-cost, its-bound, Stated, held, Carries}
 use Rattle.docket.specs.Verdicts.{Costed, refused, problem, schedule, tree, trees}
 use Rattle.docket.specs.Texts.{Accepted, no-more}

@@ -9,6 +9,7 @@ use lib.IntN.{pos}
 use lib.Signed.{_≤ℤ_}
 use lib.ListN.{replicate}
 use Rattle.model.specs.Instance.{Instance, Schedule}
+use Rattle.model.specs.Ranges.{every}
 use Rattle.model.specs.Rules.{Meets}
 use Rattle.model.specs.Cost as model
 use Rattle.model.specs.Held as arrays
@@ -26,7 +27,7 @@ use Rattle.docket.specs.declared.held.HeldCost.the-variants as cost
 use Rattle.docket.specs.declared.held.HeldBound.{HeldBound}
 use Rattle.docket.specs.declared.held.HeldBound.the-variants as bound
 use Rattle.answer.specs.declared.Answer.{Answer}
-use Rattle.docket.specs.Docket.{fresh-docket, every}
+use Rattle.docket.specs.Docket.{fresh-docket}
 use Rattle.answer.specs.Answers as answers
 use Rattle.answer.specs.Answers.{Values, no-values, its-cost, its-bound, Stated, stated}
 use Rattle.docket.specs.Verdicts.{Costed, Verdict, refused, problem, schedule, tree, schedules, trees, known-at-end}

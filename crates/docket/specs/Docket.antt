@@ -1,15 +1,12 @@
 -- Document 01, The docket and its report: what a docket holds.
 use mathlib.Core.Bool.{Bool, true, false, _&&_}
-use mathlib.Core.List.{List, [], _∷_}
 use Prim.Native.Nat.{ℕ}
 use lib.Dec.{ltb}
 use lib.IntN.{ℤ, pos, negsuc}
 use lib.Signed.{ltZ}
-use lib.ListN.{take, replicate}
-use Rattle.model.specs.declared.generator.Generator.{Generator}
+use lib.ListN.{replicate}
 use Rattle.model.specs.declared.arrays.Problem.{Problem}
-use Rattle.model.specs.Ranges.{between, in-range, ordered}
-use Rattle.model.specs.Held.{blank-problem}
+use Rattle.model.specs.Held.{blank-problem, valid-problem}
 use Rattle.docket.specs.declared.Docket.{Docket}
 use Rattle.docket.specs.declared.held.Held.{Held}
 use Rattle.docket.specs.declared.held.HeldCost.{HeldCost}
@@ -25,22 +22,6 @@ abbrev pub fresh-docket : Docket
 fresh-docket = record { known = false; problem = blank-problem; held = nothing-held; rows = replicate 1536 0 }
 
 -- ---- a test of a value of the struct, which carries no promise of its own: every docket that lodging makes passes
-
-abbrev pub every : {A : Type 0} → (A → Bool) → List A → Bool
-every test [] = true
-every test (x ∷ l) = test x && every test l
-
-abbrev pub load-in-range : ℕ → Bool
-load-in-range v = between 0 v 320000
-
-abbrev pub good-generator : Generator → Bool
-good-generator g = in-range g && ordered g
-
--- the arrays hold a well-formed problem
-unfoldable pub valid-problem : Problem → Bool
-valid-problem p =
-    between 1 (p .periods) 48 && (between 1 (p .units) 32 && (every load-in-range (take (p .periods) (p .demand))
-    && (every load-in-range (take (p .periods) (p .spare)) && every good-generator (take (p .units) (p .generators)))))
 
 -- 2^61: a sum or difference of two such figures fits an i64
 abbrev pub size-limit : ℕ

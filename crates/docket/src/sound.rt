@@ -1,17 +1,13 @@
 // A test of a docket, which carries no promise of its own: every docket that lodging makes passes.
 ghost use mathlib.Core.Path.{_≡_};
 ghost use mathlib.Core.Bool.{true};
-ghost use Prim.Native.Nat.{_≤_};
-ghost use lib.ListN.{take};
-ghost use Rattle.model.specs.Ranges.{between};
-ghost use Rattle.docket.specs.Docket.{every, load-in-range, good-generator, valid-problem, small-number, small-cost, small-bound, no-cost, no-bound, sound-by, sound};
+ghost use Rattle.docket.specs.Docket.{small-number, small-cost, small-bound, no-cost, no-bound, sound-by, sound};
 ghost use Rattle.docket.specs.Lodging.{trusted};
 use crate::Docket;
 use crate::held::Held;
 use crate::held::HeldBound;
 use crate::held::HeldCost;
 use model::arrays::Problem;
-use model::generator::Generator;
 
 // The figures of a docket are below this, 2^61.
 const SIZE_LIMIT: u64 = 2_305_843_009_213_693_952;
@@ -20,60 +16,6 @@ const SIZE_LIMIT: u64 = 2_305_843_009_213_693_952;
 const BOUND_LIMIT: i64 = 2_305_843_009_213_693_952;
 
 const BOUND_FLOOR: i64 = -2_305_843_009_213_693_953;
-
-// Whether v lies from least to most, both allowed.
-fn is_between(least: u64, v: u64, most: u64) -> bool
-    ensures { λ r. ⌜ r ≡ between least v most ⌝ }
-{
-    if v < least {
-        return false;
-    }
-    v <= most
-}
-
-// Whether the first n loads are in range.
-fn has_loads_in_range(loads: [u64; 48], n: usize) -> bool
-    requires { ⌜ n ≤ 48 ⌝ }
-    ensures { λ r. ⌜ r ≡ every load-in-range (take n loads) ⌝ }
-{
-    let mut i: usize = 0;
-    while i < n {
-        let load = loads[i];
-        if is_between(0, load, 320_000) {
-            i += 1;
-        } else {
-            return false;
-        }
-    }
-    true
-}
-
-// Whether a generator's numbers are in range and in order.
-fn is_good(generator: Generator) -> bool
-    ensures { λ r. ⌜ r ≡ good-generator generator ⌝ }
-{
-    if generator.in_range() {
-        return generator.is_ordered();
-    }
-    false
-}
-
-// Whether the first n generators are good.
-fn has_good_generators(generators: [Generator; 32], n: usize) -> bool
-    requires { ⌜ n ≤ 32 ⌝ }
-    ensures { λ r. ⌜ r ≡ every good-generator (take n generators) ⌝ }
-{
-    let mut i: usize = 0;
-    while i < n {
-        let generator = generators[i];
-        if is_good(generator) {
-            i += 1;
-        } else {
-            return false;
-        }
-    }
-    true
-}
 
 // Whether no cost, or one below the limit, is held.
 fn is_small_cost(held: HeldCost) -> bool
@@ -127,34 +69,13 @@ fn is_no_bound(held: HeldBound) -> bool
     }
 }
 
-// Whether the arrays hold a well-formed problem.
-fn is_valid(problem: Problem) -> bool
-    ensures { λ r. ⌜ r ≡ valid-problem problem ⌝ }
-{
-    let periods = problem.periods;
-    let units = problem.units;
-    if is_between(1, periods as u64, 48) {
-        if is_between(1, units as u64, 32) {
-            let demand = problem.demand;
-            if has_loads_in_range(demand, periods) {
-                let spare = problem.spare;
-                if has_loads_in_range(spare, periods) {
-                    let generators = problem.generators;
-                    return has_good_generators(generators, units);
-                }
-            }
-        }
-    }
-    false
-}
-
 // Whether the problem is valid and the figures held under it are small.
 fn is_sound_under(problem: Problem, held: Held) -> bool
     ensures { λ r. ⌜ r ≡ sound-by true problem held ⌝ }
 {
     let cost = held.cost;
     let bound = held.bound;
-    if is_valid(problem) {
+    if problem.is_valid() {
         if is_small_cost(cost) {
             return is_small_bound(bound);
         }

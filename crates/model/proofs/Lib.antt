@@ -3,8 +3,10 @@ pub mod Integers
 pub mod Tests
 pub mod Sums
 pub mod Members
+pub mod Every
 pub mod RangeTests
 pub mod Held
+pub mod Valid
 pub mod Lists
 pub mod Duality
 pub mod Soundness

@@ -1,11 +1,13 @@
 -- The tests of the code are the ranges of document 01: a test holds exactly where the record does. A joined test is the product of its parts.
-use mathlib.Core.Bool.{Bool, _&&_}
+use mathlib.Core.Path.{_≡_}
+use mathlib.Core.Bool.{Bool, true, _&&_}
+use mathlib.Core.List.{List, [], _∷_}
 use mathlib.Core.Logic.{_↔_}
 use Prim.Native.Nat.{ℕ, _≤_}
 use lib.Dec.{T, leb, leb→le, le→leb}
 use Rattle.model.specs.declared.generator.Generator.{Generator}
-use Rattle.model.specs.Ranges.{Between, InRange, Ordered, GoodUnit, between, costs-in-range, outputs-in-range, times-in-range, in-range, ordered}
-use Rattle.model.proofs.Tests.{T-and, T-and-l, T-and-r}
+use Rattle.model.specs.Ranges.{Between, All, InRange, Ordered, GoodUnit, GoodLoad, between, every, costs-in-range, outputs-in-range, times-in-range, in-range, ordered, good-generator, load-in-range}
+use Rattle.model.proofs.Tests.{true-T, T-and, T-and-l, T-and-r}
 
 pub and-is : (a b : Bool) {A B : Type 0} → T a ↔ A → T b ↔ B → T (a && b) ↔ (A × B)
 and-is a b f g = (λ t. (f .0 (T-and-l a b t), g .0 (T-and-r a b t)), λ p. T-and a b (f .1 (p .0)) (g .1 (p .1)))
@@ -15,6 +17,18 @@ leb-is m n = (leb→le m n, le→leb m n)
 
 pub between-is : (least v most : ℕ) → T (between least v most) ↔ Between least v most
 between-is l v m = and-is (leb l v) (leb v m) (leb-is l v) (leb-is v m)
+
+-- what lies from least to most is at most that
+pub between-most : (least v most : ℕ) → between least v most ≡ true → v ≤ most
+between-most l v m e = between-is l v m .0 (true-T (between l v m) e) .1
+
+module _ {A : Type 0} (test : A → Bool) (R : A → Type 0) (is : (x : A) → T (test x) ↔ R x) where
+  pub every-is : (l : List A) → T (every test l) ↔ All R l
+  every-is [] = ((λ t. tt), (λ a. tt))
+  every-is (x ∷ l) = and-is (test x) (every test l) (is x) (every-is l)
+
+pub load-is : (v : ℕ) → T (load-in-range v) ↔ GoodLoad v
+load-is v = between-is 0 v 320000
 
 -- one number's test before the others'
 also : (l v m : ℕ) (b : Bool) {B : Type 0} → T b ↔ B → T (between l v m && b) ↔ (Between l v m × B)
@@ -86,3 +100,9 @@ module _ (g : Generator) where
   -- a unit line that both tests let through
   pub good-unit : T (in-range g) → T (ordered g) → GoodUnit g
   good-unit t o = record { in-range = in-range-is .0 t; ordered = ordered-is .0 o }
+
+  pub generator-is : T (good-generator g) ↔ GoodUnit g
+  generator-is = (
+    λ t. good-unit (T-and-l (in-range g) (ordered g) t) (T-and-r (in-range g) (ordered g) t),
+    λ G. T-and (in-range g) (ordered g) (in-range-is .1 (G .in-range)) (ordered-is .1 (G .ordered)),
+  )

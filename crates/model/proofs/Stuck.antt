@@ -1,7 +1,7 @@
 -- A unit is stuck just where its walk finds nothing, whatever the periods cost: a run that obeys and agrees bounds the walk, and
 -- a walk that finds something has such a run.
 use mathlib.Core.Path.{_≡_, refl, sym, _∙_, ap}
-use mathlib.Core.Bool.{Bool, true, false, not}
+use mathlib.Core.Bool.{Bool, not}
 use mathlib.Core.List.{List}
 use Prim.Native.Nat.{ℕ, zero, suc, _<_}
 use native.Mathlib.Omega.{arith}
@@ -12,17 +12,10 @@ use Rattle.model.specs.declared.generator.Generator.{Generator}
 use Rattle.model.specs.Above.{Mark, obeys}
 use Rattle.model.specs.Leaf.{runs, is-stuck}
 use Rattle.model.specs.Walk.{walk}
+use Rattle.model.proofs.Tests.{T-true, T-false}
 use Rattle.model.proofs.Members.{none-of-not}
 use Rattle.model.proofs.Candidates.{none-of-all, run-mem, run-long}
 use Rattle.model.proofs.WalkRuns.{obeys→obeying, obeying→obeys, walk-below-run, walk-attained-run}
-
-pub T-true : (b : Bool) → T b → b ≡ true
-T-true true t = refl
-T-true false t = absurd t
-
-pub T-false : (b : Bool) → (T b → ⊥) → b ≡ false
-T-false true f = absurd (f tt)
-T-false false f = refl
 
 module _ (n : ℕ) (g : Generator) (m : ℕ → Mark) where
   -- stuck: no run of n statuses obeys and agrees

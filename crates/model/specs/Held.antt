@@ -1,12 +1,12 @@
 -- A problem in the arrays of the struct Problem, and back.
-use mathlib.Core.Bool.{false}
+use mathlib.Core.Bool.{Bool, false, _&&_}
 use mathlib.Core.List.{List, _++_}
 use Prim.Native.Nat.{ℕ, _-_, _≤_}
 use lib.ListN.{length, take, replicate}
 use Rattle.model.specs.declared.generator.Generator.{Generator}
 use Rattle.model.specs.declared.arrays.Problem.{Problem}
 use Rattle.model.specs.Instance.{Instance}
-use Rattle.model.specs.Ranges.{WellFormed}
+use Rattle.model.specs.Ranges.{WellFormed, every, between, good-generator, load-in-range}
 
 abbrev pub blank-generator : Generator
 blank-generator = record { a = 0; b = 0; c = 0; pL = 0; pU = 0; TU = 0; TD = 0; on = false; since = 0; DR = 0; UR = 0; Hsc = 0; Csc = 0; Tcold = 0; Dc = 0 }
@@ -41,3 +41,9 @@ held P = record {
 pub record Valid (p : Problem) : Type 0 where
   pub units-fit : p .units ≤ 32
   pub well-formed : WellFormed (view p)
+
+-- the same as a test, for the code
+unfoldable pub valid-problem : Problem → Bool
+valid-problem p =
+    between 1 (p .periods) 48 && (between 1 (p .units) 32 && (every load-in-range (take (p .periods) (p .demand))
+    && (every load-in-range (take (p .periods) (p .spare)) && every good-generator (take (p .units) (p .generators)))))

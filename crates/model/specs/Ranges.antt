@@ -1,6 +1,6 @@
 -- Document 01, Texts: the ranges, and well-formed problems (refusals 13 and 15).
 use mathlib.Core.Path.{_≡_}
-use mathlib.Core.Bool.{Bool, _&&_}
+use mathlib.Core.Bool.{Bool, true, _&&_}
 use mathlib.Core.List.{List, [], _∷_}
 use Prim.Native.Nat.{ℕ, _≤_}
 use lib.Dec.{leb}
@@ -77,6 +77,10 @@ GoodRows P s = Shaped P s × All (λ r. All GoodOutput r) s
 
 -- ---- the same as tests, for the code
 
+abbrev pub every : {A : Type 0} → (A → Bool) → List A → Bool
+every test [] = true
+every test (x ∷ l) = test x && every test l
+
 abbrev pub between : ℕ → ℕ → ℕ → Bool
 between least v most = leb least v && leb v most
 
@@ -101,3 +105,11 @@ in-range g = costs-in-range g && (outputs-in-range g && times-in-range g)
 -- 15
 unfoldable pub ordered : Generator → Bool
 ordered g = leb (g .pL) (g .pU) && leb (g .Hsc) (g .Csc)
+
+-- neither 13 nor 15
+abbrev pub good-generator : Generator → Bool
+good-generator g = in-range g && ordered g
+
+-- a period's demand or spare
+abbrev pub load-in-range : ℕ → Bool
+load-in-range v = between 0 v 320000

@@ -1,8 +1,9 @@
 // A generator, and the ranges of its numbers.
 ghost use mathlib.Core.Path.{_≡_};
-ghost use mathlib.Core.Bool.{_&&_};
-ghost use Rattle.model.specs.Ranges.{between, costs-in-range, outputs-in-range, times-in-range, in-range, ordered};
+ghost use Rattle.model.specs.Ranges.{costs-in-range, outputs-in-range, times-in-range, in-range, ordered, good-generator};
 ghost use Rattle.model.specs.Held.{blank-generator};
+use crate::ranges::holds_both;
+use crate::ranges::is_between;
 
 // Document 01's unit, with the source's names for its numbers. Tini is on and since: before period 1 the generator has
 // been on, or off, for since periods.
@@ -22,26 +23,6 @@ pub struct Generator {
     pub Csc: u64,
     pub Tcold: usize,
     pub Dc: u64,
-}
-
-// Whether v lies from least to most, both allowed.
-fn is_between(least: u64, v: u64, most: u64) -> bool
-    ensures { λ r. ⌜ r ≡ between least v most ⌝ }
-{
-    if v < least {
-        return false;
-    }
-    v <= most
-}
-
-// Whether both hold.
-fn holds_both(x: bool, y: bool) -> bool
-    ensures { λ r. ⌜ r ≡ x && y ⌝ }
-{
-    if x {
-        return y;
-    }
-    false
 }
 
 impl Generator {
@@ -141,5 +122,14 @@ impl Generator {
         ensures { λ r. ⌜ r ≡ ordered self ⌝ }
     {
         holds_both(self.pL <= self.pU, self.Hsc <= self.Csc)
+    }
+
+    // Whether neither 13 nor 15 refuses the generator's line.
+    pub fn is_good(self) -> bool
+        ensures { λ r. ⌜ r ≡ good-generator self ⌝ }
+    {
+        let in_range = self.in_range();
+        let ordered = self.is_ordered();
+        holds_both(in_range, ordered)
     }
 }

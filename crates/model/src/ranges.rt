@@ -1,4 +1,7 @@
-// The ranges of document 01 for the numbers of a text that are no generator's.
+// The ranges of document 01 for the numbers of a text that are no generator's, and what tests ranges.
+ghost use mathlib.Core.Path.{_≡_};
+ghost use mathlib.Core.Bool.{_&&_};
+ghost use Rattle.model.specs.Ranges.{between};
 
 // A number of periods.
 pub struct Horizon(pub u64);
@@ -52,4 +55,24 @@ impl Writer {
     pub const LEAST: u64 = 1;
 
     pub const MOST: u64 = 65_535;
+}
+
+// Whether v lies from least to most, both allowed.
+pub fn is_between(least: u64, v: u64, most: u64) -> bool
+    ensures { λ r. ⌜ r ≡ between least v most ⌝ }
+{
+    if v < least {
+        return false;
+    }
+    v <= most
+}
+
+// Whether both hold.
+pub fn holds_both(x: bool, y: bool) -> bool
+    ensures { λ r. ⌜ r ≡ x && y ⌝ }
+{
+    if x {
+        return y;
+    }
+    false
 }

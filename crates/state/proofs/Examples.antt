@@ -7,13 +7,13 @@ use lib.IntN.{pos, negsuc}
 use lib.ListN.{take, replicate}
 use Rattle.model.specs.declared.generator.Generator.{Generator}
 use Rattle.model.specs.Instance.{Instance}
-use Rattle.model.specs.Held.{pad, held}
+use Rattle.model.specs.Held.{pad, held, valid-problem}
 use Rattle.numbers.specs.Numbers.{laid-out, problem-in}
 use Rattle.writer.specs.Written.{figureOf}
 use Rattle.docket.specs.declared.Docket.{Docket}
 use Rattle.docket.specs.declared.held.HeldCost.the-variants as cost
 use Rattle.docket.specs.declared.held.HeldBound.the-variants as bound
-use Rattle.docket.specs.Docket.{valid-problem, sound, small-cost, small-bound}
+use Rattle.docket.specs.Docket.{sound, small-cost, small-bound}
 use Rattle.state.specs.Layout.{mark, state-numbers, bound-numbers, docket-in, cost-in, bound-in}
 use Rattle.state.specs.Kept.{long, holds, outputs-of}
 

@@ -12,7 +12,9 @@ use Rattle.model.specs.declared.arrays.Problem.{Problem}
 use Rattle.model.specs.Instance.{Instance}
 use Rattle.model.specs.Best.{FirstLeast}
 use Rattle.model.specs.Held as arrays
+use Rattle.model.specs.Held.{valid-problem}
 use Rattle.model.proofs.Held.{take-pad}
+use Rattle.model.proofs.Valid.{valid-sizes}
 use Rattle.model.proofs.Unbroken.{meets-shaped}
 use Rattle.judge.specs.Rows.{joined}
 use Rattle.judge.proofs.Rows.{joined-long}
@@ -21,12 +23,11 @@ use Rattle.docket.specs.declared.held.Held.{Held}
 use Rattle.docket.specs.declared.held.CostBy.{CostBy}
 use Rattle.docket.specs.declared.held.HeldCost.{HeldCost}
 use Rattle.docket.specs.declared.held.HeldCost.the-variants as cost
-use Rattle.docket.specs.Docket.{valid-problem, no-bound, sound, sound-by}
+use Rattle.docket.specs.Docket.{no-bound, sound, sound-by}
 use Rattle.docket.specs.Verdicts.{Costed, Verdict, schedules}
 use Rattle.docket.specs.Texts.{Are}
 use Rattle.docket.specs.Promised.{after, given}
 use Rattle.docket.specs.Demand3.{HoldsSchedule}
-use Rattle.docket.proofs.Soundness.{between-most}
 use Rattle.decimal.proofs.Digits.{and-true}
 use Rattle.docket.proofs.Holdings as holdings
 use Rattle.state.specs.Kept.{count-under, outputs-count, outputs-of}
@@ -38,11 +39,7 @@ pub product-few : (units periods : ℕ) → units ≤ 32 → periods ≤ 48 → 
 product-few units periods h k = let a : units * periods ≤ 32 * periods = mul-le-mul-right periods h in omega (arith, a, k)
 
 valid-few : (p : Problem) → valid-problem p ≡ true → p .units * p .periods ≤ 1536
-unfolding valid-problem
-valid-few p e =
-    let a = and-true _ _ e in
-    let b = and-true _ _ (a .1) in
-    product-few (p .units) (p .periods) (between-most 1 (p .units) 32 (b .0)) (between-most 1 (p .periods) 48 (a .0))
+valid-few p e = let n = valid-sizes p e in product-few (p .units) (p .periods) (n .1) (n .0)
 
 few-by : (known : Bool) (p : Problem) (h : Held) (c : HeldCost) → h .cost ≡ c → sound-by known p h ≡ true → count-under c (p .units) (p .periods) ≤ 1536
 few-by known p h cost.Nothing k e = omega arith

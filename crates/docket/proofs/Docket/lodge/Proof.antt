@@ -3,8 +3,8 @@ use mathlib.Core.Path.{_≡_, sym, ap, _∙_}
 use mathlib.Core.Bool.{Bool, true}
 use lib.ListN.{length, length-map}
 use Rattle.model.specs.Held.{Valid}
+use Rattle.model.proofs.Valid.{valid-is}
 use Rattle.docket.specs.Lodging.{admit, trusted}
-use Rattle.docket.proofs.Soundness.{passes-valid}
 use Rattle.docket.proofs.Following.{admitted-problem, admitted-schedule, admitted-tree, knows-valid, refused-lodged, problem-lodged, schedule-lodged, tree-lodged}
 use borrow.Author.Needs.{needs}
 use Rattle.docket.proofs.Docket.lodge.Statement.{statement}
@@ -19,7 +19,7 @@ many c = simp length-map at (c .good .0 .1 .1 .1 .0 .1 .1 .1 .1 .1 .1 .0 .1 .0 .
 
 -- so a known problem is valid
 valid : (c : tie.Start) → trusted (c .args .self) .known ≡ true → Valid (c .args .self .problem)
-valid c k = passes-valid (c .args .self .problem) (loads c .0) (loads c .1) (many c) (knows-valid (c .args .self) k)
+valid c k = valid-is (c .args .self .problem) (loads c .0) (loads c .1) (many c) .0 (knows-valid (c .args .self) k)
 
 -- the admission, by what is known
 known-by : (c : tie.After-admit) → let a = c .before .before .before .args in admit (trusted (a .self) .known) (a .text .now) ≡ c .admit .result

@@ -1,7 +1,7 @@
 -- `is_between` meets its contract: each return rewrites with the test that led there.
 use borrow.Author.Tests.{le-leb, lt-leb}
-use Rattle.model.proofs.generator.is_between.Statement.{statement}
-use Rattle.model.proofs.generator.is_between.Tie as tie
+use Rattle.model.proofs.ranges.is_between.Statement.{statement}
+use Rattle.model.proofs.ranges.is_between.Tie as tie
 
 -- v is below least
 returns : tie.Need-returns

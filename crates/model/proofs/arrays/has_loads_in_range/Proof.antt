@@ -4,19 +4,19 @@ use Prim.Native.Nat.{_-_, _≤_}
 use native.Mathlib.Omega.{arith}
 use lib.ListN.{length, take, drop}
 use borrow.Author.Needs.{needs}
-use Rattle.docket.specs.Docket.{every, load-in-range}
-use Rattle.docket.proofs.Every.{one-passes, one-fails, all-pass}
-use Rattle.docket.proofs.sound.has_loads_in_range.Statement.{statement}
-use Rattle.docket.proofs.sound.has_loads_in_range.Tie as tie
+use Rattle.model.specs.Ranges.{every, load-in-range}
+use Rattle.model.proofs.Every.{one-passes, one-fails, all-pass}
+use Rattle.model.proofs.arrays.has_loads_in_range.Statement.{statement}
+use Rattle.model.proofs.arrays.has_loads_in_range.Tie as tie
 
 abbrev Inv-loop : tie.InvT-loop
-Inv-loop n loads i₀ i = (i ≤ n) × ((n ≤ 48) × (every load-in-range (drop i (take n loads)) ≡ every load-in-range (take n loads)))
+Inv-loop n loads i₀ i = (n ≤ length loads) × (every load-in-range (drop i (take n loads)) ≡ every load-in-range (take n loads))
 
 abbrev μ-loop : tie.MeasureT-loop
 μ-loop n loads i₀ i = n - i
 
 loop-holds : tie.Need-loop-holds Inv-loop μ-loop
-loop-holds c = (omega arith, (c .pre, refl))
+loop-holds c = (let long : length (c .args .t1) ≡ 48 = search needs in omega (arith, c .pre), refl)
 
 mul-load : tie.Need-mul-load Inv-loop μ-loop
 mul-load c = search needs
@@ -35,24 +35,16 @@ loop-less c = omega arith
 
 loop-again : tie.Need-loop-again Inv-loop μ-loop
 loop-again c =
-    let l = c .before .before .before in
-    let a = l .before .args in
-    let long : length (a .t1) ≡ 48 = search needs in
-    (omega arith, (l .loop .inv .1 .0, one-passes load-in-range 0 (a .t1) (a .n) (omega arith) _ (omega arith) (sym (c .before .is-between .ensures) ∙ c .if1 .taken) (l .loop .inv .1 .1)))
+    let v = c .before .before .before .loop .inv in
+    (v .0, one-passes load-in-range 0 _ _ (v .0) _ (omega arith) (sym (c .before .is-between .ensures) ∙ c .if1 .taken) (v .1))
 
 returns : tie.Need-returns Inv-loop μ-loop
 returns c =
-    let l = c .before .before .before in
-    let a = l .before .args in
-    let long : length (a .t1) ≡ 48 = search needs in
-    one-fails load-in-range 0 (a .t1) (a .n) (omega arith) _ (omega arith) (sym (c .before .is-between .ensures) ∙ c .if1 .left) (l .loop .inv .1 .1)
+    let v = c .before .before .before .loop .inv in
+    one-fails load-in-range 0 _ _ (v .0) _ (omega arith) (sym (c .before .is-between .ensures) ∙ c .if1 .left) (v .1)
 
 returns-2 : tie.Need-returns-2 Inv-loop μ-loop
-returns-2 c =
-    let l = c .before in
-    let a = l .before .args in
-    let long : length (a .t1) ≡ 48 = search needs in
-    all-pass load-in-range 0 (a .t1) (a .n) (omega arith) (l .loop .i) (omega arith) (l .loop .inv .1 .1)
+returns-2 c = let v = c .before .loop .inv in all-pass load-in-range 0 _ _ (v .0) (c .before .loop .i) (omega arith) (v .1)
 
 pub has-loads-in-range-spec : {M : Type 1} → statement M
 has-loads-in-range-spec =
