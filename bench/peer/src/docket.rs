@@ -9,7 +9,7 @@ const MOST_BYTES: usize = 1_048_576;
 #[derive(Clone, Copy, Debug, PartialEq, Eq)]
 pub enum Answer {
     Refused(Refusal),
-    ProblemHeld,
+    TextHeld,
     ScheduleHeld(u64),
     SchedulePassed(u64),
     TreeHeld(Figures),
@@ -70,7 +70,7 @@ impl<const ALL: bool> Docket<ALL> {
         }
         self.problem.read(text, from)?;
         self.known = true;
-        Ok(Answer::ProblemHeld)
+        Ok(Answer::TextHeld)
     }
 
     fn lodge_schedule(&mut self, text: &[u8], from: usize) -> Result<Answer, Refusal> {

@@ -51,7 +51,7 @@ pub fn lodge_list<const ALL: bool>(input: &[u8], out: &mut [u64], bounds: &mut [
         let answer = docket.lodge(&input[at..end]);
         let numbers = match answer {
             Answer::Refused(r) => [r.number, r.line as u64, r.unit as u64, r.period as u64],
-            Answer::ProblemHeld => [1, 0, 0, 0],
+            Answer::TextHeld => [1, 0, 0, 0],
             Answer::ScheduleHeld(cost) => [2, cost, 0, 0],
             Answer::SchedulePassed(cost) => [3, cost, 0, 0],
             Answer::TreeHeld(f) => [4, f.splits, f.leaves, 0],
@@ -104,7 +104,7 @@ fn put_answer(page: &mut Page, answer: Answer) {
             page.put(b",");
             page.put_number(r.period as u64);
         }
-        Answer::ProblemHeld => page.put(b"answer=held"),
+        Answer::TextHeld => page.put(b"answer=held"),
         Answer::ScheduleHeld(cost) => {
             page.put(b"answer=held,");
             page.put_number(cost);

@@ -11,7 +11,7 @@ use Rattle.writer.specs.Written.{figureOf}
 use Rattle.writer.specs.declared.Figure.{Figure}
 use Rattle.writer.specs.declared.Figure.the-variants.{Number}
 use Rattle.answer.specs.declared.Answer.{Answer}
-use Rattle.answer.specs.declared.Answer.the-variants.{Refused, ProblemHeld, ScheduleHeld, SchedulePassed, TreeHeld, TreePassed}
+use Rattle.answer.specs.declared.Answer.the-variants.{Refused, TextHeld, ScheduleHeld, SchedulePassed, TreeHeld, TreePassed}
 use Rattle.answer.specs.declared.TreeFigures.{TreeFigures}
 use Rattle.answer.specs.Answers.{its-cost, tree-values, stated}
 use Rattle.answer.specs.AnswerLines.{bound-figure, values-of, ending, held-key, passed-key, answer-line}
@@ -27,9 +27,9 @@ module _ (a : Answer) where
   pub is-refused : (r : Refusal) → a ≡ Refused r → answer-line (stated (Refused r)) ≡ answer-line (stated a)
   is-refused r e = sym (ap (λ (x : Answer). answer-line (stated x)) e)
 
-  pub is-problem-held : a ≡ ProblemHeld → held-key ++ ending [] ≡ answer-line (stated a)
+  pub is-text-held : a ≡ TextHeld → held-key ++ ending [] ≡ answer-line (stated a)
   unfolding answer-line
-  is-problem-held e = sym (ap (λ (x : Answer). answer-line (stated x)) e)
+  is-text-held e = sym (ap (λ (x : Answer). answer-line (stated x)) e)
 
   pub is-schedule-held : (c : ℕ) → a ≡ ScheduleHeld c → held-key ++ ending (values-of (its-cost c)) ≡ answer-line (stated a)
   unfolding answer-line

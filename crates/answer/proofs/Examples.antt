@@ -9,10 +9,10 @@ use Rattle.answer.specs.Answers.{no-values, its-cost, its-bound, refused
 use Rattle.answer.specs.AnswerLines.{answer-line}
 
 -- answer=held
-problem-held : answer-line (held no-values)
+text-held : answer-line (held no-values)
     ≡ 97 ∷ 110 ∷ 115 ∷ 119 ∷ 101 ∷ 114 ∷ 61 ∷ 104 ∷ 101 ∷ 108 ∷ 100 ∷ 10 ∷ []
 unfolding answer-line figure figureOf digits digitsBy
-problem-held = refl
+text-held = refl
 
 -- answer=held,1980
 schedule-held : answer-line (held (its-cost 1980))

@@ -14,10 +14,10 @@ unfolding answer-numbers pad
 ramp-refused = refl
 
 -- answer=held
-problem-held : answer-numbers (held no-values)
+text-held : answer-numbers (held no-values)
     ≡ 1 ∷ 0 ∷ 0 ∷ 0 ∷ 0 ∷ 0 ∷ 0 ∷ 0 ∷ 0 ∷ 0 ∷ 0 ∷ 0 ∷ 0 ∷ 0 ∷ 0 ∷ 0 ∷ []
 unfolding answer-numbers pad
-problem-held = refl
+text-held = refl
 
 -- answer=held,1980
 schedule-held : answer-numbers (held (its-cost 1980))

@@ -12,7 +12,7 @@ bound-numbers (number (pos n)) = 2 ∷ n ∷ []
 bound-numbers (number (negsuc n)) = 3 ∷ suc n ∷ []
 bound-numbers never = 4 ∷ 0 ∷ []
 
--- what follows `held` or `passed`: 0 for a problem, 1 and a schedule's cost, a tree's bound, splits and leaves
+-- what follows `held` or `passed`: 0 for a text that is neither schedule nor tree, 1 and a schedule's cost, a tree's bound, splits and leaves
 abbrev pub value-numbers : Values → List ℕ
 value-numbers no-values = 0 ∷ []
 value-numbers (its-cost c) = 1 ∷ c ∷ []

@@ -4,10 +4,10 @@ use Prim.Native.Nat.{ℕ}
 use Rattle.model.specs.Tree.{Bound}
 use Rattle.tree.specs.Coded.{bound-of}
 use Rattle.answer.specs.declared.Answer.{Answer}
-use Rattle.answer.specs.declared.Answer.the-variants.{Refused, ProblemHeld, ScheduleHeld, SchedulePassed, TreeHeld, TreePassed}
+use Rattle.answer.specs.declared.Answer.the-variants.{Refused, TextHeld, ScheduleHeld, SchedulePassed, TreeHeld, TreePassed}
 use Rattle.answer.specs.declared.TreeFigures.{TreeFigures}
 
--- what follows `held` or `passed`: nothing for a problem, a schedule's cost, a tree's bound, splits and leaves
+-- what follows `held` or `passed`: nothing for a text that is neither schedule nor tree, a schedule's cost, a tree's bound, splits and leaves
 pub data Values : Type 0 where
   no-values : Values
   its-cost : ℕ → Values
@@ -25,7 +25,7 @@ tree-values f = its-bound (bound-of (f .bound)) (f .splits) (f .leaves)
 -- every case
 abbrev pub stated : Answer → Stated
 stated (Refused r) = refused (r .number) (r .line) (r .unit) (r .period)
-stated ProblemHeld = held no-values
+stated TextHeld = held no-values
 stated (ScheduleHeld c) = held (its-cost c)
 stated (SchedulePassed c) = passed (its-cost c)
 stated (TreeHeld f) = held (tree-values f)

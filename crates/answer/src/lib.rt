@@ -20,10 +20,10 @@ pub struct TreeFigures {
     pub leaves: usize,
 }
 
-// Refused; or held or passed, a schedule with its cost and a tree with its figures.
+// Refused; or held or passed, a schedule with its cost and a tree with its figures; or held, any other text, with none.
 pub enum Answer {
     Refused(Refusal),
-    ProblemHeld,
+    TextHeld,
     ScheduleHeld(u64),
     SchedulePassed(u64),
     TreeHeld(TreeFigures),
@@ -142,7 +142,7 @@ pub fn write_answer(buf: &mut [u8], answer: Answer) -> usize
 {
     match answer {
         Answer::Refused(r) => write_refusal(buf, r),
-        Answer::ProblemHeld => writer::write_bytes(buf, b"answer=held\n"),
+        Answer::TextHeld => writer::write_bytes(buf, b"answer=held\n"),
         Answer::ScheduleHeld(c) => write_cost(buf, b"answer=held", c),
         Answer::SchedulePassed(c) => write_cost(buf, b"answer=passed", c),
         Answer::TreeHeld(f) => write_tree(buf, b"answer=held", f),

@@ -66,7 +66,7 @@ pub fn answer_numbers(answer: Answer) -> [u64; 16]
 {
     match answer {
         Answer::Refused(r) => refusal_numbers(r),
-        Answer::ProblemHeld => [HELD, 0, 0, 0, 0, 0, 0, 0, 0, 0, 0, 0, 0, 0, 0, 0],
+        Answer::TextHeld => [HELD, 0, 0, 0, 0, 0, 0, 0, 0, 0, 0, 0, 0, 0, 0, 0],
         Answer::ScheduleHeld(c) => cost_numbers(HELD, c),
         Answer::SchedulePassed(c) => cost_numbers(PASSED, c),
         Answer::TreeHeld(f) => tree_numbers(HELD, f),

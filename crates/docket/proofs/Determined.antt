@@ -23,7 +23,7 @@ use Rattle.docket.specs.declared.held.HeldCost.the-variants as cost
 use Rattle.docket.specs.declared.held.HeldBound.{HeldBound}
 use Rattle.docket.specs.declared.held.HeldBound.the-variants as bound
 use Rattle.answer.specs.declared.Answer.{Answer}
-use Rattle.answer.specs.declared.Answer.the-variants.{Refused, ProblemHeld, ScheduleHeld, SchedulePassed, TreeHeld, TreePassed}
+use Rattle.answer.specs.declared.Answer.the-variants.{Refused, TextHeld, ScheduleHeld, SchedulePassed, TreeHeld, TreePassed}
 use Rattle.docket.specs.Docket.{fresh-docket}
 use Rattle.answer.specs.Answers as answers
 use Rattle.answer.specs.Answers.{no-values, its-cost, its-bound, Stated, stated}
@@ -45,17 +45,17 @@ given-back (given.Number z) = refl
 -- the answer with these values
 answer-of : Stated → Answer
 answer-of (answers.refused n l u t) = Refused (record { number = n; line = l; unit = u; period = t })
-answer-of (answers.held no-values) = ProblemHeld
+answer-of (answers.held no-values) = TextHeld
 answer-of (answers.held (its-cost c)) = ScheduleHeld c
 answer-of (answers.held (its-bound b m n)) = TreeHeld (record { bound = coded b; splits = m; leaves = n })
-answer-of (answers.passed no-values) = ProblemHeld
+answer-of (answers.passed no-values) = TextHeld
 answer-of (answers.passed (its-cost c)) = SchedulePassed c
 answer-of (answers.passed (its-bound b m n)) = TreePassed (record { bound = coded b; splits = m; leaves = n })
 
 answer-back : (a : Answer) → answer-of (stated a) ≡ a
 unfolding answer-of
 answer-back (Refused r) = refl
-answer-back ProblemHeld = refl
+answer-back TextHeld = refl
 answer-back (ScheduleHeld c) = refl
 answer-back (SchedulePassed c) = refl
 answer-back (TreeHeld f) = ap (λ (b : code.Bound). TreeHeld (record { bound = b; splits = f .splits; leaves = f .leaves })) (given-back (f .bound))

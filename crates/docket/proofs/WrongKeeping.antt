@@ -11,7 +11,7 @@ use Rattle.docket.specs.declared.held.HeldCost.the-variants as cost
 use Rattle.docket.specs.declared.held.HeldBound.{HeldBound}
 use Rattle.docket.specs.declared.held.HeldBound.the-variants as bound
 use Rattle.answer.specs.declared.Answer.{Answer}
-use Rattle.answer.specs.declared.Answer.the-variants.{Refused, ProblemHeld, ScheduleHeld, SchedulePassed, TreeHeld, TreePassed}
+use Rattle.answer.specs.declared.Answer.the-variants.{Refused, TextHeld, ScheduleHeld, SchedulePassed, TreeHeld, TreePassed}
 use Rattle.docket.specs.Docket.{fresh-docket, no-cost, no-bound}
 use Rattle.answer.specs.Answers as answers
 use Rattle.answer.specs.Answers.{stated}
@@ -57,7 +57,7 @@ refused-changes-fails D = states.unheld-changes wrong.refused-changes D (record 
 
     gone : (x : Docket) (a : Answer) → stated a ≡ answers.refused 41 0 0 0 → wrong.left-by x a ≡ d → fresh-docket ≡ d
     gone x (Refused r) e p = p
-    gone x ProblemHeld e p = absurd (let z : _≡_ {A = ℕ} 0 1 = cc in omega arith)
+    gone x TextHeld e p = absurd (let z : _≡_ {A = ℕ} 0 1 = cc in omega arith)
     gone x (ScheduleHeld c) e p = absurd (let z : _≡_ {A = ℕ} 0 1 = cc in omega arith)
     gone x (SchedulePassed c) e p = absurd (let z : _≡_ {A = ℕ} 0 1 = cc in omega arith)
     gone x (TreeHeld f) e p = absurd (let z : _≡_ {A = ℕ} 0 1 = cc in omega arith)

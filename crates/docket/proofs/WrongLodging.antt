@@ -16,7 +16,7 @@ use Rattle.tree.specs.Rendering as trees
 use Rattle.tree.specs.Coded.{bound-of}
 use Rattle.docket.specs.declared.Docket.{Docket}
 use Rattle.answer.specs.declared.Answer.{Answer}
-use Rattle.answer.specs.declared.Answer.the-variants.{Refused, ProblemHeld, ScheduleHeld, SchedulePassed, TreeHeld, TreePassed}
+use Rattle.answer.specs.declared.Answer.the-variants.{Refused, TextHeld, ScheduleHeld, SchedulePassed, TreeHeld, TreePassed}
 use Rattle.answer.specs.declared.TreeFigures.{TreeFigures}
 use Rattle.docket.specs.Docket.{fresh-docket}
 use Rattle.answer.specs.Answers as answers
@@ -63,7 +63,7 @@ retold-carries : (f : TreeFigures → TreeFigures) (a : Answer) (w : Values) →
     → (A : Type 0) → ((x : TreeFigures) → tree-values (f x) ≡ w → A) → (w ≡ no-values → A) → ((c : ℕ) → its-cost c ≡ w → A)
     → A
 retold-carries f (Refused r) w e A k n c = absurd e
-retold-carries f ProblemHeld w e A k n c = n (sym e)
+retold-carries f TextHeld w e A k n c = n (sym e)
 retold-carries f (ScheduleHeld x) w e A k n c = c x e
 retold-carries f (SchedulePassed x) w e A k n c = c x e
 retold-carries f (TreeHeld x) w e A k n c = k x e
@@ -78,7 +78,7 @@ carries-more : (f : TreeFigures → TreeFigures) (a : Answer) (b : Bound) (m n :
     → (A : Type 0) → ((x : TreeFigures) → tree-values x ≡ its-bound b m n → Carries (stated (wrong.retold f a)) (tree-values (f x)) → A)
     → A
 carries-more f (Refused r) b m n e A k = absurd (let z : _≡_ {A = ℕ} 0 1 = cc in omega arith)
-carries-more f ProblemHeld b m n e A k = absurd (let z : _≡_ {A = ℕ} 0 1 = cc in omega arith)
+carries-more f TextHeld b m n e A k = absurd (let z : _≡_ {A = ℕ} 0 1 = cc in omega arith)
 carries-more f (ScheduleHeld c) b m n e A k = absurd (let z : _≡_ {A = ℕ} 0 1 = cc in omega arith)
 carries-more f (SchedulePassed c) b m n e A k = absurd (let z : _≡_ {A = ℕ} 0 1 = cc in omega arith)
 carries-more f (TreeHeld x) b m n e A k = k x (let p : tree-values x ≡ its-bound b m n = cc in p) refl

@@ -17,7 +17,7 @@ use Rattle.docket.specs.declared.admission.Admission.{Admission}
 use Rattle.docket.specs.declared.admission.Admission.the-variants as admission
 use Rattle.docket.specs.declared.admission.Screened.{Screened}
 use Rattle.docket.specs.declared.admission.Screened.the-variants as screened
-use Rattle.answer.specs.declared.Answer.the-variants.{Refused, ProblemHeld, ScheduleHeld, SchedulePassed, TreeHeld, TreePassed}
+use Rattle.answer.specs.declared.Answer.the-variants.{Refused, TextHeld, ScheduleHeld, SchedulePassed, TreeHeld, TreePassed}
 use Rattle.answer.specs.declared.TreeFigures.{TreeFigures}
 use Rattle.docket.specs.Lodging.{pick, lodged, with-held, with-problem, is-less, is-higher, bound-by}
 
@@ -31,7 +31,7 @@ screen admission.Tree = screened.Admitted
 -- a problem's text, read
 abbrev pub hold-problem : Docket → ProblemAnswer → Problem → Lodged
 hold-problem was (problem-answer.Refused r) p = lodged was (Refused r)
-hold-problem was problem-answer.Accepted p = lodged (with-problem p) ProblemHeld
+hold-problem was problem-answer.Accepted p = lodged (with-problem p) TextHeld
 
 -- a schedule's, with its rows in an array
 abbrev pub hold-rows : Docket → Priced → List ℕ → Lodged

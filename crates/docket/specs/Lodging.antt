@@ -31,7 +31,7 @@ use Rattle.docket.specs.declared.held.HeldBound.the-variants as bound
 use Rattle.docket.specs.declared.admission.Admission.{Admission}
 use Rattle.docket.specs.declared.admission.Admission.the-variants as admission
 use Rattle.answer.specs.declared.Answer.{Answer}
-use Rattle.answer.specs.declared.Answer.the-variants.{Refused, ProblemHeld, ScheduleHeld, SchedulePassed, TreeHeld, TreePassed}
+use Rattle.answer.specs.declared.Answer.the-variants.{Refused, TextHeld, ScheduleHeld, SchedulePassed, TreeHeld, TreePassed}
 use Rattle.answer.specs.declared.TreeFigures.{TreeFigures}
 use Rattle.docket.specs.Docket.{nothing-held, fresh-docket, sound}
 use Rattle.docket.specs.Verdicts.{Costed, Verdict, refused, problem, schedule, tree}
@@ -125,7 +125,7 @@ given-figures F = record { bound = coded (F .bound); splits = F .splits; leaves 
 -- what was given stays where the text is refused or passed; an accepted text is held over d
 abbrev pub hold : Docket → Docket → Verdict → Lodged
 hold was d (refused r) = lodged was (Refused r)
-hold was d (problem P) = lodged (with-problem (arrays.held P)) ProblemHeld
+hold was d (problem P) = lodged (with-problem (arrays.held P)) TextHeld
 hold was d (schedule s) =
     pick (is-less (s .cost) (d .held .cost)) (lodged (with-schedule d s) (ScheduleHeld (s .cost))) (lodged was (SchedulePassed (s .cost)))
 hold was d (tree F) =

@@ -17,7 +17,7 @@ use Rattle.docket.specs.declared.held.HeldCost.the-variants as cost
 use Rattle.docket.specs.declared.held.HeldBound.{HeldBound}
 use Rattle.docket.specs.declared.held.HeldBound.the-variants as bound
 use Rattle.answer.specs.declared.Answer.{Answer}
-use Rattle.answer.specs.declared.Answer.the-variants.{Refused, ProblemHeld, ScheduleHeld, SchedulePassed, TreeHeld, TreePassed}
+use Rattle.answer.specs.declared.Answer.the-variants.{Refused, TextHeld, ScheduleHeld, SchedulePassed, TreeHeld, TreePassed}
 use Rattle.docket.specs.Docket.{fresh-docket, no-cost, no-bound}
 use Rattle.docket.specs.Verdicts.{Costed, Verdict, refused, problem, schedule, tree}
 use Rattle.docket.specs.Lodging.{pick, judged, lodged, with-held, with-problem, with-schedule, with-bound, given-figures, is-less, is-higher, hold, lodge-of}
@@ -119,7 +119,7 @@ without-demand p = record { periods = p .periods; units = p .units; demand = rep
 
 abbrev pub hold-no-demand : Docket → Verdict → Lodged
 hold-no-demand d (refused r) = hold d d (refused r)
-hold-no-demand d (problem P) = lodged (with-problem (without-demand (arrays.held P))) ProblemHeld
+hold-no-demand d (problem P) = lodged (with-problem (without-demand (arrays.held P))) TextHeld
 hold-no-demand d (schedule s) = hold d d (schedule s)
 hold-no-demand d (tree F) = hold d d (tree F)
 
@@ -138,7 +138,7 @@ keeping-first-bound d text = pick (no-bound (d .held .bound)) (lodge-of d text) 
 -- a refused text leaves nothing
 abbrev pub left-by : Docket → Answer → Docket
 left-by d (Refused r) = fresh-docket
-left-by d ProblemHeld = d
+left-by d TextHeld = d
 left-by d (ScheduleHeld c) = d
 left-by d (SchedulePassed c) = d
 left-by d (TreeHeld x) = d

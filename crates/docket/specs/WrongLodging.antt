@@ -8,7 +8,7 @@ use Rattle.tree.specs.declared.figures.Bound.the-variants as given
 use Rattle.docket.specs.declared.Docket.{Docket}
 use Rattle.docket.specs.declared.Lodged.{Lodged}
 use Rattle.answer.specs.declared.Answer.{Answer}
-use Rattle.answer.specs.declared.Answer.the-variants.{Refused, ProblemHeld, ScheduleHeld, SchedulePassed, TreeHeld, TreePassed}
+use Rattle.answer.specs.declared.Answer.the-variants.{Refused, TextHeld, ScheduleHeld, SchedulePassed, TreeHeld, TreePassed}
 use Rattle.answer.specs.declared.TreeFigures.{TreeFigures}
 use Rattle.docket.specs.Docket.{fresh-docket}
 use Rattle.docket.specs.Lodging.{pick, lodged, lodge-of}
@@ -20,7 +20,7 @@ refuse-all d text = lodged d (Refused (record { number = 12; line = 1; unit = 0;
 -- the same docket, with another answer for a tree
 abbrev pub retold : (TreeFigures → TreeFigures) → Answer → Answer
 retold f (Refused r) = Refused r
-retold f ProblemHeld = ProblemHeld
+retold f TextHeld = TextHeld
 retold f (ScheduleHeld c) = ScheduleHeld c
 retold f (SchedulePassed c) = SchedulePassed c
 retold f (TreeHeld x) = TreeHeld (f x)

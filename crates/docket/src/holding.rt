@@ -76,7 +76,7 @@ pub fn hold_problem(was: Docket, answer: ProblemAnswer, problem: Problem) -> Lod
             };
             Lodged {
                 docket,
-                answer: Answer::ProblemHeld,
+                answer: Answer::TextHeld,
             }
         }
     }

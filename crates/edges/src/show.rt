@@ -69,7 +69,7 @@ fn print_tree(figures: TreeFigures) {
 fn print_answer(answer: Answer) {
     match answer {
         Answer::Refused(r) => print_refusal(r),
-        Answer::ProblemHeld => print(b"held"),
+        Answer::TextHeld => print(b"held"),
         Answer::ScheduleHeld(cost) => {
             print(b"held");
             print_value(cost);

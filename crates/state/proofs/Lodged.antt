@@ -60,7 +60,7 @@ module _ (v w : List ℕ) (d : Docket) (r : long v w ≡ true) (F : Fits d) wher
 
 pub held-or-not : (a : Answer) → is-held a ≡ false → Unheld (stated a)
 held-or-not (answer.Refused r) e = tt
-held-or-not answer.ProblemHeld e = clash (sym e)
+held-or-not answer.TextHeld e = clash (sym e)
 held-or-not (answer.ScheduleHeld c) e = clash (sym e)
 held-or-not (answer.SchedulePassed c) e = tt
 held-or-not (answer.TreeHeld f) e = clash (sym e)
@@ -68,7 +68,7 @@ held-or-not (answer.TreePassed f) e = tt
 
 unheld-not : (a : Answer) → Unheld (stated a) → is-held a ≡ false
 unheld-not (answer.Refused r) u = refl
-unheld-not answer.ProblemHeld u = absurd u
+unheld-not answer.TextHeld u = absurd u
 unheld-not (answer.ScheduleHeld c) u = absurd u
 unheld-not (answer.SchedulePassed c) u = refl
 unheld-not (answer.TreeHeld f) u = absurd u

@@ -43,7 +43,7 @@ kept-rows d w = over (d .rows) w
 
 abbrev pub is-held : Answer → Bool
 is-held (answer.Refused r) = false
-is-held answer.ProblemHeld = true
+is-held answer.TextHeld = true
 is-held (answer.ScheduleHeld c) = true
 is-held (answer.SchedulePassed c) = false
 is-held (answer.TreeHeld f) = true

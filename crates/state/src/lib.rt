@@ -107,7 +107,7 @@ fn is_held(answer: Answer) -> bool
 {
     match answer {
         Answer::Refused(_) => false,
-        Answer::ProblemHeld => true,
+        Answer::TextHeld => true,
         Answer::ScheduleHeld(_) => true,
         Answer::SchedulePassed(_) => false,
         Answer::TreeHeld(_) => true,

@@ -6,7 +6,7 @@ use mathlib.Core.Path.{ap, _∙_}
 use mathlib.Core.List.{List}
 use lib.ListN.{length}
 use Rattle.writer.specs.Written.{over}
-use Rattle.answer.proofs.Cases.{is-refused, is-problem-held, is-schedule-held, is-schedule-passed, is-tree-held, is-tree-passed}
+use Rattle.answer.proofs.Cases.{is-refused, is-text-held, is-schedule-held, is-schedule-passed, is-tree-held, is-tree-passed}
 use Rattle.answer.proofs.write_answer.Statement.{statement}
 use Rattle.answer.proofs.write_answer.Tie as tie
 
@@ -27,7 +27,7 @@ slice-aggregate-write-bytes c = search needs
 write-bytes-requires : tie.Need-write-bytes-requires
 write-bytes-requires c κs =
     let st = c .before .before .before .before .before in
-    omega (arith, ap length (is-problem-held (st .args .answer) (c .before .before .enum-told .given .1)), st .pre)
+    omega (arith, ap length (is-text-held (st .args .answer) (c .before .before .enum-told .given .1)), st .pre)
 
 enum-known-answer-2 : tie.Need-enum-known-answer-2
 enum-known-answer-2 c = search needs
@@ -89,7 +89,7 @@ same-length-2 c = search needs
 returns-2 : tie.Need-returns-2
 returns-2 c =
     let st = c .before .before .before .before .before .before .before .before in
-    let q = is-problem-held (st .args .answer) (c .before .before .before .before .before .enum-told .given .1) in
+    let q = is-text-held (st .args .answer) (c .before .before .before .before .before .enum-told .given .1) in
     let w = c .before .before .write-bytes in
     (w .ensures .0 ∙ ap length q, w .ensures .1 ∙ ap (λ (l : List ℕ). over l (st .args .buf .now)) q)
 
