@@ -1,34 +1,51 @@
-// What lodging a text and asking for a report answer where the listing program does not reach: texts at the largest size, bytes after an
-// end line, the report's place, what is held, and dockets that no lodging makes. Prints a line for each case.
-mod endings;
-mod keeping;
+// Carries out the orders of standard input, line by line: lodges texts in dockets, asks for reports, and prints a line for each. The file
+// stdin beside src/ says what orders there are.
+ghost use mathlib.Core.Path.{_≡_};
+ghost use lib.ListN.{length};
+use crate::desk::Desk;
+use libc::STDIN_FILENO;
+
+mod desk;
+mod fields;
 mod orders;
-mod places;
-mod reports;
 mod show;
-mod sizes;
 mod texts;
-mod unreached;
+mod words;
+
+// Zeros: room for the orders, and one byte more, which tells that there are too many.
+fn input_room() -> [u8; 65537]
+    ensures { λ r. ⌜ 65537 ≡ length r ⌝ }
+{
+    [0; 65537]
+}
+
+// Zeros: room for a text that is one byte too long.
+fn text_room() -> [u8; 1048577]
+    ensures { λ r. ⌜ 1048577 ≡ length r ⌝ }
+{
+    [0; 1048577]
+}
+
+// Carries out the orders.
+fn run(input: &[u8], text: &mut [u8]) {
+    let mut desk = Desk::fresh();
+    let mut at = 0;
+    while at < input.len() {
+        let end = bytes::scan::find(input, at, input.len(), 10);
+        desk = orders::run(desk, &input[at..end], text);
+        if end == input.len() {
+            return;
+        }
+        at = end + 1;
+    }
+}
 
 fn main() {
-    endings::problem();
-    endings::schedule();
-    endings::tree();
-    orders::nothing_held();
-    orders::problem_held();
-    places::fresh();
-    places::filled();
-    reports::one_side();
-    reports::both_sides();
-    reports::never();
-    reports::negative();
-    keeping::schedules();
-    keeping::trees();
-    unreached::blank_problem();
-    unreached::long_problem();
-    unreached::large_cost();
-    unreached::large_bounds();
-    unreached::nothing_known();
-    sizes::empty_lines();
-    sizes::digits();
+    let mut input = input_room();
+    let mut text = text_room();
+    let n = io::read_full(STDIN_FILENO, &mut input);
+    if n == 65537 {
+        show::misread(b"more than 65536 bytes");
+    }
+    run(&input[..n], &mut text);
 }

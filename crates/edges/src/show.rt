@@ -20,6 +20,13 @@ pub fn print(s: &[u8]) {
     io::write_all(STDOUT_FILENO, s);
 }
 
+// Prints a line that is no order.
+pub fn misread(line: &[u8]) {
+    print(b"not understood: ");
+    print(line);
+    print(b"\n");
+}
+
 // Prints a number.
 fn print_number(n: u64) {
     io::print_decimal(STDOUT_FILENO, n);

@@ -1,32 +1,102 @@
-// Dockets that hold what document 01's example lodges.
-use docket::Docket;
+// Orders on the text. It is the front of a lent array, of so many bytes as its size says, and each order returns its size.
+ghost use mathlib.Core.Path.{_≡_};
+ghost use mathlib.Core.List.{map};
+ghost use Prim.Native.Nat.{_≤_};
+ghost use lib.ListN.{length, take, replicate};
+ghost use Rattle.writer.specs.Written.{over};
+ghost use Rattle.edges.specs.Texts.{byte-of};
+use crate::show;
+use crate::words;
+use crate::words::Numeral;
 
-// The docket after document 01's problem was lodged in a fresh one.
-pub fn with_problem() -> Docket {
-    let d = Docket::fresh();
-    let lodged = d.lodge(
-        b"kind=problem\nperiods=2\nunits=2\ndemand=60,100\nspare=10,10\nunit=100,10,0,20,80,2,2,3,30,30,50,90,1,5\nunit=40,14,0,10,50,1,1,-2,50,50,20,60,0,0\nend=problem\n",
-    );
-    lodged.docket
+// The byte that b stands for: byte 10 for a slash, else b.
+fn byte_of(b: u8) -> u8
+    ensures { λ r. ⌜ r ≡ byte-of b ⌝ }
+{
+    if b == 47 {
+        return 10;
+    }
+    b
 }
 
-// The docket after document 01's schedule was lodged in d.
-pub fn with_schedule(d: Docket) -> Docket {
-    let lodged = d.lodge(b"kind=schedule\nwriter=7\nrun=60,80\nrun=0,20\nend=schedule\n");
-    lodged.docket
+// Puts the bytes that s stands for at the front of buf.
+fn put(buf: &mut [u8], s: &[u8])
+    requires { ⌜ length (now s) ≤ length (now buf) ⌝ }
+    ensures { λ _. ⌜ now (buf .exit) ≡ over (map byte-of (now (s .entry))) (now (buf .entry)) ⌝ }
+{
+    let mut i = 0;
+    while i < s.len() {
+        buf[i] = byte_of(s[i]);
+        i += 1;
+    }
 }
 
-// The docket after document 01's tree was lodged in d.
-pub fn with_tree(d: Docket) -> Docket {
-    let lodged = d.lodge(
-        b"kind=tree\nwriter=3\nsplit=2,2\nshort=2\nprice=10,14\nreserve=0,0\nend=tree\n",
-    );
-    lodged.docket
+// Makes all bytes of buf this one.
+fn repeat(buf: &mut [u8], b: u8)
+    ensures { λ _. ⌜ now (buf .exit) ≡ replicate (length (now (buf .entry))) b ⌝ }
+{
+    let mut i = 0;
+    while i < buf.len() {
+        buf[i] = b;
+        i += 1;
+    }
 }
 
-// The docket that document 01's example leaves: a problem, the cost 1980 by 7 and the bound 1980 by 3.
-pub fn filled() -> Docket {
-    let problem = with_problem();
-    let schedule = with_schedule(problem);
-    with_tree(schedule)
+// The text of this size.
+pub fn front(text: &[u8], size: usize) -> &[u8]
+    ensures { λ r. ⌜ now r ≡ take size (now (text .entry)) ⌝ }
+{
+    if size <= text.len() {
+        return &text[..size];
+    }
+    text
+}
+
+// The size as it was; prints the line.
+fn misread(size: usize, line: &[u8]) -> usize {
+    show::misread(line);
+    size
+}
+
+// The text goes on with the bytes that the line gives.
+pub fn more(size: usize, line: &[u8], text: &mut [u8]) -> usize {
+    let s = words::rest(line);
+    if size <= text.len() {
+        if s.len() <= text.len() - size {
+            put(&mut text[size..], s);
+            return size + s.len();
+        }
+    }
+    misread(size, line)
+}
+
+// The text goes on with the byte that the line gives, up to the size that it gives.
+pub fn fill(size: usize, line: &[u8], text: &mut [u8]) -> usize {
+    let s = words::rest(line);
+    let Numeral::Value(n) = words::number(words::first(s)) else {
+        return misread(size, line);
+    };
+    let to = n as usize;
+    let byte = words::rest(s);
+    if byte.len() == 1 {
+        if size <= to {
+            if to <= text.len() {
+                repeat(&mut text[size..to], byte_of(byte[0]));
+                return to;
+            }
+        }
+    }
+    misread(size, line)
+}
+
+// The text is so many of its first bytes as the line says.
+pub fn cut(size: usize, line: &[u8]) -> usize {
+    let Numeral::Value(n) = words::number(words::rest(line)) else {
+        return misread(size, line);
+    };
+    let to = n as usize;
+    if to <= size {
+        return to;
+    }
+    misread(size, line)
 }

@@ -1,27 +1,16 @@
-//! The cases of `crates/edges`, asked of the second implementation: texts at the largest size, bytes after an end line, the report's place,
-//! what is held, and dockets that no lodging makes.
+//! The orders of `crates/edges/stdin`, carried out by the second implementation. That file says what orders there are.
 
-mod endings;
-mod keeping;
-mod orders;
-mod places;
-mod reports;
+mod desk;
+mod given;
 mod show;
-mod sizes;
-mod texts;
-mod unreached;
 
-use show::Lines;
+use desk::Desk;
 
-/// A line for each case, in the order of `crates/edges/stdout`.
-pub fn lines() -> Vec<String> {
-    let mut lines = Lines::default();
-    endings::cases(&mut lines);
-    orders::cases(&mut lines);
-    places::cases(&mut lines);
-    reports::cases(&mut lines);
-    keeping::cases(&mut lines);
-    unreached::cases(&mut lines);
-    sizes::cases(&mut lines);
-    lines.shown
+/// The lines that the orders print.
+pub fn lines(orders: &str) -> Vec<String> {
+    let mut desk = Desk::default();
+    for line in orders.split_terminator('\n') {
+        desk.run(line);
+    }
+    desk.lines
 }

@@ -1,30 +1,57 @@
-//! The lines of the cases.
+//! What a line shows.
 
-use second::{lodge, report, Answer, Docket, Figures, Refusal};
+use second::{report, Answer, Docket, Figures, Refusal};
+use std::fmt;
 
-/// The lines so far.
-#[derive(Default)]
-pub struct Lines {
-    pub shown: Vec<String>,
+/// What a docket holds: of the rows the first five outputs, with zeros after the last.
+#[derive(Clone)]
+pub struct Shown {
+    pub known: bool,
+    pub periods: usize,
+    pub units: usize,
+    pub cost: Option<String>,
+    pub bound: Option<String>,
+    pub outputs: [i64; 5],
 }
 
-impl Lines {
-    /// Lodges the text in the docket: a line of the name, the answer, and what the docket then holds.
-    pub fn lodge(&mut self, name: &str, docket: &mut Docket, text: &[u8]) {
-        let answer = answer_shown(lodge(docket, text));
-        self.shown.push(format!("{name}: {answer}; {}", docket_shown(docket)));
+impl Shown {
+    pub fn of(docket: &Docket) -> Shown {
+        let mut outputs = [0; 5];
+        let rows = docket.held_cost().map_or_else(Vec::new, |held| held.rows.concat());
+        for (output, shown) in rows.into_iter().zip(&mut outputs) {
+            *shown = output;
+        }
+        Shown {
+            known: docket.problem().is_some(),
+            periods: docket.problem().map_or(0, |problem| problem.demand.len()),
+            units: docket.problem().map_or(0, |problem| problem.units.len()),
+            cost: docket.held_cost().map(|held| format!("{},{}", held.cost, held.writer)),
+            bound: docket.held_bound().map(|held| format!("{},{}", held.bound, held.writer)),
+            outputs,
+        }
     }
+}
 
-    /// Asks for a report in a buffer of `size` letters: a line of the name, the answer, and the buffer.
-    pub fn ask(&mut self, name: &str, docket: &Docket, size: usize, at: usize) {
-        let mut buffer: Vec<u8> = (0..size).map(letter).collect();
-        let answer = match report(docket, &mut buffer, at) {
-            Ok(length) => length.to_string(),
-            Err(refusal) => refusal_shown(refusal),
-        };
-        let bytes: String = buffer.iter().map(|&byte| if byte == 10 { '/' } else { byte as char }).collect();
-        self.shown.push(format!("{name}: {answer} [{bytes}]"));
+impl fmt::Display for Shown {
+    fn fmt(&self, f: &mut fmt::Formatter) -> fmt::Result {
+        let none = || "none".to_string();
+        let problem = if self.known { format!("{},{}", self.periods, self.units) } else { none() };
+        let cost = self.cost.clone().unwrap_or_else(none);
+        let bound = self.bound.clone().unwrap_or_else(none);
+        let rows = self.outputs.map(|output| output.to_string()).join(",");
+        write!(f, "problem={problem} cost={cost} bound={bound} rows={rows}")
     }
+}
+
+/// The answer to a report at a place in a buffer of `size` letters, and the buffer.
+pub fn report_shown(docket: Docket, size: usize, place: usize) -> String {
+    let mut buffer: Vec<u8> = (0..size).map(letter).collect();
+    let answer = match report(&docket, &mut buffer, place) {
+        Ok(length) => length.to_string(),
+        Err(refusal) => refusal_shown(refusal),
+    };
+    let bytes: String = buffer.iter().map(|&byte| if byte == 10 { '/' } else { byte as char }).collect();
+    format!("{answer} [{bytes}]")
 }
 
 fn letter(place: usize) -> u8 {
@@ -36,6 +63,7 @@ fn refusal_shown(refusal: Refusal) -> String {
     format!("refused,{number},{line},{unit},{period}")
 }
 
+/// The answer to a text.
 pub fn answer_shown(answer: Answer) -> String {
     match answer {
         Answer::Refused(refusal) => refusal_shown(refusal),
@@ -50,15 +78,4 @@ fn figures_shown(figures: Figures) -> String {
         Figures::Schedule { cost } => format!(",{cost}"),
         Figures::Tree { bound, splits, leaves } => format!(",{bound},{splits},{leaves}"),
     }
-}
-
-/// What the docket holds, with the first five outputs of the rows and zeros after the last.
-fn docket_shown(docket: &Docket) -> String {
-    let none = || "none".to_string();
-    let problem = docket.problem().map_or_else(none, |held| format!("{},{}", held.demand.len(), held.units.len()));
-    let cost = docket.held_cost().map_or_else(none, |held| format!("{},{}", held.cost, held.writer));
-    let bound = docket.held_bound().map_or_else(none, |held| format!("{},{}", held.bound, held.writer));
-    let outputs = docket.held_cost().map_or_else(Vec::new, |held| held.rows.concat());
-    let rows: Vec<String> = outputs.into_iter().chain([0; 5]).take(5).map(|output| output.to_string()).collect();
-    format!("problem={problem} cost={cost} bound={bound} rows={}", rows.join(","))
 }

@@ -1,13 +1,30 @@
-//! The second implementation gives the lines that the proved program prints.
+//! The second implementation prints the lines that the proved program prints, of the same orders.
+
+const ORDERS: &str = include_str!("../../../crates/edges/stdin");
 
 const PROVED: &str = include_str!("../../../crates/edges/stdout");
 
 #[test]
 fn the_lines_are_those_of_the_proved_program() {
     let proved: Vec<&str> = PROVED.lines().collect();
-    let second = edges::lines();
+    let second = edges::lines(ORDERS);
     for (theirs, ours) in proved.iter().zip(&second) {
         assert_eq!(theirs, ours);
     }
     assert_eq!(proved.len(), second.len());
+}
+
+#[test]
+fn there_are_116_cases() {
+    assert_eq!(PROVED.lines().count(), 116);
+    let cases = ORDERS.lines().filter(|line| line.starts_with("lodge ") || line.starts_with("ask "));
+    assert_eq!(cases.count(), 116);
+}
+
+#[test]
+fn a_line_that_is_no_order_shows() {
+    for line in ["lodges x", "fresh docket", "give 1", "keep 8", "take", "cut 1", "fill 3 xy", "fill 1048578 /", "ask 161 0 x", "set known 2", "set bound -0 1"] {
+        assert_eq!(edges::lines(line), [format!("not understood: {line}")]);
+    }
+    assert_eq!(edges::lines("# lodge x\n\n"), [""; 0]);
 }

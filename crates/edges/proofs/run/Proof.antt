@@ -1,0 +1,81 @@
+-- `run` ends: the place moves on past each line. The text's room keeps its length.
+use mathlib.Core.Path.{_≡_}
+use Prim.Native.Nat.{_≤_, _-_}
+use native.Mathlib.Omega.{arith}
+use borrow.Author.Needs.{needs}
+use lib.ListN.{length}
+use Rattle.edges.proofs.run.Statement.{statement}
+use Rattle.edges.proofs.run.Tie as tie
+
+abbrev Inv-loop : tie.InvT-loop
+Inv-loop input text₀ desk₀ at₀ text desk at = (at ≤ length input) × (length text ≡ length text₀)
+
+abbrev μ-loop : tie.MeasureT-loop
+μ-loop input text₀ desk₀ at₀ text desk at = length input - at
+
+fresh-requires : tie.Need-fresh-requires Inv-loop μ-loop
+fresh-requires c κs = search needs
+
+loop-holds : tie.Need-loop-holds Inv-loop μ-loop
+loop-holds c = omega arith
+
+find-requires : tie.Need-find-requires Inv-loop μ-loop
+find-requires c κs = search needs
+
+sub-run : tie.Need-sub-run Inv-loop μ-loop
+sub-run c = omega (arith, c .find .ensures .0)
+
+part-run-start : tie.Need-part-run-start Inv-loop μ-loop
+part-run-start c = omega (arith, c .find .ensures .0)
+
+part-run-end : tie.Need-part-run-end Inv-loop μ-loop
+part-run-end c = omega (arith, c .find .ensures .1)
+
+run-requires : tie.Need-run-requires Inv-loop μ-loop
+run-requires c κs = search needs
+
+same-length : tie.Need-same-length Inv-loop μ-loop
+same-length c = search needs
+
+returns : tie.Need-returns Inv-loop μ-loop
+returns c = search needs
+
+module _ (c : tie.Else1 Inv-loop μ-loop) where
+  abbrev found : tie.After-find Inv-loop μ-loop
+  found = c .before .before .before .before .before .before
+
+add-at : tie.Need-add-at Inv-loop μ-loop
+add-at c = omega (arith, c .if1 .left, found c .find .ensures .1)
+
+loop-less : tie.Need-loop-less Inv-loop μ-loop
+loop-less c = omega (arith, c .if1 .left, found c .find .ensures .0, found c .find .ensures .1)
+
+loop-again : tie.Need-loop-again Inv-loop μ-loop
+loop-again c = (omega (arith, c .if1 .left, found c .find .ensures .1), search needs)
+
+same-length-2 : tie.Need-same-length-2 Inv-loop μ-loop
+same-length-2 c = search needs
+
+returns-2 : tie.Need-returns-2 Inv-loop μ-loop
+returns-2 c = search needs
+
+pub run-spec : {M : Type 1} → statement M
+run-spec =
+    tie.close
+    (tie.spec
+    Inv-loop
+    μ-loop
+    fresh-requires
+    loop-holds
+    find-requires
+    sub-run
+    part-run-start
+    part-run-end
+    run-requires
+    same-length
+    returns
+    add-at
+    loop-less
+    loop-again
+    same-length-2
+    returns-2)

@@ -1,0 +1,155 @@
+// The words of an order.
+ghost use mathlib.Core.Path.{_≡_};
+ghost use mathlib.Core.Bool.{_&&_};
+ghost use Prim.Native.Nat.{_+_, _-_, _*_, _≤_};
+ghost use lib.Dec.{ltb};
+ghost use lib.ListN.{length};
+ghost use Rattle.bytes.specs.Bytes.{indexOf};
+ghost use Rattle.decimal.specs.Decimal.{isDigit, canonical};
+ghost use Rattle.text.specs.Lines.{same};
+ghost use Rattle.edges.specs.Words.{first-of, rest-of};
+ghost use Rattle.edges.specs.Numbers.{limit, value-of, number-of};
+
+// No number, or its value.
+pub enum Numeral {
+    Malformed,
+    Value(u64),
+}
+
+// No number with a minus or without, or its value.
+pub enum Integer {
+    Malformed,
+    Value(i64),
+}
+
+// The place of the first space, or the number of bytes where there is none.
+fn space(s: &[u8]) -> usize
+    ensures { λ r. ⌜ r ≡ indexOf 32 (now (s .entry)) ⌝ }
+    ensures { λ r. ⌜ r ≤ length (now (s .entry)) ⌝ }
+{
+    bytes::scan::find(s, 0, s.len(), 32)
+}
+
+// The first word.
+pub fn first(s: &[u8]) -> &[u8]
+    ensures { λ r. ⌜ now r ≡ first-of (now (s .entry)) ⌝ }
+{
+    let n = space(s);
+    &s[..n]
+}
+
+// What follows the first word and a space.
+pub fn rest(s: &[u8]) -> &[u8]
+    ensures { λ r. ⌜ now r ≡ rest-of (now (s .entry)) ⌝ }
+{
+    let n = space(s);
+    if n < s.len() {
+        let from = n + 1;
+        return &s[from..];
+    }
+    &s[n..]
+}
+
+// Whether s is the word.
+pub fn is(s: &[u8], word: &[u8]) -> bool
+    ensures { λ r. ⌜ r ≡ same (now (word .entry)) (now (s .entry)) ⌝ }
+{
+    if s.len() == word.len() {
+        return text::starts(s, 0, word);
+    }
+    false
+}
+
+// Whether the byte is a digit that can follow digits of this value, so that the value fits 64 bits.
+fn fits(v: u64, b: u8) -> bool
+    ensures { λ r. ⌜ r ≡ (isDigit b && ltb (v * 10 + (b - 48)) limit) ⌝ }
+{
+    if b < 48 {
+        return false;
+    }
+    if 57 < b {
+        return false;
+    }
+    if v == 1_844_674_407_370_955_161 {
+        return b < 54;
+    }
+    v < 1_844_674_407_370_955_161
+}
+
+// Whether s may begin a number: it has a byte, and the first of several is not 0.
+fn is_canonical(s: &[u8]) -> bool
+    ensures { λ r. ⌜ r ≡ canonical (now (s .entry)) ⌝ }
+{
+    if s.len() == 0 {
+        return false;
+    }
+    if s.len() == 1 {
+        return true;
+    }
+    s[0] != 48
+}
+
+// The value of the digits that s is, where it fits 64 bits.
+fn value(s: &[u8]) -> Numeral
+    ensures { λ r. ⌜ r ≡ value-of (now (s .entry)) ⌝ }
+{
+    let mut v: u64 = 0;
+    let mut i = 0;
+    while i < s.len() {
+        let b = s[i];
+        if fits(v, b) {
+            v = v * 10 + (b - 48) as u64;
+            i += 1;
+        } else {
+            return Numeral::Malformed;
+        }
+    }
+    Numeral::Value(v)
+}
+
+// The number that s is, where it fits 64 bits.
+pub fn number(s: &[u8]) -> Numeral
+    ensures { λ r. ⌜ r ≡ number-of (now (s .entry)) ⌝ }
+{
+    if is_canonical(s) {
+        return value(s);
+    }
+    Numeral::Malformed
+}
+
+// The number below 0 of this size. The complement of n - 1 is -n.
+fn minus(size: Numeral) -> Integer {
+    let Numeral::Value(n) = size else {
+        return Integer::Malformed;
+    };
+    if n == 0 {
+        return Integer::Malformed;
+    }
+    let less = n - 1;
+    if less < 9_223_372_036_854_775_808 {
+        return Integer::Value(!(less as i64));
+    }
+    Integer::Malformed
+}
+
+// The number from 0 on of this size.
+fn plus(size: Numeral) -> Integer {
+    let Numeral::Value(n) = size else {
+        return Integer::Malformed;
+    };
+    if n < 9_223_372_036_854_775_808 {
+        return Integer::Value(n as i64);
+    }
+    Integer::Malformed
+}
+
+// The number that s is, with a minus or without, where it fits 64 bits.
+pub fn signed(s: &[u8]) -> Integer {
+    if s.len() == 0 {
+        return Integer::Malformed;
+    }
+    if s[0] == 45 {
+        return minus(number(&s[1..]));
+    }
+    plus(number(s))
+}

@@ -1,0 +1,123 @@
+//! What the orders work on, and the orders.
+
+use crate::given::Given;
+use crate::show::{answer_shown, report_shown};
+
+/// One byte more than a text may have.
+const ROOM: usize = 1_048_577;
+
+/// The docket, those that are kept, the text, and the lines so far.
+#[derive(Default)]
+pub struct Desk {
+    docket: Given,
+    kept: [Given; 8],
+    text: Vec<u8>,
+    pub lines: Vec<String>,
+}
+
+impl Desk {
+    /// Carries out the line, or shows that it is no order.
+    pub fn run(&mut self, line: &str) {
+        if self.carried_out(line).is_none() {
+            self.lines.push(format!("not understood: {line}"));
+        }
+    }
+
+    fn carried_out(&mut self, line: &str) -> Option<()> {
+        let (word, rest) = parted(line);
+        match word {
+            _ if line.is_empty() || line.starts_with('#') => Some(()),
+            "text" => self.extend(0, bytes_of(rest)),
+            "more" => self.extend(self.text.len(), bytes_of(rest)),
+            "fill" => self.fill(rest),
+            "cut" => self.cut(number(rest)?),
+            "lodge" => self.lodge(rest),
+            "give" if line == word => self.give(),
+            "ask" => self.ask(rest),
+            "fresh" if line == word => self.take(Given::default()),
+            "keep" => self.keep(number(rest)?),
+            "take" => self.take(self.kept.get(number::<usize>(rest)?)?.clone()),
+            "set" => self.take(self.docket.clone().set(rest)?),
+            _ => None,
+        }
+    }
+
+    /// The text is its first `size` bytes, and then these.
+    fn extend(&mut self, size: usize, bytes: Vec<u8>) -> Option<()> {
+        if size + bytes.len() > ROOM {
+            return None;
+        }
+        self.text.truncate(size);
+        self.text.extend(bytes);
+        Some(())
+    }
+
+    fn fill(&mut self, rest: &str) -> Option<()> {
+        let (size, byte) = parted(rest);
+        let size = number(size)?;
+        let &[byte] = bytes_of(byte).as_slice() else {
+            return None;
+        };
+        if size < self.text.len() || ROOM < size {
+            return None;
+        }
+        self.text.resize(size, byte);
+        Some(())
+    }
+
+    fn cut(&mut self, size: usize) -> Option<()> {
+        if self.text.len() < size {
+            return None;
+        }
+        self.text.truncate(size);
+        Some(())
+    }
+
+    fn lodge(&mut self, name: &str) -> Option<()> {
+        let answer = self.docket.lodge(&self.text);
+        let holds = self.docket.shown();
+        self.lines.push(format!("{name}: {}; {holds}", answer_shown(answer)));
+        Some(())
+    }
+
+    fn give(&mut self) -> Option<()> {
+        self.docket.lodge(&self.text);
+        Some(())
+    }
+
+    fn ask(&mut self, rest: &str) -> Option<()> {
+        let (size, rest) = parted(rest);
+        let (place, name) = parted(rest);
+        let (size, place) = (number(size)?, number(place)?);
+        if 160 < size {
+            return None;
+        }
+        self.lines.push(format!("{name}: {}", report_shown(self.docket.judged(), size, place)));
+        Some(())
+    }
+
+    fn keep(&mut self, place: usize) -> Option<()> {
+        *self.kept.get_mut(place)? = self.docket.clone();
+        Some(())
+    }
+
+    fn take(&mut self, docket: Given) -> Option<()> {
+        self.docket = docket;
+        Some(())
+    }
+}
+
+/// The first word, and what follows it and a space.
+pub fn parted(line: &str) -> (&str, &str) {
+    line.split_once(' ').unwrap_or((line, ""))
+}
+
+/// The number that the word is, without leading zeros or a plus.
+pub fn number<N: std::str::FromStr + ToString>(word: &str) -> Option<N> {
+    word.parse().ok().filter(|number: &N| number.to_string() == word)
+}
+
+/// The bytes that a line gives, byte 10 for each slash.
+fn bytes_of(line: &str) -> Vec<u8> {
+    line.bytes().map(|byte| if byte == b'/' { 10 } else { byte }).collect()
+}
