@@ -13,11 +13,9 @@ use ghost.Atoms.{Atoms}
 use Rattle.docket.specs.Docket.{fresh-docket}
 use Rattle.docket.specs.Lodging.{lodge-of}
 use Rattle.docket.specs.Report.{report-of, buffer-of}
-use Rattle.docket.specs.Listing.{listed-of, output-of}
 use Rattle.docket.proofs.Docket.fresh as fresh
 use Rattle.docket.proofs.Docket.lodge as lodge
 use Rattle.docket.proofs.Docket.report as report
-use Rattle.docket.proofs.listing.list as list
 
 module _ {M : Type 1} (𝓤 : URA M) (H : Heap 𝓤) (A : Atoms 𝓤) (m : Memory → SProp 𝓤) (run : Routine → Fun 𝓤) where
   -- fresh(): a docket that holds nothing
@@ -43,13 +41,3 @@ module _ {M : Type 1} (𝓤 : URA M) (H : Heap 𝓤) (A : Atoms 𝓤) (m : Memor
             (fact 𝓤 (now (e .1 .0) ≡ buffer-of (a .0) (now (a .1 .0)) (a .1 .1 .0)));
       })
   report-says = refl
-
-  -- list(input, output): the answer, and the output
-  pub list-says : list.spec 𝓤 H A m run
-      ≡ closing 𝓤 H A list.ended (λ κs a. record {
-        ghost = Unit {0};
-        requires = λ g. emp 𝓤;
-        ensures = λ g r e. sep 𝓤 (fact 𝓤 (r ≡ listed-of (now (a .0)) (now (a .1 .0))))
-            (fact 𝓤 (now (e .1 .0) ≡ output-of (now (a .0)) (now (a .1 .0))));
-      })
-  list-says = refl

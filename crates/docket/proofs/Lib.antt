@@ -23,7 +23,6 @@ pub mod AnyDocket
 pub mod NeverHeld
 pub mod Contracts
 pub mod Promises
-pub mod ListingPromises
 pub mod Interleaved
 pub mod Specimens
 pub mod ShortLists
@@ -38,15 +37,9 @@ pub mod Shown
 pub mod WrongReports
 pub mod WrongReporting
 pub mod SpecimenList
-pub mod ListedExample
 pub mod Unsound
 pub mod Following
 pub mod Reports
-pub mod LineCounts
-pub mod AnswerSizes
-pub mod ListSizes
 pub mod Writers
 pub mod ReportSizes
 pub mod ReportExamples
-pub mod ListedSoFar
-pub mod ListedCases

@@ -62,16 +62,14 @@ use Rattle.docket.proofs.Docket.lodge.Statement as lodge
 use Rattle.docket.proofs.Docket.lodge.Met as lodge-met
 use Rattle.docket.proofs.Docket.report.Statement as report
 use Rattle.docket.proofs.Docket.report.Met as report-met
-use Rattle.docket.proofs.listing.list.Statement as list
-use Rattle.docket.proofs.listing.list.Met as list-met
 
 -- ---- Demand 1. Every call comes to its end and does nothing undefined, whatever bytes, docket value and place it is given
 
-pub calls-end : {M : Type 1} → fresh.statement M × lodge.statement M × report.statement M × list.statement M
-calls-end = (fresh-met.met, lodge-met.met, report-met.met, list-met.met)
+pub calls-end : {M : Type 1} → fresh.statement M × lodge.statement M × report.statement M
+calls-end = (fresh-met.met, lodge-met.met, report-met.met)
 
--- Those theorems ask nothing of the caller, and fix all that comes back: fresh-says, lodge-says, report-says, list-says of Contracts.antt. So `lodge-of`,
--- `report-of`, `buffer-of` and, in ListingPromises.antt, `listed-of` and `output-of` below are what the functions do
+-- Those theorems ask nothing of the caller, and fix all that comes back: fresh-says, lodge-says, report-says of Contracts.antt. So `lodge-of`, `report-of`
+-- and `buffer-of` below are what the functions do. The listing has a page of its own: crates/list/proofs/ListingPromises.antt
 
 -- A refused text gets the number and place that document 01 gives it, and no other text does: of every docket value, under the problem it judges by
 pub refused-gets : (d : Docket) → Long d → (text : List ℕ) (r : Refusal)

@@ -7,7 +7,6 @@ pub mod Texts
 pub mod ReportDue
 pub mod Demand3
 pub mod Interleaved
-pub mod Listing
 pub mod Promised
 pub mod WrongDockets
 pub mod WrongStates

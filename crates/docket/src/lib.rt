@@ -11,11 +11,10 @@ use answer::Answer;
 use model::arrays::Problem;
 use report::ReportAnswer;
 
-mod admission;
+pub mod admission;
 mod figures;
 pub mod held;
 mod holding;
-pub mod listing;
 mod lodging;
 pub mod sound;
 

@@ -20,7 +20,7 @@ use Rattle.docket.specs.declared.Reported.{Reported}
 use Rattle.docket.specs.Lodging.{pick, lodge-of}
 use Rattle.docket.specs.Report.{report-of, buffer-of}
 use Rattle.docket.specs.Demand3.{Unheld}
-use Rattle.docket.proofs.AnswerSizes.{answer-fits}
+use Rattle.list.proofs.AnswerSizes.{answer-fits}
 use Rattle.state.specs.Layout.{docket-in}
 use Rattle.state.specs.Kept.{long, holds, lodged-numbers, lodged-rows, outputs-count, outputs-of}
 use Rattle.state.proofs.Arrays.{demand-long, spare-long, units-long}

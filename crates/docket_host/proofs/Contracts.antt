@@ -10,7 +10,7 @@ use contract.Monad.{Fun, fact}
 use denote.Ref.{now}
 use denote.Triple.Clauses.{closing}
 use ghost.Atoms.{Atoms}
-use Rattle.docket.specs.Listing.{listed-of, output-of}
+use Rattle.list.specs.Listing.{listed-of, output-of}
 use Rattle.docket_host.specs.HostAnswer.{host-answer}
 use Rattle.state.specs.Layout.{numbers-count, rows-count}
 use Rattle.docket_host.specs.Calls.{rules, fresh-answer, fresh-numbers, fresh-rows, lodge-answer, lodge-numbers, lodge-rows, lodge-line, lodge-values, report-answer, report-bytes, outputs-answer, outputs-rows}

@@ -5,8 +5,8 @@ use native.Mathlib.Omega.{arith}
 use mathlib.Core.Path.{_≡_, refl, sym, ap}
 use mathlib.Core.List.{List}
 use lib.ListN.{length}
-use Rattle.docket.specs.Listing.{listing-text, listed-of}
-use Rattle.docket.proofs.ListedCases.{small-answer, large-answer}
+use Rattle.list.specs.Listing.{listing-text, listed-of}
+use Rattle.list.proofs.ListedCases.{small-answer, large-answer}
 use Rattle.docket_host.specs.HostAnswer.{too-small, host-answer}
 use Rattle.docket_host.proofs.ListingSizes.{listing-fits}
 

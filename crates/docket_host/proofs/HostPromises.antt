@@ -23,7 +23,7 @@ use Rattle.docket.specs.Docket.{sound}
 use Rattle.docket.specs.Verdicts.{Costed, Verdict, schedules}
 use Rattle.docket.specs.Texts.{Are}
 use Rattle.docket.specs.Lodging.{lodge-of}
-use Rattle.docket.specs.Listing.{listing-text, listed-of}
+use Rattle.list.specs.Listing.{listing-text, listed-of}
 use Rattle.docket.specs.Demand3.{Unheld}
 use Rattle.docket.specs.ReportDue.{ReportDue}
 use Rattle.docket.specs.Promised.{after, answer, given}

@@ -17,11 +17,11 @@ use Rattle.docket.specs.Docket.{nothing-held, fresh-docket}
 use Rattle.docket.specs.Lodging.{pick, lodge-of}
 use Rattle.docket.specs.Report.{report-text}
 use Rattle.docket.specs.Demand3.{docket-after, answers-to}
-use Rattle.docket.specs.Listing.{answer-lines, listed, too-much, listing-text}
-use Rattle.docket.proofs.ListSizes.{lines-fit}
+use Rattle.list.specs.Listing.{answer-lines, listed, too-much, listing-text}
+use Rattle.list.proofs.ListSizes.{lines-fit}
 use Rattle.docket.proofs.ReportSizes.{reached-most}
 use Rattle.docket.proofs.Reports.{shown-reached}
-use Rattle.docket.proofs.ListedCases.{eleven-size, nothing-size}
+use Rattle.list.proofs.ListedCases.{eleven-size, nothing-size}
 
 -- five bytes for each piece but the last, which has one
 pieces-few : (ps : List (List ℕ)) → Cut ps → 5 * length ps ≤ length (joined ps) + 4

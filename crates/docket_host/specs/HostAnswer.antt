@@ -1,7 +1,7 @@
 -- What a host gets for the listing's answer: one number.
 use Prim.Native.Nat.{ℕ}
-use Rattle.docket.specs.declared.listing.Listed.{Listed}
-use Rattle.docket.specs.declared.listing.Listed.the-variants.{TooSmall, Written}
+use Rattle.list.specs.declared.Listed.{Listed}
+use Rattle.list.specs.declared.Listed.the-variants.{TooSmall, Written}
 
 -- too little room: the largest number of 64 bits, which no listing is as long as
 abbrev pub too-small : ℕ

@@ -1,12 +1,12 @@
 // The docket for programs in C, Rust and Python (hosts/), in the archive libdocket_host.a: a docket that stays open, whose state lies in two
 // slices that the caller lends and keeps between calls; and the listing, one function on bytes.
 ghost use mathlib.Core.Path.{_≡_};
-ghost use Rattle.docket.specs.Listing.{listed-of, output-of};
+ghost use Rattle.list.specs.Listing.{listed-of, output-of};
 ghost use Rattle.state.specs.Layout.{numbers-count, rows-count};
 ghost use Rattle.docket_host.specs.HostAnswer.{host-answer};
 ghost use Rattle.docket_host.specs.Calls.{rules, fresh-answer, fresh-numbers, fresh-rows, lodge-room, lodge-answer, lodge-numbers, lodge-rows, lodge-line, lodge-values, report-number, report-answer, report-bytes, outputs-room, outputs-answer, outputs-rows};
 use docket::Docket;
-use docket::listing::Listed;
+use list::Listed;
 use report::ReportAnswer;
 
 // What a call answers where it does nothing (hosts/c/docket.h): too little is lent; the state holds no docket.
@@ -166,7 +166,7 @@ pub extern "C" fn docket_listing(input: &[u8], output: &mut [u8]) -> usize
     ensures answer { λ r. ⌜ r ≡ host-answer (listed-of (now (input .entry)) (now (output .entry))) ⌝ }
     ensures bytes { λ _. ⌜ now (output .exit) ≡ output-of (now (input .entry)) (now (output .entry)) ⌝ }
 {
-    let listed = docket::listing::list(input, output);
+    let listed = list::list(input, output);
     match listed {
         Listed::TooSmall => TOO_SMALL,
         Listed::Written(n) => n,

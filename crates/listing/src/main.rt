@@ -2,10 +2,9 @@
 // the report.
 ghost use mathlib.Core.Path.{_≡_};
 ghost use lib.ListN.{length};
-use docket::listing;
-use docket::listing::Listed;
 use libc::STDIN_FILENO;
 use libc::STDOUT_FILENO;
+use list::Listed;
 
 // Zeros: room for the most bytes that are listed and one more, which tells that there are too many.
 fn input_room() -> [u8; 65537]
@@ -25,7 +24,7 @@ fn main() {
     let mut input = input_room();
     let mut output = output_room();
     let n = io::read_full(STDIN_FILENO, &mut input);
-    let listed = listing::list(&input[..n], &mut output);
+    let listed = list::list(&input[..n], &mut output);
     match listed {
         Listed::TooSmall => {}
         Listed::Written(k) => {

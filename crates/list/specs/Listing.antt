@@ -7,14 +7,14 @@ use lib.ListN.{length}
 use Rattle.pieces.specs.Pieces.{pieces}
 use Rattle.writer.specs.Written.{over}
 use Rattle.answer.specs.declared.Answer.{Answer}
-use Rattle.docket.specs.declared.listing.Listed.{Listed}
-use Rattle.docket.specs.declared.listing.Listed.the-variants.{TooSmall, Written}
 use Rattle.docket.specs.Docket.{nothing-held, fresh-docket}
 use Rattle.answer.specs.Answers.{refused, stated}
 use Rattle.answer.specs.AnswerLines.{answer-line}
 use Rattle.docket.specs.Lodging.{pick, lodge-of}
 use Rattle.docket.specs.Demand3.{docket-after, answers-to}
 use Rattle.docket.specs.Report.{report-text}
+use Rattle.list.specs.declared.Listed.{Listed}
+use Rattle.list.specs.declared.Listed.the-variants.{TooSmall, Written}
 
 -- ---- a line for each answer
 

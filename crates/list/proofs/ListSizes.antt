@@ -8,20 +8,20 @@ use lib.ListN.{length, length-append}
 use Rattle.model.specs.Instance.{Instance}
 use Rattle.answer.specs.Answers.{stated}
 use Rattle.answer.specs.AnswerLines.{answer-line}
 use Rattle.docket.specs.declared.Docket.{Docket}
 use Rattle.docket.specs.declared.Lodged.{Lodged}
 use Rattle.docket.specs.Docket.{fresh-docket}
 use Rattle.docket.specs.Verdicts.{Verdict, known-after, known-at-end}
 use Rattle.docket.specs.Lodging.{lodge-of}
 use Rattle.docket.specs.Demand3.{docket-after, answers-to}
-use Rattle.docket.specs.Listing.{answer-lines}
 use Rattle.docket.proofs.OneVerdict.{Fine, verdict-of}
 use Rattle.docket.proofs.ListVerdicts.{verdicts-of}
 use Rattle.docket.proofs.GoodVerdicts.{Proper}
 use Rattle.docket.proofs.Reached.{docket-of}
 use Rattle.docket.proofs.Steps.{lodge-is}
 use Rattle.docket.proofs.Lists.{lodges}
-use Rattle.docket.proofs.AnswerSizes.{verdict-fits}
+use Rattle.list.specs.Listing.{answer-lines}
+use Rattle.list.proofs.AnswerSizes.{verdict-fits}
 
 abbrev LineFits : Docket → List ℕ → Type 0
 LineFits d text = length (answer-line (stated (lodge-of d text .answer))) ≤ 64

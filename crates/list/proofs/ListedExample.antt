@@ -10,14 +10,14 @@ use Rattle.report.specs.Report.{report-lines}
 use Rattle.answer.specs.declared.Answer.{Answer}
 use Rattle.answer.specs.Answers.{stated}
 use Rattle.answer.specs.AnswerLines.{answer-line}
 use Rattle.docket.specs.Docket.{fresh-docket}
 use Rattle.docket.specs.Lodging.{lodge-of}
 use Rattle.docket.specs.Report.{report-text}
 use Rattle.docket.specs.Demand3.{answers-to}
-use Rattle.docket.specs.Listing.{answer-lines, listed, listing-text}
 use Rattle.docket.specs.Promised.{stated-lines}
 use Rattle.docket.specs.Specimens.{listed-problem, schedule-text, tree-text, listed-texts, listed-input, listed-output}
 use Rattle.docket.proofs.SpecimenList.{listing-answers, listing-held}
+use Rattle.list.specs.Listing.{answer-lines, listed, listing-text}
 
 -- the input's pieces
 pub input-pieces : pieces listed-input ≡ listed-texts

@@ -2,11 +2,11 @@
 use borrow.Author.Needs.{needs}
 use mathlib.Core.Path.{ap, _∙_}
 use Rattle.pieces.specs.Pieces.{pieces}
-use Rattle.docket.specs.declared.listing.Listed.the-variants.{Written}
-use Rattle.docket.specs.Listing.{listed, too-much}
-use Rattle.docket.proofs.ListedCases.{small-answer, small-output, input-refused, input-listed, large-answer, large-output}
-use Rattle.docket.proofs.listing.list.Statement.{statement}
-use Rattle.docket.proofs.listing.list.Tie as tie
+use Rattle.list.specs.declared.Listed.the-variants.{Written}
+use Rattle.list.specs.Listing.{listed, too-much}
+use Rattle.list.proofs.ListedCases.{small-answer, small-output, input-refused, input-listed, large-answer, large-output}
+use Rattle.list.proofs.list.Statement.{statement}
+use Rattle.list.proofs.list.Tie as tie
 
 returns : tie.Need-returns
 returns c =

@@ -13,14 +13,14 @@ use Rattle.report.specs.Report.{placed}
 use Rattle.answer.specs.declared.Answer.the-variants.{Refused}
 use Rattle.answer.specs.Answers.{refused, stated}
 use Rattle.answer.specs.AnswerLines.{answer-line}
 use Rattle.docket.specs.declared.Docket.{Docket}
 use Rattle.docket.specs.Docket.{nothing-held, sound}
 use Rattle.docket.specs.Report.{report-text}
 use Rattle.docket.proofs.Following.{fresh-sound}
-use Rattle.docket.proofs.ListedSoFar.{place-on}
-use Rattle.docket.proofs.ListedCases.{eleven, eleven-size, nothing-size}
-use Rattle.docket.proofs.listing.refuse_input.Statement.{statement}
-use Rattle.docket.proofs.listing.refuse_input.Tie as tie
+use Rattle.list.proofs.ListedSoFar.{place-on}
+use Rattle.list.proofs.ListedCases.{eleven, eleven-size, nothing-size}
+use Rattle.list.proofs.refuse_input.Statement.{statement}
+use Rattle.list.proofs.refuse_input.Tie as tie
 
 abbrev line : List ℕ
 line = answer-line (refused 11 0 0 0)

@@ -6,13 +6,13 @@ ghost use lib.ListN.{length};
 ghost use Rattle.pieces.specs.Pieces.{pieces};
 ghost use Rattle.report.specs.Report.{placed};
 ghost use Rattle.writer.specs.Written.{over};
 ghost use Rattle.docket.specs.Docket.{sound};
 ghost use Rattle.docket.specs.Report.{report-text};
-ghost use Rattle.docket.specs.Listing.{listed, too-much, listed-of, output-of};
-use crate::Docket;
-use crate::admission;
-use crate::admission::Screened;
+ghost use Rattle.list.specs.Listing.{listed, too-much, listed-of, output-of};
 use answer::Answer;
+use docket::Docket;
+use docket::admission;
+use docket::admission::Screened;
 use report::ReportAnswer;
 
 // What the listing answers: the lent buffer is too small, or how many bytes were written.

@@ -38,15 +38,15 @@ use Rattle.answer.specs.Answers.{its-cost, its-bound, stated}
 use Rattle.answer.specs.Answers as answers
 use Rattle.answer.specs.AnswerLines.{answer-line}
 use Rattle.answer.proofs.Widths.{Small, SmallValues, line-fits}
 use Rattle.docket.specs.declared.Docket.{Docket}
 use Rattle.docket.specs.Docket.{fresh-docket, sound}
 use Rattle.docket.specs.Verdicts.{Verdict, refused, problem, schedule, tree}
 use Rattle.docket.specs.Texts.{Is, too-long, no-kind, second-problem, schedule-early, tree-early, problem-refused, a-problem, schedule-refused, a-schedule, tree-refused, a-tree}
 use Rattle.docket.specs.Lodging.{pick, refuse-whole, admit-kind, admit, by-lines, judged, lodged, with-schedule, with-bound, is-less, is-higher, given-figures, hold, lodge-of}
 use Rattle.docket.proofs.OneVerdict.{Fine, verdict-of, verdict-is}
 use Rattle.docket.proofs.Steps.{given-is}
 use Rattle.docket.proofs.Following.{sound-valid, lodge-sound, lodge-unsound}
-use Rattle.docket.proofs.LineCounts.{before-count, tree-count}
+use Rattle.list.proofs.LineCounts.{before-count, tree-count}
 
 -- ---- what each verdict gives
 

@@ -6,12 +6,12 @@ use borrow.Author.Needs.{needs}
 use mathlib.Core.Path.{_≡_, sym, _∙_}
 use lib.ListN.{length, take, drop}
 use Rattle.answer.specs.declared.Answer.the-variants.{Refused}
 use Rattle.docket.specs.declared.Lodged.{Lodged}
 use Rattle.docket.specs.Lodging.{lodged, lodge-of}
 use Rattle.docket.proofs.Following.{screened-lodged}
-use Rattle.docket.proofs.ListedSoFar.{SoFar, nothing-yet, good-so-far, before-end, Turn, turn, Done, done}
-use Rattle.docket.proofs.listing.lodge_pieces.Statement.{statement}
-use Rattle.docket.proofs.listing.lodge_pieces.Tie as tie
+use Rattle.list.proofs.ListedSoFar.{SoFar, nothing-yet, good-so-far, before-end, Turn, turn, Done, done}
+use Rattle.list.proofs.lodge_pieces.Statement.{statement}
+use Rattle.list.proofs.lodge_pieces.Tie as tie
 
 abbrev Inv-loop : tie.InvT-loop
 Inv-loop input output₀ docket₀ n₀ at₀ output docket n at = SoFar input output₀ docket n at output

@@ -17,17 +17,17 @@ use Rattle.report.specs.Report.{placed}
 use Rattle.answer.specs.declared.Answer.{Answer}
 use Rattle.answer.specs.Answers.{stated}
 use Rattle.answer.specs.AnswerLines.{answer-line}
 use Rattle.docket.specs.declared.Docket.{Docket}
 use Rattle.docket.specs.declared.Lodged.{Lodged}
 use Rattle.docket.specs.Docket.{fresh-docket, sound}
 use Rattle.docket.specs.Lodging.{lodge-of}
 use Rattle.docket.specs.Demand3.{docket-after, answers-to}
 use Rattle.docket.specs.Report.{report-text}
-use Rattle.docket.specs.Listing.{answer-lines, listed}
 use Rattle.docket.proofs.Lists.{reached-sound}
-use Rattle.docket.proofs.ListSizes.{reached-fits}
 use Rattle.docket.proofs.Reports.{shown-reached}
 use Rattle.docket.proofs.ReportSizes.{reached-most}
+use Rattle.list.specs.Listing.{answer-lines, listed}
+use Rattle.list.proofs.ListSizes.{reached-fits}
 
 -- ---- one text more
 

@@ -17,13 +17,13 @@ use Rattle.report.proofs.Places.{with-room}
 use Rattle.answer.specs.declared.Answer.the-variants.{Refused}
 use Rattle.answer.specs.Answers.{refused, stated}
 use Rattle.answer.specs.AnswerLines.{answer-line}
 use Rattle.docket.specs.declared.Docket.{Docket}
-use Rattle.docket.specs.declared.listing.Listed.the-variants.{TooSmall, Written}
 use Rattle.docket.specs.Docket.{nothing-held, sound}
 use Rattle.docket.specs.Lodging.{pick}
 use Rattle.docket.specs.Report.{report-text, text-shown, report-of, buffer-of}
 use Rattle.docket.proofs.Reports.{trusted-sound}
-use Rattle.docket.specs.Listing.{listed, too-much, listing-text, listed-of, output-of}
+use Rattle.list.specs.declared.Listed.the-variants.{TooSmall, Written}
+use Rattle.list.specs.Listing.{listed, too-much, listing-text, listed-of, output-of}
 
 -- ---- the report of a docket that is sound, where it has room
 

@@ -1,5 +1,5 @@
 -- The promises of the listing: what it writes into a lent output for every input, and what it answers. The pieces of the input are the one cut after
--- each ended line that begins end= (crates/pieces); they are a list of texts, so all of Promises.antt holds of them.
+-- each ended line that begins end= (crates/pieces); they are a list of texts, so all of crates/docket/proofs/Promises.antt holds of them.
 use mathlib.Core.Path.{_≡_, refl, sym, ap, subst, _∙_}
 use mathlib.Core.List.{List, [], _++_}
 use mathlib.Core.Option.{none}
@@ -11,25 +11,33 @@ use Rattle.pieces.proofs.TheCut.{joined-pieces, pieces-cut}
 use Rattle.writer.specs.Written.{over}
 use Rattle.answer.specs.Answers.{refused}
 use Rattle.answer.specs.AnswerLines.{answer-line}
-use Rattle.docket.specs.declared.listing.Listed.the-variants.{TooSmall, Written}
 use Rattle.docket.specs.Docket.{nothing-held, fresh-docket}
 use Rattle.docket.specs.Verdicts.{Verdict}
 use Rattle.docket.specs.Texts.{Are, no-more}
 use Rattle.docket.specs.Lodging.{lodge-of}
 use Rattle.docket.specs.Report.{report-text, text-shown}
 use Rattle.docket.specs.ReportDue.{ReportDue}
-use Rattle.docket.specs.Listing.{too-much, listing-text, listed-of, output-of}
 use Rattle.docket.specs.Demand3.{answers-to, answers-due}
 use Rattle.docket.specs.Promised.{after, given, stated-lines}
 use Rattle.docket.specs.Specimens.{listed-input, listed-output}
 use Rattle.docket.proofs.ListVerdicts.{verdicts-of, are-verdicts}
 use Rattle.docket.proofs.ReportDue.{lines-due}
 use Rattle.docket.proofs.Lists.{lodges}
 use Rattle.docket.proofs.Reports.{shown-reached}
-use Rattle.docket.proofs.ListedCases.{input-listed, input-refused, small-answer, small-output, large-answer, large-output}
-use Rattle.docket.proofs.ListedExample as example
 use Rattle.docket.proofs.Demand3.{demand3}
 use Rattle.docket.proofs.Determined.{answers-are-due}
+use Rattle.list.specs.declared.Listed.the-variants.{TooSmall, Written}
+use Rattle.list.specs.Listing.{too-much, listing-text, listed-of, output-of}
+use Rattle.list.proofs.ListedCases.{input-listed, input-refused, small-answer, small-output, large-answer, large-output}
+use Rattle.list.proofs.ListedExample as example
+use Rattle.list.proofs.list.Statement as list
+use Rattle.list.proofs.list.Met as list-met
+
+-- Demand 1, of the listing: it comes to its end and does nothing undefined, whatever input and output it is given
+pub call-ends : {M : Type 1} → list.statement M
+call-ends = list-met.met
+
+-- That theorem asks nothing of the caller, and fixes all that comes back: list-says of Contracts.antt. So `listed-of` and `output-of` below are what it does
 
 -- what is held after a list shows the lines that are due to its texts
 shown-due : (texts : List (List ℕ)) (vs : List Verdict) → Are none texts vs → ReportDue vs (report-text (after texts .held))

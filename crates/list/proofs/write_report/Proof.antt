@@ -4,12 +4,12 @@ use native.Mathlib.Omega.{arith}
 use borrow.Author.Needs.{needs}
 use mathlib.Core.Path.{_≡_, ap, _∙_}
 use lib.ListN.{length}
 use Rattle.docket.specs.declared.Reported.{Reported}
 use Rattle.report.specs.declared.ReportAnswer.the-variants.{Written}
 use Rattle.docket.specs.Report.{report-text}
-use Rattle.docket.proofs.ListedCases.{report-written, report-placed}
-use Rattle.docket.proofs.listing.write_report.Statement.{statement}
-use Rattle.docket.proofs.listing.write_report.Tie as tie
+use Rattle.list.proofs.ListedCases.{report-written, report-placed}
+use Rattle.list.proofs.write_report.Statement.{statement}
+use Rattle.list.proofs.write_report.Tie as tie
 
 report-requires : tie.Need-report-requires
 report-requires c κs = search needs

@@ -1,0 +1,9 @@
+-- What the definitions imply, and what the functions' proofs lean on.
+pub mod LineCounts
+pub mod AnswerSizes
+pub mod ListSizes
+pub mod ListedSoFar
+pub mod ListedCases
+pub mod ListedExample
+pub mod Contracts
+pub mod ListingPromises
