@@ -25,17 +25,8 @@ pub mod Contracts
 pub mod Promises
 pub mod Interleaved
 pub mod Specimens
-pub mod ShortLists
-pub mod WrongDockets
-pub mod WrongStates
-pub mod WrongLodging
 pub mod SpecimenTexts
-pub mod WrongHolding
-pub mod KeepingLast
-pub mod WrongKeeping
 pub mod Shown
-pub mod WrongReports
-pub mod WrongReporting
 pub mod SpecimenList
 pub mod Unsound
 pub mod Following

@@ -8,12 +8,6 @@ pub mod ReportDue
 pub mod Demand3
 pub mod Interleaved
 pub mod Promised
-pub mod WrongDockets
-pub mod WrongStates
-pub mod WrongLodging
-pub mod WrongHolding
 pub mod Shown
-pub mod WrongReports
-pub mod WrongReporting
 pub mod Following
 pub mod Specimens

@@ -4,25 +4,25 @@ use mathlib.Core.List.{List, [], _∷_}
 use Prim.Native.Nat.{ℕ}
 use native.Mathlib.Omega.{arith}
 use Rattle.model.specs.Tree.{Bound, never}
 use Rattle.docket.specs.declared.Docket.{Docket}
 use Rattle.docket.specs.declared.held.CostBy.{CostBy}
 use Rattle.docket.specs.declared.held.HeldCost.{HeldCost}
 use Rattle.docket.specs.declared.held.HeldCost.the-variants as cost
 use Rattle.docket.specs.declared.held.HeldBound.{HeldBound}
 use Rattle.docket.specs.declared.held.HeldBound.the-variants as bound
 use Rattle.answer.specs.declared.Answer.{Answer}
 use Rattle.answer.specs.declared.Answer.the-variants.{Refused, TextHeld, ScheduleHeld, SchedulePassed, TreeHeld, TreePassed}
 use Rattle.docket.specs.Docket.{fresh-docket, no-cost, no-bound}
 use Rattle.answer.specs.Answers as answers
 use Rattle.answer.specs.Answers.{stated}
 use Rattle.docket.specs.Lodging.{pick, lodged, lodge-of}
 use Rattle.docket.specs.Demand3.{docket-after, reached, Unheld, Reporting, Writing, Demand3}
-use Rattle.docket.specs.WrongDockets.{IsBound}
-use Rattle.docket.specs.WrongHolding as wrong
 use Rattle.docket.proofs.NextText.{answered}
 use Rattle.docket.proofs.Specimens.{problem-text, is-second}
-use Rattle.docket.proofs.ShortLists.{begun-not-fresh, begun, begun-as, begun-are}
-use Rattle.docket.proofs.WrongStates as states
+use Rattle.wrong.specs.WrongDockets.{IsBound}
+use Rattle.wrong.specs.WrongHolding as wrong
+use Rattle.wrong.proofs.ShortLists.{begun-not-fresh, begun, begun-as, begun-are}
+use Rattle.wrong.proofs.WrongStates as states
 
 pub keeping-first-fails : {report : Reporting} {buffer : Writing} → Demand3 wrong.keeping-first report buffer → ⊥
 keeping-first-fails D = states.keeps-first wrong.keeping-first D (λ texts text by e. stays (reached wrong.keeping-first texts) text by e)

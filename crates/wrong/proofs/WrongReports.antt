@@ -15,16 +15,16 @@ use Rattle.report.specs.declared.Figures as shown
 use Rattle.problem.proofs.Examples.{example}
 use Rattle.tree.specs.Due.{Figures}
 use Rattle.report.specs.Answers.{its-length}
 use Rattle.docket.specs.Verdicts.{problem, schedule, tree}
 use Rattle.docket.specs.Texts.{Are}
 use Rattle.docket.specs.ReportDue.{figures-due}
 use Rattle.docket.specs.Demand3.{Lodging, Reporting, Writing, Demand3}
 use Rattle.docket.specs.Shown.{left, Shows}
-use Rattle.docket.specs.WrongReports.{nothing-shown, SomeReport, ShowsNone, OneBoundShown, OtherGap, OtherFigures, NotWritten, NotRefused, WritesOutside, ChangesDocket}
 use Rattle.docket.proofs.OneReport.{one-report, reports-then}
 use Rattle.docket.proofs.Shown.{not-stated, due-after, There, shown-is, shows-due}
 use Rattle.docket.proofs.Specimens.{problem-text, figures}
-use Rattle.docket.proofs.ShortLists.{cheap, cheap-text, cheap-are, tree-text, lone-text, tree-are, lone-are}
+use Rattle.wrong.specs.WrongReports.{nothing-shown, SomeReport, ShowsNone, OneBoundShown, OtherGap, OtherFigures, NotWritten, NotRefused, WritesOutside, ChangesDocket}
+use Rattle.wrong.proofs.ShortLists.{cheap, cheap-text, cheap-are, tree-text, lone-text, tree-are, lone-are}
 
 one-length : (m n : ℕ) → its-length m ≡ its-length n → m ≡ n
 one-length m n e = cc

@@ -14,25 +14,25 @@ use Rattle.problem.proofs.Acceptance.{render-accepted}
 use Rattle.problem.proofs.Examples.{example}
 use Rattle.tree.specs.Rendering as trees
 use Rattle.tree.specs.Coded.{bound-of}
 use Rattle.docket.specs.declared.Docket.{Docket}
 use Rattle.answer.specs.declared.Answer.{Answer}
 use Rattle.answer.specs.declared.Answer.the-variants.{Refused, TextHeld, ScheduleHeld, SchedulePassed, TreeHeld, TreePassed}
 use Rattle.answer.specs.declared.TreeFigures.{TreeFigures}
 use Rattle.docket.specs.Docket.{fresh-docket}
 use Rattle.answer.specs.Answers as answers
 use Rattle.answer.specs.Answers.{Values, no-values, its-cost, its-bound, stated, tree-values, Carries}
 use Rattle.docket.specs.Verdicts.{problem}
 use Rattle.docket.specs.Texts.{no-more, then, a-problem}
 use Rattle.docket.specs.Lodging.{pick, lodged, lodge-of}
 use Rattle.docket.specs.Demand3.{reached, Reporting, Writing, Demand3}
-use Rattle.docket.specs.WrongDockets.{IsRefused, IsHeld, IsPassed}
-use Rattle.docket.specs.WrongLodging as wrong
 use Rattle.docket.proofs.OneVerdict.{tree-begins}
 use Rattle.docket.proofs.NextText.{answered}
 use Rattle.docket.proofs.Demand3.{demand3}
 use Rattle.docket.proofs.Specimens.{problem-text, one-split, is-problem, is-one-split, is-tree}
-use Rattle.docket.proofs.WrongDockets as refuted
-use Rattle.docket.proofs.WrongStates as states
+use Rattle.wrong.specs.WrongDockets.{IsRefused, IsHeld, IsPassed}
+use Rattle.wrong.specs.WrongLodging as wrong
+use Rattle.wrong.proofs.WrongDockets as refuted
+use Rattle.wrong.proofs.WrongStates as states
 
 pub refuse-all-fails : {report : Reporting} {buffer : Writing} → Demand3 wrong.refuse-all report buffer → ⊥
 refuse-all-fails D = refuted.refuses-all wrong.refuse-all D (λ texts text. tt)

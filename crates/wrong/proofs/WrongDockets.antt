@@ -19,18 +19,18 @@ use Rattle.problem.proofs.Examples.{example, example-formed}
 use Rattle.schedule.specs.Rendering as schedules
 use Rattle.tree.specs.Rendering as rendered-trees
 use Rattle.tree.specs.Due.{Figures}
 use Rattle.docket.specs.declared.Docket.{Docket}
 use Rattle.docket.specs.declared.held.HeldBound.{HeldBound}
 use Rattle.answer.specs.Answers.{its-cost, its-bound, Stated, held, Carries}
 use Rattle.docket.specs.Verdicts.{Costed, refused, problem, schedule, tree, trees}
 use Rattle.docket.specs.Texts.{Accepted, no-more}
 use Rattle.docket.specs.Demand3.{reached, held-if, HoldsUnder, Lodging, Reporting, Writing, Demand3}
-use Rattle.docket.specs.WrongDockets.{IsRefused, IsHeld, IsPassed, IsBound, answer, RefusesAll, RefusesRest, OneBound, PassesRest, Invents, StuckUnexamined, NeverUnexamined, SecondProblem, KeepsLast, KeepsLastTree}
 use Rattle.docket.proofs.Determined.{holds-then}
 use Rattle.docket.proofs.NextText.{answered}
 use Rattle.docket.proofs.AfterTexts.{reached-is}
 use Rattle.docket.proofs.Specimens.{problem-text, problem-short, rows, figures, is-problem, is-second, is-cheap, is-cheap-too, is-tree, is-lone-price, is-not-short, is-not-stuck}
-use Rattle.docket.proofs.ShortLists.{begun, begun-as, begun-are, cheap, cheap-text, cheap-are, tree-text, tree-text-too, lone-text, tree-are, is-tree-too}
+use Rattle.wrong.specs.WrongDockets.{IsRefused, IsHeld, IsPassed, IsBound, answer, RefusesAll, RefusesRest, OneBound, PassesRest, Invents, StuckUnexamined, NeverUnexamined, SecondProblem, KeepsLast, KeepsLastTree}
+use Rattle.wrong.proofs.ShortLists.{begun, begun-as, begun-are, cheap, cheap-text, cheap-are, tree-text, tree-text-too, lone-text, tree-are, is-tree-too}
 
 not-refused : (s : Costed) (r : Refusal) → schedule s ≡ refused r → ⊥
 not-refused s r e = let z : _≡_ {A = ℕ} 0 1 = cc in omega arith

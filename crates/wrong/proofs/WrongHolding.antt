@@ -20,21 +20,21 @@ use Rattle.model.proofs.Integers.{le→nat}
 use Rattle.model.proofs.Judging.{judge-none}
 use Rattle.judge.specs.Rows.{cut-rows, schedule-of}
 use Rattle.problem.proofs.Examples.{example, example-formed}
 use Rattle.docket.specs.declared.Docket.{Docket}
 use Rattle.docket.specs.declared.Lodged.{Lodged}
 use Rattle.docket.specs.declared.held.CostBy.{CostBy}
 use Rattle.docket.specs.declared.held.HeldCost.the-variants as held-cost
 use Rattle.docket.specs.Docket.{fresh-docket}
 use Rattle.docket.specs.Verdicts.{Verdict, problem, schedule, tree}
 use Rattle.docket.specs.Texts.{Is}
 use Rattle.docket.specs.Lodging.{judged, with-problem}
 use Rattle.docket.specs.Demand3.{reached, Reporting, Writing, Demand3}
-use Rattle.docket.specs.WrongStates.{SomeList}
-use Rattle.docket.specs.WrongHolding as wrong
 use Rattle.docket.proofs.OneVerdict.{is-verdict}
-use Rattle.docket.proofs.WrongStates as states
 use Rattle.docket.proofs.Specimens.{problem-text, rows, figures, is-problem, is-cheap, is-tree}
-use Rattle.docket.proofs.ShortLists.{begun-are, cheap, cheap-text, cheap-are, tree-text, tree-are}
+use Rattle.wrong.specs.WrongStates.{SomeList}
+use Rattle.wrong.specs.WrongHolding as wrong
+use Rattle.wrong.proofs.WrongStates as states
+use Rattle.wrong.proofs.ShortLists.{begun-are, cheap, cheap-text, cheap-are, tree-text, tree-are}
 
 -- ---- the docket after the problem and one text more
 

@@ -15,16 +15,16 @@ use Rattle.model.specs.Best.{FirstLeast, FirstHighest}
 use Rattle.model.specs.Held.{view}
 use Rattle.judge.specs.Rows.{schedule-of}
 use Rattle.tree.specs.Due.{Figures}
 use Rattle.docket.specs.declared.held.BoundBy.{BoundBy}
 use Rattle.docket.specs.declared.held.CostBy.{CostBy}
 use Rattle.docket.specs.declared.held.HeldCost.the-variants as cost
 use Rattle.docket.specs.declared.held.NeverBy.{NeverBy}
 use Rattle.docket.specs.declared.held.HeldBound.{HeldBound}
 use Rattle.docket.specs.declared.held.HeldBound.the-variants as bound
 use Rattle.docket.specs.Verdicts.{Costed, Verdict, schedules, trees, known-at-end}
 use Rattle.docket.specs.Texts.{Are}
 use Rattle.docket.specs.Demand3.{Unheld, Lodging, reached}
-use Rattle.docket.specs.WrongDockets.{IsBound, answer}
+use Rattle.wrong.specs.WrongDockets.{IsBound, answer}
 
 -- the bound b is held, and its writer is w
 abbrev pub IsBy : HeldBound → Bound → ℕ → Type 0

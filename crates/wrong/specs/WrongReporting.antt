@@ -8,15 +8,15 @@ use Rattle.writer.specs.declared.Figure.the-variants.{Missing, Never}
 use Rattle.report.specs.Report.{report-lines, placed, written-at, placed-at}
 use Rattle.report.specs.declared.Figures as shown
 use Rattle.report.specs.declared.ReportAnswer.the-variants.{Refused}
 use Rattle.docket.specs.declared.Docket.{Docket}
 use Rattle.docket.specs.declared.held.HeldCost.{HeldCost}
 use Rattle.docket.specs.declared.held.HeldCost.the-variants as cost
 use Rattle.docket.specs.declared.held.HeldBound.{HeldBound}
 use Rattle.docket.specs.declared.held.HeldBound.the-variants as bound
 use Rattle.docket.specs.Docket.{fresh-docket}
 use Rattle.docket.specs.Report.{figures-of, text-shown, report-of}
 use Rattle.docket.specs.Demand3.{Reporting, Writing}
-use Rattle.docket.specs.WrongReports.{nothing-shown}
+use Rattle.wrong.specs.WrongReports.{nothing-shown}
 
 -- ---- other figures, written as they should be
 

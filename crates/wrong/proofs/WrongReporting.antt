@@ -19,25 +19,25 @@ use Rattle.report.specs.declared.Figures as shown
 use Rattle.report.specs.declared.ReportAnswer.the-variants.{Refused, Written}
 use Rattle.problem.proofs.Examples.{example}
 use Rattle.report.specs.Answers.{its-length, stated}
 use Rattle.docket.specs.declared.Docket.{Docket}
 use Rattle.docket.specs.declared.held.HeldBound.{HeldBound}
 use Rattle.docket.specs.declared.held.HeldBound.the-variants as bound
 use Rattle.docket.specs.Docket.{fresh-docket, sound}
 use Rattle.docket.specs.Verdicts.{problem, schedule, tree}
 use Rattle.docket.specs.Texts.{no-more}
 use Rattle.docket.specs.Lodging.{pick}
 use Rattle.docket.specs.Report.{text-shown, report-of}
 use Rattle.docket.specs.ReportDue.{figures-due}
 use Rattle.docket.specs.Demand3.{reached, Lodging, Writing, Demand3}
 use Rattle.docket.specs.Shown.{Shows}
-use Rattle.docket.specs.WrongReports.{SomeReport}
-use Rattle.docket.specs.WrongReporting as wrong
-use Rattle.docket.proofs.WrongReports as refuted
 use Rattle.docket.proofs.Shown.{not-stated, same-rest, due-after}
 use Rattle.docket.proofs.ReportLines.{lines-one}
 use Rattle.docket.proofs.AfterTexts.{reached-is}
 use Rattle.docket.proofs.Specimens.{problem-text, figures}
-use Rattle.docket.proofs.ShortLists.{begun-not-fresh, begun, cheap, cheap-text, lone-text, cheap-lone-are}
+use Rattle.wrong.specs.WrongReports.{SomeReport}
+use Rattle.wrong.specs.WrongReporting as wrong
+use Rattle.wrong.proofs.WrongReports as refuted
+use Rattle.wrong.proofs.ShortLists.{begun-not-fresh, begun, cheap, cheap-text, lone-text, cheap-lone-are}
 
 -- ---- other figures
 

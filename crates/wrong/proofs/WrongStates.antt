@@ -15,24 +15,24 @@ use Rattle.model.proofs.Unbroken.{meets-shaped}
 use Rattle.judge.specs.Rows.{schedule-of}
 use Rattle.schedule.proofs.Filling.{rows-held}
 use Rattle.tree.specs.Due.{Figures}
 use Rattle.docket.specs.declared.Docket.{Docket}
 use Rattle.docket.specs.declared.held.CostBy.{CostBy}
 use Rattle.docket.specs.declared.held.Held.{Held}
 use Rattle.docket.specs.declared.held.HeldCost.the-variants as cost
 use Rattle.docket.specs.declared.held.HeldBound.{HeldBound}
 use Rattle.docket.specs.Verdicts.{Costed, Verdict, schedules, trees, known-at-end}
 use Rattle.docket.specs.Texts.{Are}
 use Rattle.docket.specs.Lodging.{bound-by}
 use Rattle.docket.specs.Demand3.{reached, BoundHeld, HoldsUnder, Holding, Lodging, Reporting, Writing, Demand3}
-use Rattle.docket.specs.WrongDockets.{IsBound}
-use Rattle.docket.specs.WrongStates.{IsBy, SomeList, NeverChanges, KeepsFirst, KeepsFirstBound, OneBoundHeld, OtherProblem, NeverUntrue, NumberUntrue, OtherSchedule, OtherBound, UnheldChanges}
 use Rattle.docket.proofs.BestSoFar.{first-mem, first-held, cheaper-trans, cheaper-weak, raises-trans, raises-weak}
 use Rattle.docket.proofs.GoodVerdicts.{GoodSchedule, all-mem, Proper}
 use Rattle.docket.proofs.Reached.{by-cost, by-bound, least, highest, docket-under, docket-of}
 use Rattle.docket.proofs.Determined.{holds-then}
 use Rattle.docket.proofs.AfterTexts.{proper-then, reached-is}
 use Rattle.docket.proofs.Specimens.{problem-text}
-use Rattle.docket.proofs.ShortLists.{begun, begun-as, begun-are, cheap-text, dear-text, cheap-are, dear-are, dear-cheap-are, tree-text, lone-text, tree-are, lone-are, lone-tree-are}
+use Rattle.wrong.specs.WrongDockets.{IsBound}
+use Rattle.wrong.specs.WrongStates.{IsBy, SomeList, NeverChanges, KeepsFirst, KeepsFirstBound, OneBoundHeld, OtherProblem, NeverUntrue, NumberUntrue, OtherSchedule, OtherBound, UnheldChanges}
+use Rattle.wrong.proofs.ShortLists.{begun, begun-as, begun-are, cheap-text, dear-text, cheap-are, dear-are, dear-cheap-are, tree-text, lone-text, tree-are, lone-are, lone-tree-are}
 
 not-held : (by : CostBy) → cost.Nothing ≡ cost.Number by → ⊥
 not-held by e = let z : _≡_ {A = ℕ} 0 1 = cc in omega arith

@@ -12,20 +12,20 @@ use Rattle.model.specs.Tree.{Bound, never, number}
 use Rattle.model.proofs.Integers.{ltZ→nat}
 use Rattle.tree.specs.Coded.{bound-of}
 use Rattle.tree.specs.Reading.{coded}
 use Rattle.docket.specs.declared.Docket.{Docket}
 use Rattle.docket.specs.declared.held.CostBy.{CostBy}
 use Rattle.docket.specs.declared.held.HeldCost.{HeldCost}
 use Rattle.docket.specs.declared.held.HeldCost.the-variants as held-cost
 use Rattle.docket.specs.declared.held.HeldBound.{HeldBound}
 use Rattle.docket.specs.declared.held.HeldBound.the-variants as held-bound
 use Rattle.answer.specs.declared.Answer.the-variants.{ScheduleHeld, SchedulePassed, TreeHeld, TreePassed}
 use Rattle.answer.specs.Answers.{its-cost, its-bound, Stated, stated, Carries}
 use Rattle.docket.specs.Verdicts.{Costed, Verdict, refused, problem, schedule, tree}
 use Rattle.docket.specs.Lodging.{pick, judged, lodged, with-schedule, with-bound, given-figures, is-less, is-higher}
 use Rattle.docket.specs.Demand3.{reached, Reporting, Writing, Demand3}
-use Rattle.docket.specs.WrongDockets.{IsHeld, IsBound}
-use Rattle.docket.specs.WrongHolding as wrong
-use Rattle.docket.proofs.WrongDockets as refuted
+use Rattle.wrong.specs.WrongDockets.{IsHeld, IsBound}
+use Rattle.wrong.specs.WrongHolding as wrong
+use Rattle.wrong.proofs.WrongDockets as refuted
 
 -- ---- the last of the least
 
