@@ -64,7 +64,7 @@ pub fn admit(known: bool, text: &[u8]) -> Admission
     if text.len() > MOST_BYTES {
         return refuse_whole(11, 0);
     }
-    let kind = text::read_kind(text);
+    let kind = reader::read_kind(text);
     admit_kind(kind, known)
 }
 

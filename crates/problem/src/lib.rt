@@ -168,7 +168,7 @@ fn read_from_end(s: &[u8], at: usize, line: usize, problem: Problem) -> ProblemR
     requires { ⌜ (line ≤ 38) × (held (view problem) ≡ problem) ⌝ }
     ensures { λ r. ⌜ r ≡ read-from (now (s .entry)) at line (end-due (view problem)) ⌝ }
 {
-    let end = text::read_end(s, at, b"end=problem");
+    let end = reader::read_end(s, at, b"end=problem");
     match end {
         End::Missing => refuse_text(12, line),
         End::Followed => refuse_text(12, line + 1),

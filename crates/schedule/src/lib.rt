@@ -110,7 +110,7 @@ fn read_from_end(
     ensures { λ r. ⌜ r ≡ read-from (view problem) (now (text .entry)) at (problem .units + 3) (end-due (written writer (schedule-of problem rows))) ⌝ }
 {
     let line = problem.units + 3;
-    let end = text::read_end(text, at, b"end=schedule");
+    let end = reader::read_end(text, at, b"end=schedule");
     match end {
         End::Missing => refuse_text(12, line, 0, 0),
         End::Followed => refuse_text(12, line + 1, 0, 0),

@@ -1,53 +1,19 @@
 -- The end of a text: the end line is a word, and what is judged from it on is whether that word stands there with nothing after it.
-use Prim.Native.Nat.{ℕ, suc, _+_, _≤_, _<_}
+use Prim.Native.Nat.{ℕ, suc, _+_}
 use native.Mathlib.Numerals.{add-one}
 use native.Mathlib.Omega.{arith}
 use mathlib.Core.Path.{_≡_, refl, sym, ap, _∙_}
 use mathlib.Core.Bool.{Bool, true, false}
 use mathlib.Core.List.{List, [], _∷_}
 use mathlib.Core.Option.{Option}
-use lib.ListN.{length, drop, getD, length-append, length-drop, drop-of-length-le}
-use lib.Seq.{drop-cons}
+use lib.ListN.{length, drop}
 use lib.Dec.{eqb}
-use Rattle.text.specs.Lines.{Line, missing, unended, ended, due, later, longer, cutAt, linesOf, lineAt, isLine}
+use Rattle.text.specs.Lines.{Line, missing, unended, ended, due, later, longer, cutAt, linesOf, isLine}
 use Rattle.text.specs.Course.{Found, refused, refused-at, judged-from}
 use Rattle.text.specs.Ends.{pickEnd, afterEnd, endOf, endedBy, EndDue}
-use Rattle.text.specs.declared.End.the-variants.{Missing, Followed, Last}
-use Rattle.text.proofs.Cuts.{text-ended, later-lines}
+use Rattle.text.specs.declared.End.the-variants.{Missing}
+use Rattle.text.proofs.Cuts.{later-lines}
 use Rattle.text.proofs.Words.{word-is}
-use Rattle.text.proofs.Verdicts.{word-next}
-
--- ---- what `end_at` answers at each return
-
-module _ (w s : List ℕ) (at : ℕ) where
-  pub end-missing : isLine w (lineAt s at) ≡ false → Missing ≡ endOf w (linesOf (drop at s))
-  unfolding endOf
-  end-missing e = simp e
-
-  module _ (e : isLine w (lineAt s at) ≡ true) where
-    -- the end line, with its byte 10, lies within the text
-    pub end-within : at + length w + 1 ≤ length s
-    end-within =
-        let rest = drop (length w + 1) (drop at s) in
-        let n = ap length (text-ended (drop at s) w (word-is w (lineAt s at) e)) ∙ length-append w (10 ∷ rest) in
-        omega (arith, length-drop at s)
-
-    -- the lines after it are those of the text past its byte 10
-    past-end : endOf w (linesOf (drop at s)) ≡ afterEnd (linesOf (drop (at + length w + 1) s))
-    unfolding endOf
-    past-end = rw e (ap afterEnd (sym (word-next w s at e)))
-
-    pub end-followed : at + length w + 1 < length s → Followed ≡ endOf w (linesOf (drop at s))
-    end-followed h = sym (past-end ∙ ap (λ (t : List ℕ). afterEnd (linesOf t)) (drop-cons s (at + length w + 1) 0 h) ∙ go (eqb (getD s (at + length w + 1) 0) 10))
-      where
-        go : (p : Bool) → afterEnd (cutAt p (getD s (at + length w + 1) 0) (linesOf (drop (suc (at + length w + 1)) s))) ≡ Followed
-        go true = refl
-        go false = refl
-
-    pub end-last : length s ≤ at + length w + 1 → Last ≡ endOf w (linesOf (drop at s))
-    end-last h = sym (past-end ∙ ap (λ (t : List ℕ). afterEnd (linesOf t)) (drop-of-length-le s h))
-
--- ---- a text judged from its end line on, for any kind of text
 
 module _ {S R : Type 0} (judge : S → Line → Found S) (end : S → Option R) where
   module _ (w : List ℕ) (s : S) (v : R) (d : EndDue judge end w s v) (l : ℕ) where

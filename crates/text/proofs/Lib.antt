@@ -22,5 +22,4 @@ pub mod Courses
 pub mod Steps
 pub mod Texts
 pub mod Ends
-pub mod Holding
 pub mod WellFormed

@@ -9,8 +9,7 @@ use lib.Seq.{drop-drop}
 use lib.Dec.{eqb}
 use borrow.Author.Tests.{eqb-true, not-true, eq-eqb, ne-eqb}
 use Rattle.text.specs.Forms.{byteIs}
-use Rattle.text.specs.Lines.{Line, missing, unended, ended, due, longer, cutAt, linesOf, lineAt, oneLine, begins, same, isLine, kindOf, kindProblem, kindSchedule, kindTree}
-use Rattle.text.specs.declared.Kind.the-variants.{Unknown, Problem, Schedule, Tree}
+use Rattle.text.specs.Lines.{Line, missing, unended, ended, due, longer, cutAt, linesOf, lineAt, oneLine, begins, same, isLine}
 use Rattle.text.proofs.Cuts.{and-both}
 
 -- ---- what a word line is
@@ -86,23 +85,3 @@ module _ (s w : List ℕ) (at : ℕ) (one : oneLine w ≡ true) where
 
   pub word-off : begins w (drop at s) ≡ false → false ≡ isLine w (lineAt s at)
   word-off e = ap (λ (t : Bool). t && byteIs (drop (length w) (drop at s)) 10) (sym e) ∙ word-begins w (drop at s) one
-
--- what `read_kind` answers at each return
-module _ (l : Line) where
-  pub kind-problem : isLine kindProblem l ≡ true → Problem ≡ kindOf l
-  unfolding kindOf
-  kind-problem e = simp e
-
-  module _ (p : isLine kindProblem l ≡ false) where
-    pub kind-schedule : isLine kindSchedule l ≡ true → Schedule ≡ kindOf l
-    unfolding kindOf
-    kind-schedule e = simp (p, e)
-
-    module _ (q : isLine kindSchedule l ≡ false) where
-      pub kind-tree : isLine kindTree l ≡ true → Tree ≡ kindOf l
-      unfolding kindOf
-      kind-tree e = simp (p, q, e)
-
-      pub kind-unknown : isLine kindTree l ≡ false → Unknown ≡ kindOf l
-      unfolding kindOf
-      kind-unknown e = simp (p, q, e)

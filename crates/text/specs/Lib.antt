@@ -6,5 +6,4 @@ pub mod Rendering
 pub mod Writer
 pub mod Scan
 pub mod Ends
-pub mod Places
 pub mod WellFormed

@@ -4,14 +4,10 @@ ghost use mathlib.Core.Bool.{true, not, _||_};
 ghost use Prim.Native.Nat.{_+_, _≤_, _<_};
 ghost use lib.ListN.{length, drop, set};
 ghost use Rattle.decimal.specs.Reading.{cap};
-ghost use Rattle.text.specs.Lines.{oneLine, begins, linesOf, lineAt, isLine, kindOf};
-ghost use Rattle.text.specs.Ends.{endOf};
+ghost use Rattle.text.specs.Lines.{oneLine, begins, lineAt, isLine};
 ghost use Rattle.text.specs.Forms.{byteIs, withinAll, belowAll, noRow, rowOf, form, plain};
 ghost use Rattle.text.specs.Scan.{endedAt, fieldAt, valuesAt, keyedAt, storedAt, verdictOf, minusOf, outsideBy, countOutside};
-use crate::reader::Reader;
 use decimal::Number;
-
-pub mod reader;
 
 // A value at a place: malformed, or its size, whether it has a minus, the place after the byte that ends it, and whether
 // that byte ends the line.
@@ -95,7 +91,7 @@ pub fn starts(s: &[u8], at: usize, key: &[u8]) -> bool
 }
 
 // Whether the line that starts at `at` is this word.
-fn is_line(s: &[u8], at: usize, word: &[u8]) -> bool
+pub fn is_line(s: &[u8], at: usize, word: &[u8]) -> bool
     requires { ⌜ oneLine (now word) ≡ true ⌝ }
     ensures { λ r. ⌜ r ≡ isLine (now (word .entry)) (lineAt (now (s .entry)) at) ⌝ }
 {
@@ -104,21 +100,6 @@ fn is_line(s: &[u8], at: usize, word: &[u8]) -> bool
         return byte_is(s, end, 10);
     }
     false
-}
-
-// What the first line of a text says.
-pub fn read_kind(s: &[u8]) -> Kind
-    ensures { λ r. ⌜ r ≡ kindOf (lineAt (now (s .entry)) 0) ⌝ }
-{
-    Reader::open(s).kind()
-}
-
-// Whether the line that starts at `at` is the end line, this word, and the last.
-pub fn read_end(s: &[u8], at: usize, word: &[u8]) -> End
-    requires { ⌜ oneLine (now word) ≡ true ⌝ }
-    ensures { λ r. ⌜ r ≡ endOf (now (word .entry)) (linesOf (drop at (now (s .entry)))) ⌝ }
-{
-    Reader::open(s).moved(at).end(word)
 }
 
 // The value without a sign that starts at `at`.

@@ -45,7 +45,7 @@ fn read_end(text: &[u8], writer: u64, read: Read) -> TreeRead
     match read {
         Read::Refused { number, line } => TreeRead::Refused(refusal::refuse(number, line, 0, 0)),
         Read::Tree { next, line, tally } => {
-            let end = text::read_end(text, next, b"end=tree");
+            let end = reader::read_end(text, next, b"end=tree");
             match end {
                 End::Missing => TreeRead::Refused(refusal::refuse(12, line, 0, 0)),
                 End::Followed => TreeRead::Refused(refusal::refuse(12, line + 1, 0, 0)),

@@ -30,15 +30,15 @@ use denote.Triple.Spec.{Meets, tripleOf}
 use denote.Triple.Table.{entered}
 use denote.Triple.Walked.{says, Stays, stay-dropped, walkOf, goes-dropped, Walks, ends-at, walked, walk-meets}
 use denote.Exit.{yes}
-use Rattle.text.specs.Places.{placed}
-use Rattle.text.specs.declared.reader.Reader.{Reader}
-use Rattle.text.proofs.Holding.{machine, row, fields-own, opens, shuts}
-use Rattle.text.proofs.reader.Reader as T
-use Rattle.text.proofs.reader.Reader.Laws as T′
-use Rattle.text.proofs.reader.Reader.moved.Key.{name as #moved}
-use Rattle.text.proofs.reader.Reader.moved as moved
-use Rattle.text.proofs.reader.Reader.moved.Statement as stated
-use Rattle.text.proofs.reader.Reader.moved.Code as code
+use Rattle.reader.specs.Places.{placed}
+use Rattle.reader.specs.declared.Reader.{Reader}
+use Rattle.reader.proofs.Holding.{machine, row, fields-own, opens, shuts}
+use Rattle.reader.proofs.Reader as T
+use Rattle.reader.proofs.Reader.Laws as T′
+use Rattle.reader.proofs.Reader.moved.Key.{name as #moved}
+use Rattle.reader.proofs.Reader.moved as moved
+use Rattle.reader.proofs.Reader.moved.Statement as stated
+use Rattle.reader.proofs.Reader.moved.Code as code
 
 -- a reader's type, over the signature's lifetime
 abbrev B : Lfts 1 → RattleType

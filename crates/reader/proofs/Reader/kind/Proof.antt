@@ -34,22 +34,22 @@ use denote.Triple.Table.{entered, cited}
 use denote.Triple.Walked.{says, Stays, stay-dropped, walkOf, goes-dropped, Walks, ends-at, walked, walk-meets}
 use denote.Exit.{yes}
 use denote.Triple.Clauses.{ensured, lasts}
 use Rattle.text.specs.Lines.{lineAt, kindOf}
-use Rattle.text.specs.declared.reader.Reader.{Reader}
+use Rattle.reader.specs.declared.Reader.{Reader}
 use Rattle.text.specs.declared.Kind.{Kind}
-use Rattle.text.proofs.Holding.{bytes, machine, row, fields-own, opens}
-use Rattle.text.proofs.reader.Reader as T
-use Rattle.text.proofs.reader.Reader.Laws as T′
+use Rattle.reader.proofs.Holding.{bytes, machine, row, fields-own, opens}
+use Rattle.reader.proofs.Reader as T
+use Rattle.reader.proofs.Reader.Laws as T′
 use Rattle.text.proofs.Kind as S
 use Rattle.text.proofs.Kind.Laws as S′
-use Rattle.text.proofs.reader.kind_at as at
-use Rattle.text.proofs.reader.kind_at.Symbol as at-def
-use Rattle.text.proofs.reader.kind_at.Symbol.{name as #kind-at}
-use Rattle.text.proofs.reader.kind_at.Met as at-thm
-use Rattle.text.proofs.reader.Reader.kind.Key.{name as #kind}
-use Rattle.text.proofs.reader.Reader.kind as kind
-use Rattle.text.proofs.reader.Reader.kind.Statement as stated
-use Rattle.text.proofs.reader.Reader.kind.Code as code
+use Rattle.reader.proofs.kind_at as at
+use Rattle.reader.proofs.kind_at.Symbol as at-def
+use Rattle.reader.proofs.kind_at.Symbol.{name as #kind-at}
+use Rattle.reader.proofs.kind_at.Met as at-thm
+use Rattle.reader.proofs.Reader.kind.Key.{name as #kind}
+use Rattle.reader.proofs.Reader.kind as kind
+use Rattle.reader.proofs.Reader.kind.Statement as stated
+use Rattle.reader.proofs.Reader.kind.Code as code
 
 -- a reader's type, over the signature's lifetime
 abbrev B : Lfts 1 → RattleType
@@ -127,4 +127,4 @@ kind-spec 𝓤 H 𝓜 𝓖 𝓡 =
     entered 𝓤 H (tripleOf 𝓤 H (𝓖 .A) kind.signature (kind.spec 𝓤 H (𝓖 .A) (𝓜 .mem) (𝓡 .run)))
     (tables 𝓤 H 𝓜 𝓡 code.env .C) (tables 𝓤 H 𝓜 𝓡 code.env .Λ) #kind code.function (code.unfolded 𝓤 H 𝓜 𝓡)
     (kind-meets 𝓤 H (𝓖 .A) (givenOf 𝓤 H 𝓜 𝓖) (𝓜 .mem) (𝓡 .run) (tablesOf 𝓤 H 𝓜 (tables 𝓤 H 𝓜 𝓡 code.env))
-    (cited 𝓤 H (KindAt 𝓤 H (𝓖 .A) (𝓜 .mem) (𝓡 .run)) 𝓜 𝓡 code.env #kind-at at-def.routine code.calls-text·reader·kind-at (at-thm.met 𝓤 H 𝓜 𝓖 𝓡)))
+    (cited 𝓤 H (KindAt 𝓤 H (𝓖 .A) (𝓜 .mem) (𝓡 .run)) 𝓜 𝓡 code.env #kind-at at-def.routine code.calls-reader·kind-at (at-thm.met 𝓤 H 𝓜 𝓖 𝓡)))

@@ -3,8 +3,8 @@ use Prim.Native.Nat.{ℕ}
 use mathlib.Core.List.{List}
 use lib.ListN.{drop}
 use denote.Ref.{RefT, now}
 use Rattle.text.specs.Lines.{Line, linesOf}
-use Rattle.text.specs.declared.reader.Reader.{Reader}
+use Rattle.reader.specs.declared.Reader.{Reader}
 
 -- the reader of this text whose next line starts at the place `at`
 abbrev pub placed : RefT (List ℕ) → ℕ → Reader

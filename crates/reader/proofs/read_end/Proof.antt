@@ -38,32 +38,32 @@ use denote.Triple.Table.{entered, cited}
 use denote.Triple.Walked.{says, needs, Stays, stay-dropped, walkOf, goes-dropped, Walks, ends-at, walked, walk-meets}
 use denote.Exit.{yes}
 use denote.Triple.Clauses.{ensured, lasts}
 use Rattle.text.specs.Lines.{linesOf, oneLine}
 use Rattle.text.specs.Ends.{endOf}
-use Rattle.text.specs.Places.{placed, linesLeft}
-use Rattle.text.specs.declared.reader.Reader.{Reader}
+use Rattle.reader.specs.Places.{placed, linesLeft}
+use Rattle.reader.specs.declared.Reader.{Reader}
 use Rattle.text.specs.declared.End.{End}
-use Rattle.text.proofs.Holding.{bytes, local-at, row}
-use Rattle.text.proofs.reader.Reader as T
-use Rattle.text.proofs.reader.Reader.Laws as T′
+use Rattle.reader.proofs.Holding.{bytes, local-at, row}
+use Rattle.reader.proofs.Reader as T
+use Rattle.reader.proofs.Reader.Laws as T′
 use Rattle.text.proofs.End as S
 use Rattle.text.proofs.End.Laws as S′
-use Rattle.text.proofs.reader.Reader.open as opened
-use Rattle.text.proofs.reader.Reader.open.Symbol as open-def
-use Rattle.text.proofs.reader.Reader.open.Symbol.{name as #open}
-use Rattle.text.proofs.reader.Reader.open.Met as open-thm
-use Rattle.text.proofs.reader.Reader.moved as moved
-use Rattle.text.proofs.reader.Reader.moved.Symbol as moved-def
-use Rattle.text.proofs.reader.Reader.moved.Symbol.{name as #moved}
-use Rattle.text.proofs.reader.Reader.moved.Met as moved-thm
-use Rattle.text.proofs.reader.Reader.end as end
-use Rattle.text.proofs.reader.Reader.end.Symbol as end-def
-use Rattle.text.proofs.reader.Reader.end.Symbol.{name as #end}
-use Rattle.text.proofs.reader.Reader.end.Met as end-thm
-use Rattle.text.proofs.read_end.Key.{name as #read-end}
-use Rattle.text.proofs.read_end as read-end
-use Rattle.text.proofs.read_end.Statement as stated
-use Rattle.text.proofs.read_end.Code as code
+use Rattle.reader.proofs.Reader.open as opened
+use Rattle.reader.proofs.Reader.open.Symbol as open-def
+use Rattle.reader.proofs.Reader.open.Symbol.{name as #open}
+use Rattle.reader.proofs.Reader.open.Met as open-thm
+use Rattle.reader.proofs.Reader.moved as moved
+use Rattle.reader.proofs.Reader.moved.Symbol as moved-def
+use Rattle.reader.proofs.Reader.moved.Symbol.{name as #moved}
+use Rattle.reader.proofs.Reader.moved.Met as moved-thm
+use Rattle.reader.proofs.Reader.end as end
+use Rattle.reader.proofs.Reader.end.Symbol as end-def
+use Rattle.reader.proofs.Reader.end.Symbol.{name as #end}
+use Rattle.reader.proofs.Reader.end.Met as end-thm
+use Rattle.reader.proofs.read_end.Key.{name as #read-end}
+use Rattle.reader.proofs.read_end as read-end
+use Rattle.reader.proofs.read_end.Statement as stated
+use Rattle.reader.proofs.read_end.Code as code
 
 abbrev stayed : Stays (read-end.ended .signature .params) (read-end.ended .kept)
 stayed = (stay-dropped (shrSliceOf (0 ∷ []) tt (plain (λ _. u8))) yes, (stay-dropped (plain (λ _. usize)) yes, (stay-dropped (shrSliceOf (1 ∷ []) tt (plain (λ _. u8))) yes, tt)))
@@ -206,6 +206,6 @@ read-end-spec 𝓤 H 𝓜 𝓖 𝓡 =
     entered 𝓤 H (tripleOf 𝓤 H (𝓖 .A) read-end.signature (read-end.spec 𝓤 H (𝓖 .A) (𝓜 .mem) (𝓡 .run)))
     (tables 𝓤 H 𝓜 𝓡 code.env .C) (tables 𝓤 H 𝓜 𝓡 code.env .Λ) #read-end code.function (code.unfolded 𝓤 H 𝓜 𝓡)
     (read-end-meets 𝓤 H (𝓖 .A) (givenOf 𝓤 H 𝓜 𝓖) (𝓜 .mem) (𝓡 .run) (tablesOf 𝓤 H 𝓜 (tables 𝓤 H 𝓜 𝓡 code.env))
-    (cited 𝓤 H (Open 𝓤 H (𝓖 .A) (𝓜 .mem) (𝓡 .run)) 𝓜 𝓡 code.env #open open-def.routine code.calls-text·reader·Reader·open (open-thm.met 𝓤 H 𝓜 𝓖 𝓡))
-    (cited 𝓤 H (Moved 𝓤 H (𝓖 .A) (𝓜 .mem) (𝓡 .run)) 𝓜 𝓡 code.env #moved moved-def.routine code.calls-text·reader·Reader·moved (moved-thm.met 𝓤 H 𝓜 𝓖 𝓡))
-    (cited 𝓤 H (Says 𝓤 H (𝓖 .A) (𝓜 .mem) (𝓡 .run)) 𝓜 𝓡 code.env #end end-def.routine code.calls-text·reader·Reader·end (end-thm.met 𝓤 H 𝓜 𝓖 𝓡)))
+    (cited 𝓤 H (Open 𝓤 H (𝓖 .A) (𝓜 .mem) (𝓡 .run)) 𝓜 𝓡 code.env #open open-def.routine code.calls-reader·Reader·open (open-thm.met 𝓤 H 𝓜 𝓖 𝓡))
+    (cited 𝓤 H (Moved 𝓤 H (𝓖 .A) (𝓜 .mem) (𝓡 .run)) 𝓜 𝓡 code.env #moved moved-def.routine code.calls-reader·Reader·moved (moved-thm.met 𝓤 H 𝓜 𝓖 𝓡))
+    (cited 𝓤 H (Says 𝓤 H (𝓖 .A) (𝓜 .mem) (𝓡 .run)) 𝓜 𝓡 code.env #end end-def.routine code.calls-reader·Reader·end (end-thm.met 𝓤 H 𝓜 𝓖 𝓡)))

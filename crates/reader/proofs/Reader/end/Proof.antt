@@ -39,23 +39,23 @@ use denote.Triple.Table.{entered, cited}
 use denote.Triple.Walked.{says, needs, Stays, stay-dropped, walkOf, goes-dropped, Walks, ends-at, walked, walk-meets}
 use denote.Exit.{yes}
 use denote.Triple.Clauses.{ensured, lasts}
 use Rattle.text.specs.Lines.{linesOf, oneLine}
 use Rattle.text.specs.Ends.{endOf}
-use Rattle.text.specs.declared.reader.Reader.{Reader}
+use Rattle.reader.specs.declared.Reader.{Reader}
 use Rattle.text.specs.declared.End.{End}
-use Rattle.text.proofs.Holding.{bytes, machine, row, fields-own, opens}
-use Rattle.text.proofs.reader.Reader as T
-use Rattle.text.proofs.reader.Reader.Laws as T′
+use Rattle.reader.proofs.Holding.{bytes, machine, row, fields-own, opens}
+use Rattle.reader.proofs.Reader as T
+use Rattle.reader.proofs.Reader.Laws as T′
 use Rattle.text.proofs.End as S
 use Rattle.text.proofs.End.Laws as S′
-use Rattle.text.proofs.reader.end_at as at
-use Rattle.text.proofs.reader.end_at.Symbol as at-def
-use Rattle.text.proofs.reader.end_at.Symbol.{name as #end-at}
-use Rattle.text.proofs.reader.end_at.Met as at-thm
-use Rattle.text.proofs.reader.Reader.end.Key.{name as #end}
-use Rattle.text.proofs.reader.Reader.end as end
-use Rattle.text.proofs.reader.Reader.end.Statement as stated
-use Rattle.text.proofs.reader.Reader.end.Code as code
+use Rattle.reader.proofs.end_at as at
+use Rattle.reader.proofs.end_at.Symbol as at-def
+use Rattle.reader.proofs.end_at.Symbol.{name as #end-at}
+use Rattle.reader.proofs.end_at.Met as at-thm
+use Rattle.reader.proofs.Reader.end.Key.{name as #end}
+use Rattle.reader.proofs.Reader.end as end
+use Rattle.reader.proofs.Reader.end.Statement as stated
+use Rattle.reader.proofs.Reader.end.Code as code
 
 -- a reader's type, over the signature's lifetimes
 abbrev B : Lfts 2 → RattleType
@@ -150,4 +150,4 @@ end-spec 𝓤 H 𝓜 𝓖 𝓡 =
     entered 𝓤 H (tripleOf 𝓤 H (𝓖 .A) end.signature (end.spec 𝓤 H (𝓖 .A) (𝓜 .mem) (𝓡 .run)))
     (tables 𝓤 H 𝓜 𝓡 code.env .C) (tables 𝓤 H 𝓜 𝓡 code.env .Λ) #end code.function (code.unfolded 𝓤 H 𝓜 𝓡)
     (end-meets 𝓤 H (𝓖 .A) (givenOf 𝓤 H 𝓜 𝓖) (𝓜 .mem) (𝓡 .run) (tablesOf 𝓤 H 𝓜 (tables 𝓤 H 𝓜 𝓡 code.env))
-    (cited 𝓤 H (EndAt 𝓤 H (𝓖 .A) (𝓜 .mem) (𝓡 .run)) 𝓜 𝓡 code.env #end-at at-def.routine code.calls-text·reader·end-at (at-thm.met 𝓤 H 𝓜 𝓖 𝓡)))
+    (cited 𝓤 H (EndAt 𝓤 H (𝓖 .A) (𝓜 .mem) (𝓡 .run)) 𝓜 𝓡 code.env #end-at at-def.routine code.calls-reader·end-at (at-thm.met 𝓤 H 𝓜 𝓖 𝓡)))

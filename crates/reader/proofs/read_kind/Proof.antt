@@ -34,27 +34,27 @@ use denote.Triple.Table.{entered, cited}
 use denote.Triple.Walked.{says, Stays, stay-dropped, walkOf, goes-dropped, Walks, ends-at, walked, walk-meets}
 use denote.Exit.{yes}
 use denote.Triple.Clauses.{ensured, lasts}
 use Rattle.text.specs.Lines.{due, lineAt, kindOf}
-use Rattle.text.specs.Places.{placed, linesLeft}
-use Rattle.text.specs.declared.reader.Reader.{Reader}
+use Rattle.reader.specs.Places.{placed, linesLeft}
+use Rattle.reader.specs.declared.Reader.{Reader}
 use Rattle.text.specs.declared.Kind.{Kind}
-use Rattle.text.proofs.Holding.{bytes, local-at, row}
-use Rattle.text.proofs.reader.Reader as T
-use Rattle.text.proofs.reader.Reader.Laws as T′
+use Rattle.reader.proofs.Holding.{bytes, local-at, row}
+use Rattle.reader.proofs.Reader as T
+use Rattle.reader.proofs.Reader.Laws as T′
 use Rattle.text.proofs.Kind as S
 use Rattle.text.proofs.Kind.Laws as S′
-use Rattle.text.proofs.reader.Reader.open as opened
-use Rattle.text.proofs.reader.Reader.open.Symbol as open-def
-use Rattle.text.proofs.reader.Reader.open.Symbol.{name as #open}
-use Rattle.text.proofs.reader.Reader.open.Met as open-thm
-use Rattle.text.proofs.reader.Reader.kind as kind
-use Rattle.text.proofs.reader.Reader.kind.Symbol as kind-def
-use Rattle.text.proofs.reader.Reader.kind.Symbol.{name as #kind}
-use Rattle.text.proofs.reader.Reader.kind.Met as kind-thm
-use Rattle.text.proofs.read_kind.Key.{name as #read-kind}
-use Rattle.text.proofs.read_kind as read-kind
-use Rattle.text.proofs.read_kind.Statement as stated
-use Rattle.text.proofs.read_kind.Code as code
+use Rattle.reader.proofs.Reader.open as opened
+use Rattle.reader.proofs.Reader.open.Symbol as open-def
+use Rattle.reader.proofs.Reader.open.Symbol.{name as #open}
+use Rattle.reader.proofs.Reader.open.Met as open-thm
+use Rattle.reader.proofs.Reader.kind as kind
+use Rattle.reader.proofs.Reader.kind.Symbol as kind-def
+use Rattle.reader.proofs.Reader.kind.Symbol.{name as #kind}
+use Rattle.reader.proofs.Reader.kind.Met as kind-thm
+use Rattle.reader.proofs.read_kind.Key.{name as #read-kind}
+use Rattle.reader.proofs.read_kind as read-kind
+use Rattle.reader.proofs.read_kind.Statement as stated
+use Rattle.reader.proofs.read_kind.Code as code
 
 abbrev stayed : Stays (read-kind.ended .signature .params) (read-kind.ended .kept)
 stayed = (stay-dropped (shrSliceOf (0 ∷ []) tt (plain (λ _. u8))) yes, tt)
@@ -142,5 +142,5 @@ read-kind-spec 𝓤 H 𝓜 𝓖 𝓡 =
     entered 𝓤 H (tripleOf 𝓤 H (𝓖 .A) read-kind.signature (read-kind.spec 𝓤 H (𝓖 .A) (𝓜 .mem) (𝓡 .run)))
     (tables 𝓤 H 𝓜 𝓡 code.env .C) (tables 𝓤 H 𝓜 𝓡 code.env .Λ) #read-kind code.function (code.unfolded 𝓤 H 𝓜 𝓡)
     (read-kind-meets 𝓤 H (𝓖 .A) (givenOf 𝓤 H 𝓜 𝓖) (𝓜 .mem) (𝓡 .run) (tablesOf 𝓤 H 𝓜 (tables 𝓤 H 𝓜 𝓡 code.env))
-    (cited 𝓤 H (Open 𝓤 H (𝓖 .A) (𝓜 .mem) (𝓡 .run)) 𝓜 𝓡 code.env #open open-def.routine code.calls-text·reader·Reader·open (open-thm.met 𝓤 H 𝓜 𝓖 𝓡))
-    (cited 𝓤 H (Says 𝓤 H (𝓖 .A) (𝓜 .mem) (𝓡 .run)) 𝓜 𝓡 code.env #kind kind-def.routine code.calls-text·reader·Reader·kind (kind-thm.met 𝓤 H 𝓜 𝓖 𝓡)))
+    (cited 𝓤 H (Open 𝓤 H (𝓖 .A) (𝓜 .mem) (𝓡 .run)) 𝓜 𝓡 code.env #open open-def.routine code.calls-reader·Reader·open (open-thm.met 𝓤 H 𝓜 𝓖 𝓡))
+    (cited 𝓤 H (Says 𝓤 H (𝓖 .A) (𝓜 .mem) (𝓡 .run)) 𝓜 𝓡 code.env #kind kind-def.routine code.calls-reader·Reader·kind (kind-thm.met 𝓤 H 𝓜 𝓖 𝓡)))

@@ -1,9 +1,9 @@
 use native.Mathlib.Omega.{arith}
 use mathlib.Core.Path.{sym, _∙_}
 use borrow.Author.Needs.{needs}
-use Rattle.text.proofs.Ends.{end-missing, end-within, end-followed, end-last}
-use Rattle.text.proofs.reader.end_at.Statement.{statement}
-use Rattle.text.proofs.reader.end_at.Tie as tie
+use Rattle.reader.proofs.Answers.{end-missing, end-within, end-followed, end-last}
+use Rattle.reader.proofs.end_at.Statement.{statement}
+use Rattle.reader.proofs.end_at.Tie as tie
 
 is-line-requires : tie.Need-is-line-requires
 is-line-requires c κs = search needs

@@ -1,9 +1,9 @@
 use mathlib.Core.Path.{sym, _∙_}
 use Rattle.text.specs.Lines.{lineAt}
-use Rattle.text.proofs.Words.{kind-problem, kind-schedule, kind-tree, kind-unknown}
+use Rattle.reader.proofs.Answers.{kind-problem, kind-schedule, kind-tree, kind-unknown}
 use borrow.Author.Needs.{needs}
-use Rattle.text.proofs.reader.kind_at.Statement.{statement}
-use Rattle.text.proofs.reader.kind_at.Tie as tie
+use Rattle.reader.proofs.kind_at.Statement.{statement}
+use Rattle.reader.proofs.kind_at.Tie as tie
 
 slice-aggregate-is-line : tie.Need-slice-aggregate-is-line
 slice-aggregate-is-line c = search needs

@@ -31,12 +31,12 @@ use denote.Triple.Spec.{Meets, tripleOf}
 use denote.Triple.Table.{entered}
 use denote.Triple.Walked.{says, Stays, stay-dropped, walkOf, goes-dropped, Walks, ends-at, walked, walk-meets}
 use denote.Exit.{yes}
-use Rattle.text.specs.Places.{placed}
-use Rattle.text.proofs.Holding.{bytes, machine, row, shuts}
-use Rattle.text.proofs.reader.Reader.open.Key.{name as #open}
-use Rattle.text.proofs.reader.Reader.open as opened
-use Rattle.text.proofs.reader.Reader.open.Statement as stated
-use Rattle.text.proofs.reader.Reader.open.Code as code
+use Rattle.reader.specs.Places.{placed}
+use Rattle.reader.proofs.Holding.{bytes, machine, row, shuts}
+use Rattle.reader.proofs.Reader.open.Key.{name as #open}
+use Rattle.reader.proofs.Reader.open as opened
+use Rattle.reader.proofs.Reader.open.Statement as stated
+use Rattle.reader.proofs.Reader.open.Code as code
 
 abbrev stayed : Stays (opened.ended .signature .params) (opened.ended .kept)
 stayed = (stay-dropped (shrSliceOf (0 ∷ []) tt (plain (λ _. u8))) yes, tt)

@@ -1,13 +1,13 @@
-// The reader of a text, and what it asks of the text and the place.
+// The reader of a text: the lent text and the next line's start, and what stands there.
 ghost use mathlib.Core.Path.{_≡_};
 ghost use mathlib.Core.Bool.{true};
 ghost use lib.ListN.{drop};
 ghost use Rattle.text.specs.Lines.{oneLine, linesOf, lineAt, kindOf, due};
 ghost use Rattle.text.specs.Ends.{endOf};
-ghost use Rattle.text.specs.Places.{placed, linesLeft};
-use crate::End;
-use crate::Kind;
-use crate::is_line;
+ghost use Rattle.reader.specs.Places.{placed, linesLeft};
+use text::End;
+use text::Kind;
+use text::is_line;
 
 // A lent text, and the start of its next line.
 pub struct Reader<'a> {
@@ -78,4 +78,19 @@ fn end_at(s: &[u8], at: usize, word: &[u8]) -> End
         return End::Last;
     }
     End::Missing
+}
+
+// What the first line of a text says.
+pub fn read_kind(s: &[u8]) -> Kind
+    ensures { λ r. ⌜ r ≡ kindOf (lineAt (now (s .entry)) 0) ⌝ }
+{
+    Reader::open(s).kind()
+}
+
+// Whether the line that starts at `at` is the end line, this word, and the last.
+pub fn read_end(s: &[u8], at: usize, word: &[u8]) -> End
+    requires { ⌜ oneLine (now word) ≡ true ⌝ }
+    ensures { λ r. ⌜ r ≡ endOf (now (word .entry)) (linesOf (drop at (now (s .entry)))) ⌝ }
+{
+    Reader::open(s).moved(at).end(word)
 }

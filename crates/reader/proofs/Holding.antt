@@ -17,9 +17,9 @@ use denote.Builtin.{u8, usize}
 use denote.Ref.{RefT, NamedLft}
 use denote.Slice.{sliceVal, ShrSlice}
 use denote.Struct.Rest.{all-own, own-open, own-shut}
-use Rattle.text.specs.declared.reader.Reader.{Reader}
-use Rattle.text.proofs.reader.Reader as T
-use Rattle.text.proofs.reader.Reader.Laws as T′
+use Rattle.reader.specs.declared.Reader.{Reader}
+use Rattle.reader.proofs.Reader as T
+use Rattle.reader.proofs.Reader.Laws as T′
 
 -- the machine value of a slice of bytes, and of a reader
 abbrev pub bytes : RefT (List ℕ) → Val
