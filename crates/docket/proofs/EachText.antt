@@ -35,7 +35,7 @@ use Rattle.docket.specs.Verdicts.{Verdict, refused, problem, schedule, t
 use Rattle.docket.specs.Texts.{Short, Is, Are, too-long, no-kind, second-problem, schedule-early, tree-early, problem-refused, a-problem, schedule-refused, a-schedule, tree-refused, a-tree}
 use Rattle.docket.specs.Lodging.{lodge-of}
 use Rattle.docket.specs.Promised.{after, answer, given, ProblemText, ScheduleText, TreeText, OfSchedule, OfTree}
-use Rattle.docket.specs.Demand3.{answer-due, held-if, Holding, Unheld}
+use Rattle.docket.specs.Demand3.{answer-due, held-if, Holding}
 use Rattle.docket.proofs.OneVerdict.{Fine, verdict-of, verdict-is, tree-begins}
 use Rattle.docket.proofs.Lists.{proper-fine}
 use Rattle.docket.proofs.AfterTexts.{proper-then}
@@ -173,10 +173,6 @@ module _ (texts : List (List ℕ)) (vs : List Verdict) (are : Are none texts vs)
         subst (Is (given vs) text) (due-refused vs (verdict-of (given vs) text) r (sym (due text (verdict-of (given vs) text) i) ∙ e)) i,
     λ i. due text (refused r) i,
   )
-
-  -- what is refused changes nothing
-  pub refused-keeps : (text : List ℕ) (r : Refusal) → Is (given vs) text (refused r) → lodge-of (after texts) text .docket ≡ after texts
-  refused-keeps text r i = demand3 texts .unchanged text (subst Unheld (sym (due text (refused r) i)) tt)
 
   -- a problem, where none is held
   module _ (unknown : given vs ≡ none) where

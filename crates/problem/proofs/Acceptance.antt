@@ -9,8 +9,6 @@ use lib.ListN.{length}
 use Rattle.model.specs.declared.generator.Generator.{Generator}
 use Rattle.model.specs.Instance.{Instance}
 use Rattle.model.specs.Ranges.{WellFormed}
-use Rattle.model.specs.Held.{held, Valid}
-use Rattle.model.proofs.Held.{held-valid}
 use Rattle.text.specs.Lines.{ended, due, later, linesOf, lineAt, kindProblem, endProblem}
 use Rattle.text.specs.Course.{accepted}
 use Rattle.text.proofs.FirstLine.{problem-is}
@@ -65,10 +63,6 @@ accepted-rendered P text k e =
 
 pub problem-accepted : (P : Instance) (text : List ℕ) → (IsProblem text × (problem-judged text ≡ accepted P)) ↔ ((text ≡ render P) × WellFormed P)
 problem-accepted P text = (λ p. accepted-rendered P text (p .0) (p .1), λ q. rw (q .0) (render-accepted P (q .1)))
-
--- a text that is accepted leaves arrays that hold a well-formed problem
-pub accepted-valid : (P : Instance) (text : List ℕ) → IsProblem text → problem-judged text ≡ accepted P → Valid (held P)
-accepted-valid P text k e = held-valid P (accepted-rendered P text k e .1)
 
 -- two well-formed problems with the same text are the same
 pub render-injective : (P Q : Instance) → WellFormed P → WellFormed Q → render P ≡ render Q → P ≡ Q
