@@ -5,14 +5,35 @@ ghost use lib.ListN.{drop};
 ghost use Rattle.text.specs.Lines.{oneLine, linesOf, lineAt, kindOf, due};
 ghost use Rattle.text.specs.Ends.{endOf};
 ghost use Rattle.reader.specs.Places.{placed, linesLeft};
+ghost use Rattle.reader.specs.Written.{writerLine, writerRead};
+use model::ranges::Writer;
 use text::End;
 use text::Kind;
+use text::Verdict;
 use text::is_line;
 
 // A lent text, and the start of its next line.
 pub struct Reader<'a> {
     text: &'a [u8],
     at: usize,
+}
+
+// What a writer's line says: a number, 12, 14 or 13, that refuses the line, or the writer.
+pub enum Written {
+    Refused { number: u64 },
+    By { writer: u64 },
+}
+
+// A writer's line: what it says, and the next line's start, or its own where it is refused.
+pub struct WriterLine {
+    pub written: Written,
+    pub next: usize,
+}
+
+// What a writer's line says, and the reader past it, or at it where it is refused.
+pub struct WriterRead<'a> {
+    written: Written,
+    reader: Reader<'a>,
 }
 
 impl<'a> Reader<'a> {
@@ -47,6 +68,20 @@ impl<'a> Reader<'a> {
     {
         end_at(self.text, self.at, word)
     }
+
+    // What the next line says as the writer's, and the reader past it.
+    pub fn writer(self) -> WriterRead<'a>
+        ensures { λ r. ⌜ r ≡ writerRead (self .entry) ⌝ }
+    {
+        let line = writer_at(self.text, self.at);
+        WriterRead {
+            written: line.written,
+            reader: Reader {
+                text: self.text,
+                at: line.next,
+            },
+        }
+    }
 }
 
 // The kind of text that the line says which starts at `at`.
@@ -80,6 +115,28 @@ fn end_at(s: &[u8], at: usize, word: &[u8]) -> End
     End::Missing
 }
 
+// What the line that starts at `at` says as the writer's, and the next line's start.
+fn writer_at(s: &[u8], at: usize) -> WriterLine
+    ensures { λ r. ⌜ r ≡ writerLine (lineAt (now (s .entry)) at) at ⌝ }
+{
+    let row = text::read_row(s, at, b"writer=", 1, Writer::LEAST, Writer::MOST);
+    let verdict = row.verdict;
+    match verdict {
+        Verdict::Refused { number } => WriterLine {
+            written: Written::Refused { number },
+            next: at,
+        },
+        Verdict::Good { next } => {
+            let values = row.values;
+            let writer = values[0];
+            WriterLine {
+                written: Written::By { writer },
+                next,
+            }
+        }
+    }
+}
+
 // What the first line of a text says.
 pub fn read_kind(s: &[u8]) -> Kind
     ensures { λ r. ⌜ r ≡ kindOf (lineAt (now (s .entry)) 0) ⌝ }
@@ -93,4 +150,15 @@ pub fn read_end(s: &[u8], at: usize, word: &[u8]) -> End
     ensures { λ r. ⌜ r ≡ endOf (now (word .entry)) (linesOf (drop at (now (s .entry)))) ⌝ }
 {
     Reader::open(s).moved(at).end(word)
+}
+
+// What the line that starts at `at` says as the writer's, and the next line's start.
+pub fn read_writer(s: &[u8], at: usize) -> WriterLine
+    ensures { λ r. ⌜ r ≡ writerLine (lineAt (now (s .entry)) at) at ⌝ }
+{
+    let read = Reader::open(s).moved(at).writer();
+    WriterLine {
+        written: read.written,
+        next: read.reader.at,
+    }
 }

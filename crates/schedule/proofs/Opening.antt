@@ -1,21 +1,19 @@
 -- The lines after kind=schedule are those of the text from byte 14 on, and the first of them is the writer's.
 use Prim.Native.Nat.{ℕ}
-use native.Mathlib.Omega.{arith}
 use mathlib.Core.Path.{_≡_, refl, ap, _∙_}
 use mathlib.Core.Bool.{false}
 use mathlib.Core.List.{List, []}
-use lib.ListN.{length, getD}
+use lib.ListN.{length}
 use Rattle.model.specs.declared.arrays.Problem.{Problem}
 use Rattle.model.specs.Instance.{Instance}
 use Rattle.model.specs.Held.{view, Valid}
 use Rattle.text.specs.Lines.{lineAt, kindSchedule}
 use Rattle.text.specs.Forms as forms
 use Rattle.text.specs.Forms.{refusedBy}
-use Rattle.text.specs.Writer.{writer-key, writer-form}
-use Rattle.text.specs.declared.Row.{Row}
+use Rattle.text.specs.Writer.{writer-form}
 use Rattle.text.proofs.Cuts.{next-lines}
 use Rattle.text.proofs.FirstLine.{schedule-is}
-use Rattle.text.proofs.PlainRows.{PlainRow}
+use Rattle.reader.proofs.WriterLines.{Passed}
 use Rattle.schedule.specs.Course.{written, writer-due, runs-due, schedule-judged}
 use Rattle.schedule.specs.Reading.{IsSchedule, schedule-outcome, schedule-read}
 use Rattle.schedule.specs.Storing.{refused-read, read-from}
@@ -32,9 +30,8 @@ module _ (P : Instance) (text : List ℕ) (is : IsSchedule text) where
       opened ∙ row-stopped P text 14 2 writer-due refl writer-form refl (g .0) ∙ ap (λ (n : ℕ). refused-read n 2) (g .1)
 
 module _ (p : Problem) (valid : Valid p) (whole : length (p .generators) ≡ 32) (text : List ℕ) (is : IsSchedule text) where
-  pub opening-passed : {row : Row} {next : ℕ} → PlainRow writer-key 1 1 65535 (lineAt text 14) 14 next row
-      → schedule-read (view p) text ≡ read-from (view p) text next 3 (runs-due (p .units) (written (getD (row .values) 0 0) []))
+  pub opening-passed : {w next : ℕ} → Passed (lineAt text 14) 14 w next → schedule-read (view p) text ≡ read-from (view p) text next 3 (runs-due (p .units) (written w []))
   opening-passed g =
       opened (view p) text is
       ∙ row-passed (view p) text 14 2 writer-due refl writer-form refl (g .line-good)
-      ∙ rw (g .first (omega arith), g .next-is, units-viewed p valid whole) refl
+      ∙ rw (g .writer-is, g .next-is, units-viewed p valid whole) refl

@@ -14,7 +14,7 @@ mod rows;
 use judge::Judgement;
 use model::arrays::Problem;
 use model::ranges::Output;
-use model::ranges::Writer;
+use reader::Written;
 use refusal::Refusal;
 use text::End;
 use text::Verdict;
@@ -53,14 +53,11 @@ pub fn read_schedule(problem: Problem, text: &[u8]) -> ScheduleRead
     requires { ⌜ Valid problem × IsSchedule (now text) ⌝ }
     ensures { λ r. ⌜ r ≡ schedule-read (view problem) (now (text .entry)) ⌝ }
 {
-    let row = text::read_row(text, 14, b"writer=", 1, Writer::LEAST, Writer::MOST);
-    let verdict = row.verdict;
-    match verdict {
-        Verdict::Refused { number } => refuse_text(number, 2, 0, 0),
-        Verdict::Good { next } => {
-            let values = row.values;
-            read_from_runs(problem, text, next, values[0])
-        }
+    let line = reader::read_writer(text, 14);
+    let written = line.written;
+    match written {
+        Written::Refused { number } => refuse_text(number, 2, 0, 0),
+        Written::By { writer } => read_from_runs(problem, text, line.next, writer),
     }
 }
 

@@ -4,22 +4,19 @@ use mathlib.Core.List.{List, [], _∷_}
 use Prim.Native.Nat.{ℕ, _≤_}
 use native.Mathlib.Omega.{arith}
 use lib.ListN.{length, drop}
-use Rattle.model.specs.Instance.{Instance, _at_}
+use Rattle.model.specs.Instance.{Instance}
 use Rattle.model.specs.Above.{root}
 use Rattle.text.specs.Lines.{Line, linesOf, lineAt, kindTree, endTree}
-use Rattle.text.specs.Forms.{rowOf, numbers-of}
 use Rattle.text.specs.Course.{refused-at, judged-from}
 use Rattle.text.specs.Ends.{endOf, endedBy, EndDue}
 use Rattle.text.specs.declared.End.{End}
 use Rattle.text.specs.declared.End.the-variants.{Last}
-use Rattle.text.specs.declared.Row.{Row}
-use Rattle.text.specs.declared.Verdict.the-variants.{Refused, Good}
-use Rattle.text.specs.Writer.{writer-key, writer-form}
+use Rattle.text.specs.Writer.{writer-form}
 use Rattle.text.proofs.Cuts.{next-lines}
 use Rattle.text.proofs.FirstLine.{tree-is}
-use Rattle.text.proofs.PlainRows.{plain-row}
 use Rattle.text.proofs.Verdicts.{form-found}
 use Rattle.text.proofs.Ends.{end-judged}
+use Rattle.reader.proofs.WriterLines.{Passed}
 use Rattle.tree.specs.declared.figures.Tally.{Tally}
 use Rattle.tree.specs.declared.figures.Bound.{Bound}
 use Rattle.tree.specs.declared.leaf.Read as code
@@ -29,7 +26,7 @@ use Rattle.tree.specs.Due.{Figures, by-writer, pending, writer-due, node
 use Rattle.tree.specs.Coded.{figures, none-read}
 use Rattle.tree.specs.Reading.{read-as, Placed, Came, ended-as}
 use Rattle.tree.proofs.Bounds.{coded-is}
-use Rattle.tree.proofs.Rows.{Moved, refused-found, row-refused, row-good, row-moved}
+use Rattle.tree.proofs.Rows.{LineRefused, Moved, refused-found, line-moved}
 use Rattle.tree.proofs.ReadLines.{from, step-refused, step-good, read-on, Past}
 
 -- ---- the first two lines
@@ -39,31 +36,27 @@ pub text-read : (P : Instance) (text : List ℕ) → IsTree text → judged P te
 unfolding judged
 text-read P text e = ap (λ (ls : List Line). judged-from (judge P) end 2 writer-due ls) (sym (next-lines text kindTree 0 (tree-is (lineAt text 0) .0 e)))
 
-module _ (P : Instance) (text : List ℕ) (row : Row) (is : row ≡ rowOf writer-form (lineAt text 10) 10) where
-  pub writer-refused : (n : ℕ) → row .verdict ≡ Refused n → from P text 10 2 writer-due ≡ refused-at n 2
+module _ (P : Instance) (text : List ℕ) where
+  pub writer-refused : (n : ℕ) → LineRefused writer-form (lineAt text 10) n → from P text 10 2 writer-due ≡ refused-at n 2
   unfolding judge tests
-  writer-refused n v = step-refused P text 10 2 writer-due refl n
-      (refused-found writer-form (lineAt text 10) n [] (next P writer-due (lineAt text 10)) (row-refused writer-form text 10 row is n v))
+  writer-refused n h = step-refused P text 10 2 writer-due refl n (refused-found writer-form (lineAt text 10) n [] (next P writer-due (lineAt text 10)) h)
 
-  module _ (n : ℕ) (v : row .verdict ≡ Good n) where
+  module _ {w n : ℕ} (h : Passed (lineAt text 10) 10 w n) where
     pub writer-moved : Moved text 10 n
-    writer-moved = row-moved writer-form text 10 row is n v
+    writer-moved = line-moved writer-form text 10 n (h .line-good) (h .next-is)
 
-    writer-is : row .values at 0 ≡ numbers-of writer-form (lineAt text 10) at 0
-    writer-is = plain-row writer-key 1 1 65535 (lineAt text 10) 10 n row is v .first (omega arith)
-
-    pub writer-read : from P text 10 2 writer-due ≡ from P text n 3 (nodes-due (by-writer (row .values at 0)) (pending root 0 ∷ []))
+    pub writer-read : from P text 10 2 writer-due ≡ from P text n 3 (nodes-due (by-writer w) (pending root 0 ∷ []))
     unfolding judge tests next
     writer-read =
         step-good P text 10 2 writer-due refl (next P writer-due (lineAt text 10)) n
-        (form-found writer-form (lineAt text 10) [] (next P writer-due (lineAt text 10)) (row-good writer-form text 10 row is n v)) writer-moved
-        ∙ ap (λ (w : ℕ). from P text n 3 (nodes-due (by-writer w) (pending root 0 ∷ []))) (sym writer-is)
+        (form-found writer-form (lineAt text 10) [] (next P writer-due (lineAt text 10)) (h .line-good)) writer-moved
+        ∙ ap (λ (x : ℕ). from P text n 3 (nodes-due (by-writer x) (pending root 0 ∷ []))) (sym (h .writer-is))
 
     pub tree-placed : length text ≤ 1048576 → Placed text n 3 none-read
-    tree-placed h =
+    tree-placed short =
         let m = writer-moved in
         let a = m .past in
-        record { short = h; inside = m .inside; numbered = omega arith; counted = omega arith }
+        record { short = short; inside = m .inside; numbered = omega arith; counted = omega arith }
 
 -- ---- the end line
 

@@ -10,11 +10,10 @@ use crate::figures::Tally;
 use crate::leaf::Read;
 use crate::node::read_node;
 use model::arrays::Problem;
-use model::ranges::Writer;
 use numbers::lay_out;
+use reader::Written;
 use refusal::Refusal;
 use text::End;
-use text::Verdict;
 
 mod above;
 pub mod figures;
@@ -72,20 +71,12 @@ pub fn read_tree(problem: Problem, text: &[u8]) -> TreeRead
     requires { ⌜ IsTree (now text) ⌝ }
     ensures { λ r. ⌜ r ≡ tree-read (view problem) (now (text .entry)) ⌝ }
 {
-    let row = text::read_row(
-        text,
-        SECOND_LINE,
-        b"writer=",
-        1,
-        Writer::LEAST,
-        Writer::MOST,
-    );
-    let verdict = row.verdict;
-    match verdict {
-        Verdict::Refused { number } => TreeRead::Refused(refusal::refuse(number, 2, 0, 0)),
-        Verdict::Good { next } => {
-            let values = row.values;
-            let writer = values[0];
+    let line = reader::read_writer(text, SECOND_LINE);
+    let written = line.written;
+    match written {
+        Written::Refused { number } => TreeRead::Refused(refusal::refuse(number, 2, 0, 0)),
+        Written::By { writer } => {
+            let next = line.next;
             let numbers = lay_out(problem);
             let mut fixed = [0u8; 1536];
             let read = read_node(&numbers, text, next, 3, 0, &mut fixed, Tally::none());

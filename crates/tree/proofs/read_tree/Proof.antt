@@ -4,9 +4,11 @@ use mathlib.Core.Path.{_≡_, refl, sym, ap, subst, _∙_}
 use mathlib.Core.List.{[]}
 use native.Mathlib.Omega.{arith}
 use lib.ListN.{replicate}
-use Rattle.model.specs.Instance.{Instance, _at_}
+use Rattle.model.specs.Instance.{Instance}
 use Rattle.model.specs.Above.{root}
 use Rattle.model.specs.Held.{view}
+use Rattle.text.specs.Lines.{lineAt}
+use Rattle.reader.proofs.WriterLines.{Passed, line-refused, line-written}
 use Rattle.tree.specs.declared.TreeRead.the-variants.{Refused}
 use Rattle.tree.specs.Coded.{above-of, none-read}
 use Rattle.tree.specs.Reading.{read-as, tree-read, node-read, Placed}
@@ -16,23 +18,17 @@ use Rattle.tree.proofs.Texts.{text-read, writer-refused, writer-read, t
 use Rattle.tree.proofs.read_tree.Statement.{statement}
 use Rattle.tree.proofs.read_tree.Tie as tie
 
-slice-aggregate-read-row : tie.Need-slice-aggregate-read-row
-slice-aggregate-read-row c = search needs
+read-writer-requires : tie.Need-read-writer-requires
+read-writer-requires c κs = search needs
 
-read-row-requires : tie.Need-read-row-requires
-read-row-requires c κs = search needs
-
-enum-known-verdict : tie.Need-enum-known-verdict
-enum-known-verdict c = search needs
+enum-known-written : tie.Need-enum-known-written
+enum-known-written c = search needs
 
 refuse-requires : tie.Need-refuse-requires
 refuse-requires c κs = search needs
 
-enum-known-verdict-2 : tie.Need-enum-known-verdict-2
-enum-known-verdict-2 c = search needs
-
-array-read-writer : tie.Need-array-read-writer
-array-read-writer c = search needs
+enum-known-written-2 : tie.Need-enum-known-written-2
+enum-known-written-2 c = search needs
 
 lay-out-requires : tie.Need-lay-out-requires
 lay-out-requires c κs = search needs
@@ -46,24 +42,28 @@ slice-aggregate-read-node-2 c = search needs
 none-requires : tie.Need-none-requires
 none-requires c κs = search needs
 
+-- the writer line is good
+passed : (c : tie.After-written2) →
+    let r = c .before .before in
+    Passed (lineAt (r .before .before .args .text .now) 10) 10 (c .written2 .given .0 .0) (r .read-writer .result .next)
+passed c =
+    let r = c .before .before in
+    line-written (lineAt (r .before .before .args .text .now) 10) 10 (r .read-writer .result) (r .read-writer .ensures) _ (c .written2 .given .1)
+
 -- where the tree starts
 placed : (c : tie.After-none) →
-    let good = c .before .before .before .before .before .before in
-    Placed (good .before .before .before .before .before .args .text .now) (good .verdict2 .given .0 .0) 3 (c .none .result)
+    let r = c .before .before .before .before .before .before .before in
+    Placed (r .before .before .args .text .now) (r .read-writer .result .next) 3 (c .none .result)
 placed c =
-    let good = c .before .before .before .before .before .before in
-    let r = good .before .before in
-    let s = r .before .before .before in
-    let v = good .verdict2 .given in
+    let good = c .before .before .before .before .before in
+    let s = good .before .before .before .before in
     let e = c .none .ensures in
-    rw e (tree-placed (view (s .args .problem)) (s .args .text .now) (r .read-row .result) (r .read-row .ensures) (v .0 .0) (v .1) (s .pre .1 .0))
+    rw e (tree-placed (view (s .args .problem)) (s .args .text .now) (passed good) (s .pre .1 .0))
 
 read-node-requires : tie.Need-read-node-requires
 read-node-requires c κs =
     let o = c .before .before .before in
-    let good = o .before .before .before in
-    let r = good .before .before in
-    let s = r .before .before .before in
+    let s = o .before .before .before .before .before .before in
     (o .lay-out .ensures .1 (s .pre .0) .0, (placed c, (omega arith, refl)))
 
 read-end-requires : tie.Need-read-end-requires
@@ -75,42 +75,41 @@ returns : tie.Need-returns
 unfolding tree-read read-as
 returns c =
     let r = c .before .before .before .before in
-    let s = r .before .before .before in
+    let s = r .before .before in
     let P = view (s .args .problem) in
     let text = s .args .text .now in
-    let v = c .before .before .verdict .given in
-    ap Refused (c .refuse .ensures) ∙ sym (ap read-as (text-read P text (s .pre .1 .1) ∙ writer-refused P text (r .read-row .result) (r .read-row .ensures) (v .0 .0) (v .1)))
+    let v = c .before .before .written .given in
+    let stopped = line-refused (lineAt text 10) 10 (r .read-writer .result) (r .read-writer .ensures) (v .0 .0) (v .1) in
+    ap Refused (c .refuse .ensures) ∙ sym (ap read-as (text-read P text (s .pre .1 .1) ∙ writer-refused P text (v .0 .0) stopped))
 
 returns-2 : tie.Need-returns-2
 unfolding tree-read
 returns-2 c =
     let n = c .before .before in
     let o = n .before .before .before .before in
-    let good = o .before .before .before in
+    let good = o .before .before in
     let r = good .before .before in
-    let s = r .before .before .before in
+    let s = r .before .before in
     let P = view (s .args .problem) in
     let text = s .args .text .now in
-    let v = good .verdict2 .given in
-    let w = r .read-row .result .values at 0 in
-    let tree = subst (λ (Q : Instance). n .read-node .result ≡ node-read Q text (v .0 .0) 3 (n .before .none .result) (above-of (Q .periods) (replicate 1536 0)) 0) (o .lay-out .ensures .1 (s .pre .0) .1) (n .read-node .ensures .0) in
+    let w = good .written2 .given .0 .0 in
+    let next = r .read-writer .result .next in
+    let tree = subst (λ (Q : Instance). n .read-node .result ≡ node-read Q text next 3 (n .before .none .result) (above-of (Q .periods) (replicate 1536 0)) 0) (o .lay-out .ensures .1 (s .pre .0) .1) (n .read-node .ensures .0) in
     let node = rw (root-is (P .periods), n .before .none .ensures) at tree in
     c .read-end .ensures
     ∙ ended-read P text w (n .read-node .result)
     ∙ sym (ap read-as
-    (text-read P text (s .pre .1 .1) ∙ writer-read P text (r .read-row .result) (r .read-row .ensures) (v .0 .0) (v .1)
-    ∙ node-judged P text (v .0 .0) 3 none-read root 0 w [] ∙ ap (read-on P text w []) (sym node)))
+    (text-read P text (s .pre .1 .1) ∙ writer-read P text (passed good)
+    ∙ node-judged P text next 3 none-read root 0 w [] ∙ ap (read-on P text w []) (sym node)))
 
 pub read-tree-spec : {M : Type 1} → statement M
 read-tree-spec =
     tie.close
     (tie.spec
-    slice-aggregate-read-row
-    read-row-requires
-    enum-known-verdict
+    read-writer-requires
+    enum-known-written
     refuse-requires
-    enum-known-verdict-2
-    array-read-writer
+    enum-known-written-2
     lay-out-requires
     slice-aggregate-read-node
     slice-aggregate-read-node-2
