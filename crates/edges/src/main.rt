@@ -2,11 +2,10 @@
 // stdin beside src/ says what orders there are.
 ghost use mathlib.Core.Path.{_≡_};
 ghost use lib.ListN.{length};
-use crate::desk::Desk;
+use crate::dockets::Dockets;
 use libc::STDIN_FILENO;
 
-mod desk;
-mod fields;
+mod dockets;
 mod orders;
 mod show;
 mod texts;
@@ -28,11 +27,15 @@ fn text_room() -> [u8; 1048577]
 
 // Carries out the orders.
 fn run(input: &[u8], text: &mut [u8]) {
-    let mut desk = Desk::fresh();
+    let mut all = Dockets::fresh();
+    let mut size = 0;
     let mut at = 0;
     while at < input.len() {
         let end = bytes::scan::find(input, at, input.len(), 10);
-        desk = orders::run(desk, &input[at..end], text);
+        let line = &input[at..end];
+        let order = orders::read(line);
+        size = texts::run(order, size, line, text);
+        all = dockets::run(all, order, size, line, text);
         if end == input.len() {
             return;
         }

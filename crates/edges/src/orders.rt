@@ -1,30 +1,102 @@
-// The orders, one to a line.
-ghost use mathlib.Core.Path.{_≡_};
-ghost use lib.ListN.{take};
-ghost use Rattle.docket.specs.Lodging.{lodge-of};
-use crate::desk::Desk;
-use crate::fields;
+// The orders, one to a line. An order's code is its place among what lines begin with (`read`): 0 to 4 have no number, 5 to 11 one, 12 to
+// 15 two, and 16 is no order.
 use crate::show;
-use crate::texts;
 use crate::words;
 use crate::words::Numeral;
-use docket::Docket;
 
-// What a line orders.
-enum Order {
-    Nothing,
-    Text,
-    More,
-    Fill,
-    Cut,
-    Lodge,
-    Give,
-    Ask,
-    Fresh,
-    Keep,
-    Take,
-    Set,
-    Unknown,
+// A line as it is read: its code, its numbers, and where what follows its beginning starts.
+pub struct Order {
+    pub code: usize,
+    pub a: u64,
+    pub b: u64,
+    pub from: usize,
+}
+
+// The order without numbers.
+fn bare(code: usize, from: usize) -> Order {
+    Order {
+        code,
+        a: 0,
+        b: 0,
+        from,
+    }
+}
+
+// No order; prints the line.
+fn misread(line: &[u8]) -> Order {
+    show::misread(line);
+    bare(16, 0)
+}
+
+// Which of the beginnings, each ended by a slash, the line has.
+fn begin(line: &[u8], beginnings: &[u8]) -> Order {
+    let mut at = 0;
+    let mut code = 0;
+    while at < beginnings.len() {
+        let end = bytes::scan::find(beginnings, at, beginnings.len(), 47);
+        if text::starts(line, 0, &beginnings[at..end]) {
+            return bare(code, end - at);
+        }
+        if end == beginnings.len() {
+            return bare(16, 0);
+        }
+        at = end + 1;
+        code += 1;
+    }
+    bare(16, 0)
+}
+
+// The largest first number that an order may have.
+fn most(code: usize) -> u64 {
+    match code {
+        6 | 7 => 7,
+        8 => 1,
+        10 => 65_535,
+        13 => 9_223_372_036_854_775_808,
+        14 => 9_223_372_036_854_775_807,
+        15 => 160,
+        _ => 18_446_744_073_709_551_615,
+    }
+}
+
+// The order with its second number, which stands first in s, and is the last word but of an order that takes a name.
+fn with_second(line: &[u8], code: usize, a: u64, from: usize, s: &[u8]) -> Order {
+    let Numeral::Value(b) = words::number(words::first(s)) else {
+        return misread(line);
+    };
+    let left = words::rest(s);
+    if code < 15 {
+        if left.len() != 0 {
+            return misread(line);
+        }
+    }
+    Order { code, a, b, from }
+}
+
+// The order with its numbers, which start at `from`; one is the last word but of an order that takes a byte.
+fn with_numbers(line: &[u8], code: usize, from: usize) -> Order {
+    let s = words::after(line, from);
+    let Numeral::Value(a) = words::number(words::first(s)) else {
+        return misread(line);
+    };
+    if most(code) < a {
+        return misread(line);
+    }
+    let more = words::rest(s);
+    if 11 < code {
+        return with_second(line, code, a, from, more);
+    }
+    if code < 11 {
+        if more.len() != 0 {
+            return misread(line);
+        }
+    }
+    Order {
+        code,
+        a,
+        b: 0,
+        from,
+    }
 }
 
 // Whether the line is empty or a comment.
@@ -35,106 +107,29 @@ fn is_note(line: &[u8]) -> bool {
     line[0] == 35
 }
 
-// What a line orders whose first word is this.
-fn order_by(word: &[u8]) -> Order {
-    if words::is(word, b"text") {
-        return Order::Text;
-    }
-    if words::is(word, b"more") {
-        return Order::More;
-    }
-    if words::is(word, b"fill") {
-        return Order::Fill;
-    }
-    if words::is(word, b"cut") {
-        return Order::Cut;
-    }
-    if words::is(word, b"lodge") {
-        return Order::Lodge;
-    }
-    if words::is(word, b"ask") {
-        return Order::Ask;
-    }
-    if words::is(word, b"keep") {
-        return Order::Keep;
-    }
-    if words::is(word, b"take") {
-        return Order::Take;
-    }
-    if words::is(word, b"set") {
-        return Order::Set;
-    }
-    Order::Unknown
-}
-
-// What the line orders.
-fn order_of(line: &[u8]) -> Order {
+// The order that the line is.
+pub fn read(line: &[u8]) -> Order {
     if is_note(line) {
-        return Order::Nothing;
+        return bare(16, 0);
     }
-    if words::is(line, b"give") {
-        return Order::Give;
+    let order = begin(
+        line,
+        b"lodge /text /more /give/fresh/cut /keep /take /set known /set periods /set outputs /fill /set cost /set bound -/set bound /ask /",
+    );
+    let code = order.code;
+    let from = order.from;
+    match code {
+        0 | 1 | 2 => order,
+        3 | 4 => whole(line, order),
+        16 => misread(line),
+        _ => with_numbers(line, code, from),
     }
-    if words::is(line, b"fresh") {
-        return Order::Fresh;
-    }
-    order_by(words::first(line))
 }
 
-// The docket after the text was lodged in it.
-fn give(d: Docket, size: usize, text: &[u8]) -> Docket
-    ensures { λ r. ⌜ r ≡ lodge-of d (take size (now (text .entry))) .docket ⌝ }
-{
-    let lodged = d.lodge(texts::front(text, size));
-    lodged.docket
-}
-
-// The docket after the text was lodged in it; prints the line of the case.
-fn lodge(d: Docket, size: usize, line: &[u8], text: &[u8]) -> Docket
-    ensures { λ r. ⌜ r ≡ lodge-of d (take size (now (text .entry))) .docket ⌝ }
-{
-    show::lodge(words::rest(line), d, texts::front(text, size))
-}
-
-// The docket after a report was asked for; prints the line of the case.
-fn ask(d: Docket, line: &[u8]) -> Docket
-    ensures { λ r. ⌜ r ≡ d ⌝ }
-{
-    let s = words::rest(line);
-    let Numeral::Value(n) = words::number(words::first(s)) else {
-        show::misread(line);
-        return d;
-    };
-    let more = words::rest(s);
-    let Numeral::Value(at) = words::number(words::first(more)) else {
-        show::misread(line);
-        return d;
-    };
-    if n <= 160 {
-        return show::ask(words::rest(more), d, n as usize, at as usize);
+// The order where nothing follows its beginning.
+fn whole(line: &[u8], order: Order) -> Order {
+    if order.from == line.len() {
+        return order;
     }
-    show::misread(line);
-    d
-}
-
-// The desk after the line was carried out.
-pub fn run(desk: Desk, line: &[u8], text: &mut [u8]) -> Desk {
-    let order = order_of(line);
-    let docket = desk.docket;
-    let size = desk.size;
-    match order {
-        Order::Nothing => desk,
-        Order::Text => desk.with_size(texts::more(0, line, text)),
-        Order::More => desk.with_size(texts::more(size, line, text)),
-        Order::Fill => desk.with_size(texts::fill(size, line, text)),
-        Order::Cut => desk.with_size(texts::cut(size, line)),
-        Order::Lodge => desk.with_docket(lodge(docket, size, line, text)),
-        Order::Give => desk.with_docket(give(docket, size, text)),
-        Order::Ask => desk.with_docket(ask(docket, line)),
-        Order::Fresh => desk.with_docket(Docket::fresh()),
-        Order::Keep => desk.keep(line),
-        Order::Take => desk.take(line),
-        Order::Set => desk.with_docket(fields::set(docket, line)),
-        Order::Unknown => desk.misread(line),
-    }
+    misread(line)
 }

@@ -5,9 +5,9 @@ ghost use Prim.Native.Nat.{_≤_};
 ghost use lib.ListN.{length, take, replicate};
 ghost use Rattle.writer.specs.Written.{over};
 ghost use Rattle.edges.specs.Texts.{byte-of};
+use crate::orders::Order;
 use crate::show;
 use crate::words;
-use crate::words::Numeral;
 
 // The byte that b stands for: byte 10 for a slash, else b.
 fn byte_of(b: u8) -> u8
@@ -58,9 +58,8 @@ fn misread(size: usize, line: &[u8]) -> usize {
     size
 }
 
-// The text goes on with the bytes that the line gives.
-pub fn more(size: usize, line: &[u8], text: &mut [u8]) -> usize {
-    let s = words::rest(line);
+// The text goes on after its first `size` bytes with those that s stands for.
+fn more(size: usize, line: &[u8], s: &[u8], text: &mut [u8]) -> usize {
     if size <= text.len() {
         if s.len() <= text.len() - size {
             put(&mut text[size..], s);
@@ -70,18 +69,12 @@ pub fn more(size: usize, line: &[u8], text: &mut [u8]) -> usize {
     misread(size, line)
 }
 
-// The text goes on with the byte that the line gives, up to the size that it gives.
-pub fn fill(size: usize, line: &[u8], text: &mut [u8]) -> usize {
-    let s = words::rest(line);
-    let Numeral::Value(n) = words::number(words::first(s)) else {
-        return misread(size, line);
-    };
-    let to = n as usize;
-    let byte = words::rest(s);
-    if byte.len() == 1 {
+// The text goes on with a byte, up to the size `to`.
+fn fill(size: usize, line: &[u8], to: usize, s: &[u8], text: &mut [u8]) -> usize {
+    if s.len() == 1 {
         if size <= to {
             if to <= text.len() {
-                repeat(&mut text[size..to], byte_of(byte[0]));
+                repeat(&mut text[size..to], byte_of(s[0]));
                 return to;
             }
         }
@@ -89,14 +82,24 @@ pub fn fill(size: usize, line: &[u8], text: &mut [u8]) -> usize {
     misread(size, line)
 }
 
-// The text is so many of its first bytes as the line says.
-pub fn cut(size: usize, line: &[u8]) -> usize {
-    let Numeral::Value(n) = words::number(words::rest(line)) else {
-        return misread(size, line);
-    };
-    let to = n as usize;
+// The text is its first bytes, `to` of them.
+fn cut(size: usize, line: &[u8], to: usize) -> usize {
     if to <= size {
         return to;
     }
     misread(size, line)
+}
+
+// The text's size after the order.
+pub fn run(order: Order, size: usize, line: &[u8], text: &mut [u8]) -> usize {
+    let code = order.code;
+    let from = order.from;
+    let s = words::after(line, from);
+    match code {
+        1 => more(0, line, s, text),
+        2 => more(size, line, s, text),
+        5 => cut(size, line, order.a as usize),
+        11 => fill(size, line, order.a as usize, words::rest(s), text),
+        _ => size,
+    }
 }

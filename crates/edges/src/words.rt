@@ -6,7 +6,6 @@ ghost use lib.Dec.{ltb};
 ghost use lib.ListN.{length};
 ghost use Rattle.bytes.specs.Bytes.{indexOf};
 ghost use Rattle.decimal.specs.Decimal.{isDigit, canonical};
-ghost use Rattle.text.specs.Lines.{same};
 ghost use Rattle.edges.specs.Words.{first-of, rest-of};
 ghost use Rattle.edges.specs.Numbers.{limit, value-of, number-of};
 
@@ -14,12 +13,6 @@ ghost use Rattle.edges.specs.Numbers.{limit, value-of, number-of};
 pub enum Numeral {
     Malformed,
     Value(u64),
-}
-
-// No number with a minus or without, or its value.
-pub enum Integer {
-    Malformed,
-    Value(i64),
 }
 
 // The place of the first space, or the number of bytes where there is none.
@@ -50,14 +43,12 @@ pub fn rest(s: &[u8]) -> &[u8]
     &s[n..]
 }
 
-// Whether s is the word.
-pub fn is(s: &[u8], word: &[u8]) -> bool
-    ensures { λ r. ⌜ r ≡ same (now (word .entry)) (now (s .entry)) ⌝ }
-{
-    if s.len() == word.len() {
-        return text::starts(s, 0, word);
+// What stands from a place on.
+pub fn after(s: &[u8], from: usize) -> &[u8] {
+    if from <= s.len() {
+        return &s[from..];
     }
-    false
+    s
 }
 
 // Whether the byte is a digit that can follow digits of this value, so that the value fits 64 bits.
@@ -115,41 +106,4 @@ pub fn number(s: &[u8]) -> Numeral
         return value(s);
     }
     Numeral::Malformed
-}
-
-// The number below 0 of this size. The complement of n - 1 is -n.
-fn minus(size: Numeral) -> Integer {
-    let Numeral::Value(n) = size else {
-        return Integer::Malformed;
-    };
-    if n == 0 {
-        return Integer::Malformed;
-    }
-    let less = n - 1;
-    if less < 9_223_372_036_854_775_808 {
-        return Integer::Value(!(less as i64));
-    }
-    Integer::Malformed
-}
-
-// The number from 0 on of this size.
-fn plus(size: Numeral) -> Integer {
-    let Numeral::Value(n) = size else {
-        return Integer::Malformed;
-    };
-    if n < 9_223_372_036_854_775_808 {
-        return Integer::Value(n as i64);
-    }
-    Integer::Malformed
-}
-
-// The number that s is, with a minus or without, where it fits 64 bits.
-pub fn signed(s: &[u8]) -> Integer {
-    if s.len() == 0 {
-        return Integer::Malformed;
-    }
-    if s[0] == 45 {
-        return minus(number(&s[1..]));
-    }
-    plus(number(s))
 }

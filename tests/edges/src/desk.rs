@@ -6,11 +6,10 @@ use crate::show::{answer_shown, report_shown};
 /// One byte more than a text may have.
 const ROOM: usize = 1_048_577;
 
-/// The docket, those that are kept, the text, and the lines so far.
+/// The docket in hand and those that are kept under 1 to 7, the text, and the lines so far.
 #[derive(Default)]
 pub struct Desk {
-    docket: Given,
-    kept: [Given; 8],
+    dockets: [Given; 8],
     text: Vec<u8>,
     pub lines: Vec<String>,
 }
@@ -27,8 +26,8 @@ impl Desk {
         let (word, rest) = parted(line);
         match word {
             _ if line.is_empty() || line.starts_with('#') => Some(()),
-            "text" => self.extend(0, bytes_of(rest)),
-            "more" => self.extend(self.text.len(), bytes_of(rest)),
+            "text" if !rest.is_empty() => self.extend(0, bytes_of(rest)),
+            "more" if !rest.is_empty() => self.extend(self.text.len(), bytes_of(rest)),
             "fill" => self.fill(rest),
             "cut" => self.cut(number(rest)?),
             "lodge" => self.lodge(rest),
@@ -36,8 +35,8 @@ impl Desk {
             "ask" => self.ask(rest),
             "fresh" if line == word => self.take(Given::default()),
             "keep" => self.keep(number(rest)?),
-            "take" => self.take(self.kept.get(number::<usize>(rest)?)?.clone()),
-            "set" => self.take(self.docket.clone().set(rest)?),
+            "take" => self.take(self.dockets.get(number::<usize>(rest)?)?.clone()),
+            "set" => self.take(self.dockets[0].clone().set(rest)?),
             _ => None,
         }
     }
@@ -74,14 +73,14 @@ impl Desk {
     }
 
     fn lodge(&mut self, name: &str) -> Option<()> {
-        let answer = self.docket.lodge(&self.text);
-        let holds = self.docket.shown();
+        let answer = self.dockets[0].lodge(&self.text);
+        let holds = self.dockets[0].shown();
         self.lines.push(format!("{name}: {}; {holds}", answer_shown(answer)));
         Some(())
     }
 
     fn give(&mut self) -> Option<()> {
-        self.docket.lodge(&self.text);
+        self.dockets[0].lodge(&self.text);
         Some(())
     }
 
@@ -92,17 +91,17 @@ impl Desk {
         if 160 < size {
             return None;
         }
-        self.lines.push(format!("{name}: {}", report_shown(self.docket.judged(), size, place)));
+        self.lines.push(format!("{name}: {}", report_shown(self.dockets[0].judged(), size, place)));
         Some(())
     }
 
     fn keep(&mut self, place: usize) -> Option<()> {
-        *self.kept.get_mut(place)? = self.docket.clone();
+        *self.dockets.get_mut(place)? = self.dockets[0].clone();
         Some(())
     }
 
     fn take(&mut self, docket: Given) -> Option<()> {
-        self.docket = docket;
+        self.dockets[0] = docket;
         Some(())
     }
 }

@@ -23,7 +23,10 @@ fn there_are_116_cases() {
 
 #[test]
 fn a_line_that_is_no_order_shows() {
-    for line in ["lodges x", "fresh docket", "give 1", "keep 8", "take", "cut 1", "fill 3 xy", "fill 1048578 /", "ask 161 0 x", "set known 2", "set bound -0 1"] {
+    let texts = ["text", "cut 1", "cut 0 0", "fill 3 xy", "fill 1048578 /"];
+    let dockets = ["lodges x", "fresh docket", "give 1", "keep 8", "take", "take 1 2", "ask 161 0 x"];
+    let fields = ["set known 2", "set outputs 65536", "set cost 1", "set bound 9223372036854775808 1"];
+    for line in texts.iter().chain(&dockets).chain(&fields) {
         assert_eq!(edges::lines(line), [format!("not understood: {line}")]);
     }
     assert_eq!(edges::lines("# lodge x\n\n"), [""; 0]);

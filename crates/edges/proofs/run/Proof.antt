@@ -8,10 +8,10 @@ use Rattle.edges.proofs.run.Statement.{statement}
 use Rattle.edges.proofs.run.Tie as tie
 
 abbrev Inv-loop : tie.InvT-loop
-Inv-loop input text₀ desk₀ at₀ text desk at = (at ≤ length input) × (length text ≡ length text₀)
+Inv-loop input text₀ all₀ size₀ at₀ text all size at = (at ≤ length input) × (length text ≡ length text₀)
 
 abbrev μ-loop : tie.MeasureT-loop
-μ-loop input text₀ desk₀ at₀ text desk at = length input - at
+μ-loop input text₀ all₀ size₀ at₀ text all size at = length input - at
 
 fresh-requires : tie.Need-fresh-requires Inv-loop μ-loop
 fresh-requires c κs = search needs
@@ -22,17 +22,23 @@ loop-holds c = omega arith
 find-requires : tie.Need-find-requires Inv-loop μ-loop
 find-requires c κs = search needs
 
-sub-run : tie.Need-sub-run Inv-loop μ-loop
-sub-run c = omega (arith, c .find .ensures .0)
+sub-line : tie.Need-sub-line Inv-loop μ-loop
+sub-line c = omega arith
 
-part-run-start : tie.Need-part-run-start Inv-loop μ-loop
-part-run-start c = omega (arith, c .find .ensures .0)
+part-line-start : tie.Need-part-line-start Inv-loop μ-loop
+part-line-start c = omega arith
 
-part-run-end : tie.Need-part-run-end Inv-loop μ-loop
-part-run-end c = omega (arith, c .find .ensures .1)
+part-line-end : tie.Need-part-line-end Inv-loop μ-loop
+part-line-end c = omega arith
+
+read-requires : tie.Need-read-requires Inv-loop μ-loop
+read-requires c κs = search needs
 
 run-requires : tie.Need-run-requires Inv-loop μ-loop
 run-requires c κs = search needs
+
+run-requires-2 : tie.Need-run-requires-2 Inv-loop μ-loop
+run-requires-2 c κs = search needs
 
 same-length : tie.Need-same-length Inv-loop μ-loop
 same-length c = search needs
@@ -40,18 +46,14 @@ same-length c = search needs
 returns : tie.Need-returns Inv-loop μ-loop
 returns c = search needs
 
-module _ (c : tie.Else1 Inv-loop μ-loop) where
-  abbrev found : tie.After-find Inv-loop μ-loop
-  found = c .before .before .before .before .before .before
-
 add-at : tie.Need-add-at Inv-loop μ-loop
-add-at c = omega (arith, c .if1 .left, found c .find .ensures .1)
+add-at c = omega arith
 
 loop-less : tie.Need-loop-less Inv-loop μ-loop
-loop-less c = omega (arith, c .if1 .left, found c .find .ensures .0, found c .find .ensures .1)
+loop-less c = omega arith
 
 loop-again : tie.Need-loop-again Inv-loop μ-loop
-loop-again c = (omega (arith, c .if1 .left, found c .find .ensures .1), search needs)
+loop-again c = (omega arith, search needs)
 
 same-length-2 : tie.Need-same-length-2 Inv-loop μ-loop
 same-length-2 c = search needs
@@ -68,10 +70,12 @@ run-spec =
     fresh-requires
     loop-holds
     find-requires
-    sub-run
-    part-run-start
-    part-run-end
+    sub-line
+    part-line-start
+    part-line-end
+    read-requires
     run-requires
+    run-requires-2
     same-length
     returns
     add-at

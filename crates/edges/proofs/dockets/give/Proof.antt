@@ -3,8 +3,8 @@ use mathlib.Core.Path.{ap, _∙_}
 use borrow.Author.Needs.{needs}
 use Rattle.docket.specs.Lodging.{lodge-of}
 use Rattle.docket.specs.declared.Lodged.{Lodged}
-use Rattle.edges.proofs.orders.give.Statement.{statement}
-use Rattle.edges.proofs.orders.give.Tie as tie
+use Rattle.edges.proofs.dockets.give.Statement.{statement}
+use Rattle.edges.proofs.dockets.give.Tie as tie
 
 front-requires : tie.Need-front-requires
 front-requires c κs = search needs
