@@ -1,5 +1,7 @@
-// Carries out the orders of standard input, line by line: lodges texts in dockets, asks for reports, and prints a line for each. The file
-// stdin beside src/ says what orders there are.
+// Carries out the orders of standard input, one to a line: lodges texts in dockets, asks for reports, and prints a line for each text that is
+// lodged under a name and for each report. The orders are `text`, `more`, `fill` and `cut`, which make the text; `lodge`, `give` and `ask`;
+// `fresh`, `keep` and `take`, which say in which docket; and `set`, which makes dockets that no lodging makes. The file stdin beside src/ has
+// the cases, and says above them what each order does. A line that is no order is printed, so that the file stdout does not fit.
 ghost use mathlib.Core.Path.{_≡_};
 ghost use lib.ListN.{length};
 use crate::dockets::Dockets;
