@@ -51,12 +51,13 @@ counted() {
   count_last "$work/counted" "$status" "$name"
 }
 
-# beside NAME COMMAND..: the same, at the same time as what follows, until 'taken NAME' shows what it printed
+# beside NAME COMMAND..: the same, on the time that what follows leaves idle, until 'taken NAME' shows what it printed
 beside() {
   local name=$1
   shift
   (
     passed=0 failed=0
+    renice -n 10 -p "$BASHPID" >/dev/null
     "$@"
   ) >"$work/$name" 2>&1 &
   echo $! >"$work/$name.job"
