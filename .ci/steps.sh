@@ -2,8 +2,10 @@
 passed=0
 failed=0
 began=$(date +%s)
-work=$(mktemp -d)
-trap 'jobs=$(jobs -p); [ -z "$jobs" ] || kill $jobs 2>/dev/null; rm -rf "$work"' EXIT
+work=$(mktemp -d) || exit 1
+# what still runs beside is a group of its own, and ends with the gate
+trap 'for job in $(jobs -p); do kill -- "-$job" 2>/dev/null; done; rm -rf "$work"' EXIT
+trap 'exit 1' INT TERM HUP
 
 # Up to three crates or edits are checked at a time, one for each 2 GB of memory that are free.
 room=$(awk '$1 == "MemAvailable:" { print int($2 / 2097152) }' /proc/meminfo)
@@ -14,9 +16,9 @@ say() { printf '== %s (%s s)\n' "$1" "$(($(date +%s) - began))"; }
 
 # count PASSED FAILED NAME: adds a step's tests; a step that ran none has failed
 count() {
-  passed=$((passed + $1))
-  failed=$((failed + $2))
-  if [ "$(($1 + $2))" -eq 0 ]; then
+  passed=$((passed + 10#$1))
+  failed=$((failed + 10#$2))
+  if [ "$((10#$1 + 10#$2))" -eq 0 ]; then
     failed=$((failed + 1))
     echo "no test ran: $3"
   fi
@@ -55,12 +57,14 @@ counted() {
 beside() {
   local name=$1
   shift
+  set -m
   (
     passed=0 failed=0
     renice -n 10 -p "$BASHPID" >/dev/null
     "$@"
-  ) >"$work/$name" 2>&1 &
+  ) >"$work/$name" 2>&1 </dev/null &
   echo $! >"$work/$name.job"
+  set +m
 }
 
 taken() {

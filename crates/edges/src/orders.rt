@@ -59,14 +59,27 @@ fn most(code: usize) -> u64 {
     }
 }
 
+// The smallest first number that an order may have.
+fn least(code: usize) -> u64 {
+    match code {
+        6 | 7 | 13 => 1,
+        _ => 0,
+    }
+}
+
+// Whether s is one word, with no space after it.
+fn is_word(s: &[u8]) -> bool {
+    let word = words::first(s);
+    word.len() == s.len()
+}
+
 // The order with its second number, which stands first in s, and is the last word but of an order that takes a name.
 fn with_second(line: &[u8], code: usize, a: u64, from: usize, s: &[u8]) -> Order {
     let Numeral::Value(b) = words::number(words::first(s)) else {
         return misread(line);
     };
-    let left = words::rest(s);
     if code < 15 {
-        if left.len() != 0 {
+        if !is_word(s) {
             return misread(line);
         }
     }
@@ -82,12 +95,14 @@ fn with_numbers(line: &[u8], code: usize, from: usize) -> Order {
     if most(code) < a {
         return misread(line);
     }
-    let more = words::rest(s);
+    if a < least(code) {
+        return misread(line);
+    }
     if 11 < code {
-        return with_second(line, code, a, from, more);
+        return with_second(line, code, a, from, words::rest(s));
     }
     if code < 11 {
-        if more.len() != 0 {
+        if !is_word(s) {
             return misread(line);
         }
     }
@@ -119,11 +134,19 @@ pub fn read(line: &[u8]) -> Order {
     let code = order.code;
     let from = order.from;
     match code {
-        0 | 1 | 2 => order,
+        0 | 1 | 2 => followed(line, order),
         3 | 4 => whole(line, order),
         16 => misread(line),
         _ => with_numbers(line, code, from),
     }
+}
+
+// The order where something follows its beginning.
+fn followed(line: &[u8], order: Order) -> Order {
+    if order.from == line.len() {
+        return misread(line);
+    }
+    order
 }
 
 // The order where nothing follows its beginning.

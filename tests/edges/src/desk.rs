@@ -30,12 +30,12 @@ impl Desk {
             "more" if !rest.is_empty() => self.extend(self.text.len(), bytes_of(rest)),
             "fill" => self.fill(rest),
             "cut" => self.cut(number(rest)?),
-            "lodge" => self.lodge(rest),
+            "lodge" if !rest.is_empty() => self.lodge(rest),
             "give" if line == word => self.give(),
             "ask" => self.ask(rest),
             "fresh" if line == word => self.take(Given::default()),
-            "keep" => self.keep(number(rest)?),
-            "take" => self.take(self.dockets.get(number::<usize>(rest)?)?.clone()),
+            "keep" => self.keep(kept(rest)?),
+            "take" => self.take(self.dockets.get(kept(rest)?)?.clone()),
             "set" => self.take(self.dockets[0].clone().set(rest)?),
             _ => None,
         }
@@ -75,7 +75,8 @@ impl Desk {
     fn lodge(&mut self, name: &str) -> Option<()> {
         let answer = self.dockets[0].lodge(&self.text);
         let holds = self.dockets[0].shown();
-        self.lines.push(format!("{name}: {}; {holds}", answer_shown(answer)));
+        self.lines
+            .push(format!("{name}: {}; {holds}", answer_shown(answer)));
         Some(())
     }
 
@@ -91,7 +92,10 @@ impl Desk {
         if 160 < size {
             return None;
         }
-        self.lines.push(format!("{name}: {}", report_shown(self.dockets[0].judged(), size, place)));
+        self.lines.push(format!(
+            "{name}: {}",
+            report_shown(self.dockets[0].judged(), size, place)
+        ));
         Some(())
     }
 
@@ -113,10 +117,19 @@ pub fn parted(line: &str) -> (&str, &str) {
 
 /// The number that the word is, without leading zeros or a plus.
 pub fn number<N: std::str::FromStr + ToString>(word: &str) -> Option<N> {
-    word.parse().ok().filter(|number: &N| number.to_string() == word)
+    word.parse()
+        .ok()
+        .filter(|number: &N| number.to_string() == word)
+}
+
+/// The number under which a docket is kept, from 1 on.
+fn kept(word: &str) -> Option<usize> {
+    number(word).filter(|&place| place != 0)
 }
 
 /// The bytes that a line gives, byte 10 for each slash.
 fn bytes_of(line: &str) -> Vec<u8> {
-    line.bytes().map(|byte| if byte == b'/' { 10 } else { byte }).collect()
+    line.bytes()
+        .map(|byte| if byte == b'/' { 10 } else { byte })
+        .collect()
 }

@@ -55,8 +55,20 @@ impl Given {
             "known" if values == "0" || values == "1" => shown.known = values == "1",
             "periods" => shown.periods = number(values)?,
             "outputs" => shown.outputs = [i64::from(number::<u16>(values)?); 5],
-            "cost" => shown.cost = Some(format!("{},{}", number::<u64>(first)?, number::<u64>(second)?)),
-            "bound" => shown.bound = Some(format!("{},{}", number::<i64>(first)?, number::<u64>(second)?)),
+            "cost" => {
+                shown.cost = Some(format!(
+                    "{},{}",
+                    number::<u64>(first)?,
+                    number::<u64>(second)?
+                ))
+            }
+            "bound" => {
+                shown.bound = Some(format!(
+                    "{},{}",
+                    number::<i64>(first)?,
+                    number::<u64>(second)?
+                ))
+            }
             _ => return None,
         }
         Some(Given::Set(shown))

@@ -17,7 +17,9 @@ pub struct Shown {
 impl Shown {
     pub fn of(docket: &Docket) -> Shown {
         let mut outputs = [0; 5];
-        let rows = docket.held_cost().map_or_else(Vec::new, |held| held.rows.concat());
+        let rows = docket
+            .held_cost()
+            .map_or_else(Vec::new, |held| held.rows.concat());
         for (output, shown) in rows.into_iter().zip(&mut outputs) {
             *shown = output;
         }
@@ -25,8 +27,12 @@ impl Shown {
             known: docket.problem().is_some(),
             periods: docket.problem().map_or(0, |problem| problem.demand.len()),
             units: docket.problem().map_or(0, |problem| problem.units.len()),
-            cost: docket.held_cost().map(|held| format!("{},{}", held.cost, held.writer)),
-            bound: docket.held_bound().map(|held| format!("{},{}", held.bound, held.writer)),
+            cost: docket
+                .held_cost()
+                .map(|held| format!("{},{}", held.cost, held.writer)),
+            bound: docket
+                .held_bound()
+                .map(|held| format!("{},{}", held.bound, held.writer)),
             outputs,
         }
     }
@@ -35,7 +41,11 @@ impl Shown {
 impl fmt::Display for Shown {
     fn fmt(&self, f: &mut fmt::Formatter) -> fmt::Result {
         let none = || "none".to_string();
-        let problem = if self.known { format!("{},{}", self.periods, self.units) } else { none() };
+        let problem = if self.known {
+            format!("{},{}", self.periods, self.units)
+        } else {
+            none()
+        };
         let cost = self.cost.clone().unwrap_or_else(none);
         let bound = self.bound.clone().unwrap_or_else(none);
         let rows = self.outputs.map(|output| output.to_string()).join(",");
@@ -50,7 +60,10 @@ pub fn report_shown(docket: Docket, size: usize, place: usize) -> String {
         Ok(length) => length.to_string(),
         Err(refusal) => refusal_shown(refusal),
     };
-    let bytes: String = buffer.iter().map(|&byte| if byte == 10 { '/' } else { byte as char }).collect();
+    let bytes: String = buffer
+        .iter()
+        .map(|&byte| if byte == 10 { '/' } else { byte as char })
+        .collect();
     format!("{answer} [{bytes}]")
 }
 
@@ -59,7 +72,12 @@ fn letter(place: usize) -> u8 {
 }
 
 fn refusal_shown(refusal: Refusal) -> String {
-    let Refusal { number, line, unit, period } = refusal;
+    let Refusal {
+        number,
+        line,
+        unit,
+        period,
+    } = refusal;
     format!("refused,{number},{line},{unit},{period}")
 }
 
@@ -76,6 +94,10 @@ fn figures_shown(figures: Figures) -> String {
     match figures {
         Figures::Problem => String::new(),
         Figures::Schedule { cost } => format!(",{cost}"),
-        Figures::Tree { bound, splits, leaves } => format!(",{bound},{splits},{leaves}"),
+        Figures::Tree {
+            bound,
+            splits,
+            leaves,
+        } => format!(",{bound},{splits},{leaves}"),
     }
 }

@@ -1,5 +1,7 @@
 //! The second implementation prints the lines that the proved program prints, of the same orders.
 
+use std::collections::BTreeSet;
+
 const ORDERS: &str = include_str!("../../../crates/edges/stdin");
 
 const PROVED: &str = include_str!("../../../crates/edges/stdout");
@@ -14,18 +16,59 @@ fn the_lines_are_those_of_the_proved_program() {
     assert_eq!(proved.len(), second.len());
 }
 
+/// The lines of the file of orders up to the last eight, and these, which are no orders.
+fn orders() -> (Vec<&'static str>, Vec<&'static str>) {
+    let mut orders: Vec<&str> = ORDERS.lines().collect();
+    let others = orders.split_off(orders.len() - 8);
+    (orders, others)
+}
+
 #[test]
-fn there_are_116_cases() {
-    assert_eq!(PROVED.lines().count(), 116);
-    let cases = ORDERS.lines().filter(|line| line.starts_with("lodge ") || line.starts_with("ask "));
-    assert_eq!(cases.count(), 116);
+fn there_are_116_cases_with_names_of_their_own() {
+    let cases: Vec<&str> = PROVED
+        .lines()
+        .filter(|line| !line.starts_with("not understood: "))
+        .collect();
+    let names: BTreeSet<&str> = cases
+        .iter()
+        .filter_map(|line| line.split(": ").next())
+        .collect();
+    assert_eq!((cases.len(), names.len()), (116, 116));
+    let orders = orders()
+        .0
+        .into_iter()
+        .filter(|line| line.starts_with("lodge ") || line.starts_with("ask "));
+    assert_eq!(orders.count(), 116);
+}
+
+#[test]
+fn the_last_lines_are_no_orders() {
+    let shown = PROVED
+        .lines()
+        .filter_map(|line| line.strip_prefix("not understood: "));
+    assert_eq!(shown.collect::<Vec<_>>(), orders().1);
 }
 
 #[test]
 fn a_line_that_is_no_order_shows() {
     let texts = ["text", "cut 1", "cut 0 0", "fill 3 xy", "fill 1048578 /"];
-    let dockets = ["lodges x", "fresh docket", "give 1", "keep 8", "take", "take 1 2", "ask 161 0 x"];
-    let fields = ["set known 2", "set outputs 65536", "set cost 1", "set bound 9223372036854775808 1"];
+    let dockets = [
+        "lodge",
+        "lodges x",
+        "fresh docket",
+        "give 1",
+        "keep 0",
+        "keep 8",
+        "take",
+        "take 1 2",
+        "ask 161 0 x",
+    ];
+    let fields = [
+        "set known 2",
+        "set outputs 65536",
+        "set cost 1",
+        "set bound 9223372036854775808 1",
+    ];
     for line in texts.iter().chain(&dockets).chain(&fields) {
         assert_eq!(edges::lines(line), [format!("not understood: {line}")]);
     }
