@@ -1,6 +1,7 @@
 # Read by .ci/run and .ci/quick: steps, and their tests counted.
 passed=0
 failed=0
+failures=''
 began=$(date +%s)
 work=$(mktemp -d) || exit 1
 # what still runs beside is a group of its own, and ends with the gate
@@ -22,6 +23,7 @@ count() {
     failed=$((failed + 1))
     echo "no test ran: $3"
   fi
+  if [ "$((10#$1))" -eq 0 ] || [ "$((10#$2))" -ne 0 ]; then failures="$failures; $3"; fi
 }
 
 # check NAME COMMAND..: a command that succeeds is one test
@@ -59,7 +61,7 @@ beside() {
   shift
   set -m
   (
-    passed=0 failed=0
+    passed=0 failed=0 failures=''
     renice -n 10 -p "$BASHPID" >/dev/null
     "$@"
   ) >"$work/$name" 2>&1 </dev/null &
@@ -75,8 +77,9 @@ taken() {
   count_last "$work/$1" "$status" "$1"
 }
 
-# total: the last line of a function of steps
+# total: the last line of a function of steps, after the names of those that failed
 total() {
+  [ -z "$failures" ] || echo "failed:${failures#;}"
   echo "$passed passed, $failed failed"
   [ "$failed" -eq 0 ]
 }
@@ -94,9 +97,9 @@ rust() {
       bad=$((bad + BASH_REMATCH[2]))
     fi
   done < <(grep '^test result' "$work/rust")
-  if [ "$status" -ne 0 ] && [ "$bad" -eq 0 ]; then
-    bad=1
-    tail -n 20 "$work/rust"
+  if [ "$status" -ne 0 ]; then
+    [ "$bad" -ne 0 ] || bad=1
+    tail -n 30 "$work/rust"
   fi
   count "$good" "$bad" "$1"
 }

@@ -78,10 +78,13 @@ fn with_second(line: &[u8], code: usize, a: u64, from: usize, s: &[u8]) -> Order
     let Numeral::Value(b) = words::number(words::first(s)) else {
         return misread(line);
     };
+    let name = words::rest(s);
     if code < 15 {
         if !is_word(s) {
             return misread(line);
         }
+    } else if name.len() == 0 {
+        return misread(line);
     }
     Order { code, a, b, from }
 }

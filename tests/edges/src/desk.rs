@@ -89,7 +89,7 @@ impl Desk {
         let (size, rest) = parted(rest);
         let (place, name) = parted(rest);
         let (size, place) = (number(size)?, number(place)?);
-        if 160 < size {
+        if 160 < size || name.is_empty() {
             return None;
         }
         self.lines.push(format!(
