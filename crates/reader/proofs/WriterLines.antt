@@ -2,7 +2,7 @@
 use Prim.Native.Nat.{ℕ}
 use native.Mathlib.Omega.{arith}
 use mathlib.Core.Path.{_≡_, refl, sym, ap, _∙_}
-use mathlib.Core.Bool.{Bool, true, false}
+use mathlib.Core.Bool.{Bool, true, false, cond}
 use lib.ListN.{getD}
 use Rattle.text.specs.Lines.{Line}
 use Rattle.text.specs.Forms.{numbers-of, refusedBy, good, after, rowOf}
@@ -11,7 +11,7 @@ use Rattle.text.specs.declared.Row.{Row}
 use Rattle.text.specs.declared.Verdict.the-variants as verdict
 use Rattle.text.proofs.Verdicts.{verdict-refused}
 use Rattle.text.proofs.PlainRows.{plain-row}
-use Rattle.reader.specs.Written.{pickLine, writerLine}
+use Rattle.reader.specs.Written.{writerLine}
 use Rattle.reader.specs.declared.WriterLine.{WriterLine}
 use Rattle.reader.specs.declared.Written.{Written}
 use Rattle.reader.specs.declared.Written.the-variants.{Refused, By}
@@ -42,7 +42,7 @@ pub record Passed (l : Line) (at w next : ℕ) : Type 0 where
 module _ (l : Line) (at : ℕ) where
   -- the line where it is good, and where it is not
   abbrev found : Bool → WriterLine
-  found p = pickLine p (record { written = By (getD (numbers-of writer-form l) 0 0); next = after l at }) (record { written = Refused (refusedBy writer-form l); next = at })
+  found p = cond p (record { written = By (getD (numbers-of writer-form l) 0 0); next = after l at }) (record { written = Refused (refusedBy writer-form l); next = at })
 
   module _ (r : WriterLine) (is : r ≡ writerLine l at) where
     by-good : {p : Bool} → good writer-form l ≡ p → r ≡ found p

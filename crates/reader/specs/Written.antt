@@ -1,6 +1,6 @@
 -- The writer's line of a schedule and of a tree, as the reader of a text finds it.
 use Prim.Native.Nat.{ℕ}
-use mathlib.Core.Bool.{Bool, true, false}
+use mathlib.Core.Bool.{cond}
 use lib.ListN.{getD}
 use Rattle.text.specs.Lines.{Line, due}
 use Rattle.text.specs.Forms.{numbers-of, refusedBy, good, after}
@@ -11,15 +11,11 @@ use Rattle.reader.specs.declared.WriterLine.{WriterLine}
 use Rattle.reader.specs.declared.WriterRead.{WriterRead}
 use Rattle.reader.specs.declared.Written.the-variants.{Refused, By}
 
-abbrev pub pickLine : Bool → WriterLine → WriterLine → WriterLine
-pickLine true a b = a
-pickLine false a b = b
-
 -- the line l, which starts at the place `at` and is due to be the writer's: its number and the next line's start, or the first of
 -- 12, 14 and 13 whose test holds, and its own start
 unfoldable pub writerLine : Line → ℕ → WriterLine
 writerLine l at =
-    pickLine (good writer-form l)
+    cond (good writer-form l)
     (record { written = By (getD (numbers-of writer-form l) 0 0); next = after l at })
     (record { written = Refused (refusedBy writer-form l); next = at })
 
