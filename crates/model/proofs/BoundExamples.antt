@@ -8,7 +8,7 @@ use lib.Dec.{lit<, lit≤}
 use lib.IntN.{ℤ, pos}
 use Rattle.model.specs.declared.generator.Generator.{Generator}
 use Rattle.model.specs.Instance.{Instance, _at_, sum}
-use Rattle.model.specs.Ranges.{GoodUnit, WellFormed, in-range, costs-in-range, outputs-in-range, times-in-range, ordered}
+use Rattle.model.specs.Ranges.{GoodUnit, WellFormed, in-range, costs-in-range, outputs-in-range, times-in-range, midnight-ordered, ordered}
 use Rattle.model.specs.Above.{root, fix}
 use Rattle.model.specs.Leaf.{available, is-stuck, minℤ, requirement}
 use Rattle.model.specs.Tree.{Tree, split, short, price, Limits, Holds, number, bound, splits, leaves}
@@ -20,20 +20,20 @@ use Rattle.model.proofs.PriceWalks.{leaf-is}
 -- ---- the problem
 
 abbrev pub unit-1 : Generator
-unit-1 = record { a = 100; b = 10; c = 0; pL = 20; pU = 80; TU = 2; TD = 2; on = true; since = 3; DR = 30; UR = 30; Hsc = 50; Csc = 90; Tcold = 1; Dc = 5 }
+unit-1 = record { a = 100; b = 10; c = 0; pL = 20; pU = 80; TU = 2; TD = 2; on = true; since = 3; DR = 30; UR = 30; Hsc = 50; Csc = 90; Tcold = 1; Dc = 5; p0 = 60 }
 
 abbrev pub unit-2 : Generator
-unit-2 = record { a = 40; b = 14; c = 0; pL = 10; pU = 50; TU = 1; TD = 1; on = false; since = 2; DR = 50; UR = 50; Hsc = 20; Csc = 60; Tcold = 0; Dc = 0 }
+unit-2 = record { a = 40; b = 14; c = 0; pL = 10; pU = 50; TU = 1; TD = 1; on = false; since = 2; DR = 50; UR = 50; Hsc = 20; Csc = 60; Tcold = 0; Dc = 0; p0 = 0 }
 
 abbrev pub example : Instance
 example = record { periods = 2; demand = 60 ∷ (100 ∷ []); spare = 10 ∷ (10 ∷ []); units = unit-1 ∷ (unit-2 ∷ []) }
 
 good-1 : GoodUnit unit-1
-unfolding in-range costs-in-range outputs-in-range times-in-range ordered
+unfolding in-range costs-in-range outputs-in-range times-in-range ordered midnight-ordered
 good-1 = good-unit unit-1 tt tt
 
 good-2 : GoodUnit unit-2
-unfolding in-range costs-in-range outputs-in-range times-in-range ordered
+unfolding in-range costs-in-range outputs-in-range times-in-range ordered midnight-ordered
 good-2 = good-unit unit-2 tt tt
 
 pub example-well-formed : WellFormed example

@@ -10,7 +10,7 @@ use lib.ListN.{length, length-map}
 use Rattle.model.specs.declared.generator.Generator.{Generator}
 use Rattle.model.specs.Instance.{Instance, Schedule, _at_, sum-units, Each}
 use Rattle.model.specs.Ranges.{All, GoodUnit, GoodOutput, WellFormed, GoodRows}
-use Rattle.model.specs.Rules.{on, if-on, statuses, spent, Within, output, capacity, Row, Meets}
+use Rattle.model.specs.Rules.{on, if-on, statuses, spent, Within, output, capacity, Row, MeetsPrinted}
 use Rattle.model.specs.Cost.{switch-costs, fuel-cost, row-cost, cost}
 use Rattle.model.specs.Above.{Mark, free, fixed, Marks, rest}
 use Rattle.model.specs.Leaf.{unless-off, available}
@@ -71,7 +71,7 @@ module _ (P : Instance) (W : WellFormed P) where
       go (g ∷ gs) [] e l o = absurd (omega arith)
       go (g ∷ gs) (r ∷ s) e l o = (record { long = l .0; outputs = λ t i. all-at 10000 r (o .0) t .1 }, go gs s (omega arith) (l .1) (o .1))
 
-  pub meets-small : (s : Schedule) → Meets P s → SmallRows P s
+  pub meets-small : (s : Schedule) → MeetsPrinted P s → SmallRows P s
   meets-small s M = go (P .units) (W .units-good) s (M .rows)
     where
       limit : (g : Generator) → GoodUnit g → (p : ℕ) → Within g p → p ≤ 10_000

@@ -12,7 +12,7 @@ use lib.IntN.{ℤ, pos}
 use lib.Signed.{_≤ℤ_}
 use Rattle.model.specs.declared.generator.Generator.{Generator}
 use Rattle.model.specs.Instance.{Instance, Schedule, _at_, sum-units, Each}
-use Rattle.model.specs.Rules.{on, if-on, statuses, Within, output, capacity, keeps, Row, Meets}
+use Rattle.model.specs.Rules.{on, if-on, statuses, Within, output, capacity, keeps, Row, MeetsPrinted}
 use Rattle.model.specs.Cost.{row-cost, cost}
 use Rattle.model.specs.Above.{Mark, free, fixed, Marks, Above, rest, allows, agrees, obeys}
 use Rattle.model.specs.Leaf.{unless-off, available, words, outputs, runs, rows-of, is-stuck, stuck-at, revenue, value, unit-least, units-least, requirement, leaf-value}
@@ -120,7 +120,7 @@ period-revenue q s t (g ∷ gs) (r ∷ rs) = omega (arith, one (r at t), period-
     one (suc p) = refl
 
 -- what the units of a schedule that meets the rules earn covers the requirement
-pub duality : (P : Instance) (sch : Schedule) → Meets P sch → (q s : ℕ → ℕ)
+pub duality : (P : Instance) (sch : Schedule) → MeetsPrinted P sch → (q s : ℕ → ℕ)
     → requirement P q s ≤ sum-units (revenue (P .periods) q s) (P .units) sch
 unfolding requirement revenue output capacity
 duality P sch M q s =
@@ -134,7 +134,7 @@ duality P sch M q s =
 
 -- ---- the leaves, of a schedule that meets the rules and agrees with the statuses fixed above
 
-module _ (P : Instance) (sch : Schedule) (M : Meets P sch) (A : Above) (h : Agrees A sch) where
+module _ (P : Instance) (sch : Schedule) (M : MeetsPrinted P sch) (A : Above) (h : Agrees A sch) where
   -- a price leaf's value, whatever its multipliers, is at most the cost
   pub leaf-below : (q s : ℕ → ℕ) → leaf-value P (A .marks) q s ≤ℤ pos (cost P sch)
   unfolding leaf-value cost

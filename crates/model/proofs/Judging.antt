@@ -7,16 +7,16 @@ use mathlib.Core.Logic.{inl, inr, _↔_}
 use Prim.Native.Nat.{ℕ, zero, suc, _<_}
 use native.Mathlib.Omega.{arith}
 use lib.Dec.{T, leb, leb→le, nleb→lt, not-T}
-use Rattle.model.specs.Instance.{Instance, Schedule}
+use Rattle.model.specs.Instance.{Instance, Schedule, _at_}
 use Rattle.model.specs.Ranges.{Shaped}
-use Rattle.model.specs.Rules.{statuses, Meets}
+use Rattle.model.specs.Rules.{on, statuses, Meets}
 use Rattle.model.specs.Breach.{Breach, off-ramp, first-breach}
-use Rattle.model.specs.Broken.{Of, Broken, limits, demand, spare, updown, ramps, Lower, Earliest}
-use Rattle.model.proofs.OneUnit.{counted-unit, of-map, of-first, of-none}
+use Rattle.model.specs.Broken.{Of, Broken, limits, demand, spare, updown, ramps, midnight, Lower, Earliest}
+use Rattle.model.proofs.OneUnit.{counted-unit, of-map, of-first}
 use Rattle.model.proofs.Searches.{spot}
 use Rattle.model.proofs.Lowest.{breach-is, firsts, only-first}
 use Rattle.model.proofs.Failures.{barred, Fails, fails-first}
-use Rattle.model.proofs.RuleTests.{off-limits-is, off-ramp-is, first-barred, barred-not-permitted}
+use Rattle.model.proofs.RuleTests.{off-limits-is, too-steep-is, first-barred, barred-not-permitted}
 use Rattle.model.proofs.Unbroken.{meets-unbroken, unbroken-meets}
 
 -- ---- rules and tests
@@ -33,7 +33,13 @@ module _ (P : Instance) (s : Schedule) where
   broken-fails b (updown u t l h) =
       inr (inr (inr (inl (refl, spot t l (of-map _ _ (λ g r. barred-not-permitted g (statuses r) t) u (P .units) s h)))))
   broken-fails b (ramps u t l h) =
-      inr (inr (inr (inr (inl (refl, spot (suc t) l (of-map _ _ (λ g r. off-ramp-is t g r .1) u (P .units) s h))))))
+      inr (inr (inr (inr (inl (
+        refl,
+        spot (suc t) l
+            (of-map _ _ (λ g r. too-steep-is g (on (r at t)) (r at t) (r at suc t) .1) u (P .units) s h),
+      )))))
+  broken-fails b (midnight u l h) =
+      inr (inr (inr (inr (inl (refl, spot 0 l (of-map _ _ (λ g r. too-steep-is g (g .on) (g .p0) (r at 0) .1) u (P .units) s h))))))
 
   -- a test that fails, none lower failing, is a rule broken
   pub fails-broken : (b : Breach) → Fails P s b → ((c : Breach) → Lower c b → Fails P s c → ⊥) → Broken P s b
@@ -55,12 +61,13 @@ module _ (P : Instance) (s : Schedule) where
       (of-map _ _ (λ g r h. first-barred g (statuses r) (x .t) (h .0) (h .1)) (k .0) (P .units) s first))
   fails-broken b (inr (inr (inr (inr (inl (e, x)))))) n =
       let k = counted-unit _ _ (x .hit) in
-      rw (breach-is b e (k .1) (x .period-is)) (late (k .0) (x .t) (x .inside) (k .2))
+      rw (breach-is b e (k .1) (x .period-is)) (ramp (k .0) (x .t) (x .inside) (k .2))
     where
-      late : (u t : ℕ) → t < P .periods → Of u (λ g r. T (off-ramp t g r)) (P .units) s
+      ramp : (u t : ℕ) → t < P .periods → Of u (λ g r. T (off-ramp t g r)) (P .units) s
           → Broken P s (record { number = 25; unit = suc u; period = suc t })
-      late u zero l h = absurd (of-none u (P .units) s h)
-      late u (suc t) l h = ramps u t l (of-map _ _ (λ g r. off-ramp-is t g r .0) u (P .units) s h)
+      ramp u zero l h = midnight u l (of-map _ _ (λ g r. too-steep-is g (g .on) (g .p0) (r at 0) .0) u (P .units) s h)
+      ramp u (suc t) l h =
+          ramps u t l (of-map _ _ (λ g r. too-steep-is g (on (r at t)) (r at t) (r at suc t) .0) u (P .units) s h)
   fails-broken b (inr (inr (inr (inr (inr h))))) n = absurd h
 
 -- ---- what judging finds

@@ -40,4 +40,6 @@ pub mod CostSizes
 pub mod WalkPeriods
 pub mod Tables
 pub mod WrongOutputs
+pub mod WrongRamps
 pub mod Extents
+pub mod Unread

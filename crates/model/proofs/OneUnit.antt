@@ -26,12 +26,6 @@ of-map Q R f u (g ∷ gs) [] h = h
 of-map Q R f zero (g ∷ gs) (r ∷ rows) h = f g r h
 of-map Q R f (suc u) (g ∷ gs) (r ∷ rows) h = of-map Q R f u gs rows h
 
-pub of-none : (u : ℕ) (gs : List Generator) (rows : Schedule) → Of u (λ g r. ⊥) gs rows → ⊥
-of-none u [] rows h = h
-of-none u (g ∷ gs) [] h = h
-of-none zero (g ∷ gs) (r ∷ rows) h = h
-of-none (suc u) (g ∷ gs) (r ∷ rows) h = of-none u gs rows h
-
 -- what a unit has in period t and in none before, its row has first in t
 pub of-first : (Q : ℕ → Generator → List ℕ → Type 0) (t u : ℕ) (gs : List Generator) (rows : Schedule) → Of u (Q t) gs rows
     → ((i : ℕ) → i < t → Of u (Q i) gs rows → ⊥) → Of u (λ g r. Q t g r × ((i : ℕ) → i < t → Q i g r → ⊥)) gs rows

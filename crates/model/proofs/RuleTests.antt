@@ -9,7 +9,7 @@ use lib.ListN.{take}
 use Rattle.model.specs.declared.generator.Generator.{Generator}
 use Rattle.model.specs.Instance.{_at_}
 use Rattle.model.specs.Rules.{on, Within, permits, spent, keeps}
-use Rattle.model.specs.Breach.{off-limits, not-permitted, off-ramp}
+use Rattle.model.specs.Breach.{off-limits, not-permitted, too-steep}
 use Rattle.model.proofs.Tests.{T-and, T-and-l, T-and-r}
 use Rattle.model.specs.Broken.{FirstBarred, OffRamp}
 
@@ -42,27 +42,21 @@ off-limits-is t g r = (
     test = breaks-one (on p) (leb (g .pL) p) (leb p (g .pU))
 
 -- (11), (12)
-pub off-ramp-is : (t : ℕ) (g : Generator) (r : List ℕ) → T (off-ramp (suc t) g r) ↔ OffRamp g r t
-off-ramp-is t g r = (
+pub too-steep-is : (g : Generator) (b : Bool) (p p′ : ℕ) → T (too-steep g b p p′) ↔ OffRamp g b p p′
+too-steep-is g b p p′ = (
   λ h. let k = test .0 h in record {
-    on-before = T-and-l (on p) (on p′) (k .0);
-    on-then = T-and-r (on p) (on p′) (k .0);
+    on-before = T-and-l b (on p′) (k .0);
+    on-then = T-and-r b (on p′) (k .0);
     off = λ R. k .1 (le→leb p′ (p + g .UR) (R .rise), le→leb p (p′ + g .DR) (R .fall));
   },
   λ h. test .1 (
-    T-and (on p) (on p′) (h .on-before) (h .on-then),
+    T-and b (on p′) (h .on-before) (h .on-then),
     λ k. h .off (record { rise = leb→le p′ (p + g .UR) (k .0); fall = leb→le p (p′ + g .DR) (k .1) }),
   ),
 )
   where
-    p : ℕ
-    p = r at t
-
-    p′ : ℕ
-    p′ = r at suc t
-
-    test : T (off-ramp (suc t) g r) ↔ (T (on p && on p′) × (T (leb p′ (p + g .UR)) × T (leb p (p′ + g .DR)) → ⊥))
-    test = breaks-one (on p && on p′) (leb p′ (p + g .UR)) (leb p (p′ + g .DR))
+    test : T (too-steep g b p p′) ↔ (T (b && on p′) × (T (leb p′ (p + g .UR)) × T (leb p (p′ + g .DR)) → ⊥))
+    test = breaks-one (b && on p′) (leb p′ (p + g .UR)) (leb p (p′ + g .DR))
 
 -- ---- (5) to (10), after k periods in the status b
 

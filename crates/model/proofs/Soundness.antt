@@ -7,7 +7,7 @@ use lib.Dec.{T, eqb, eqb→eq}
 use lib.IntN.{ℤ, pos}
 use lib.Signed.{_≤ℤ_}
 use Rattle.model.specs.Instance.{Instance, Schedule, _at_}
-use Rattle.model.specs.Rules.{on, Meets}
+use Rattle.model.specs.Rules.{on, MeetsPrinted}
 use Rattle.model.specs.Cost.{cost}
 use Rattle.model.specs.Above.{fixed, Above, root, fix, allows}
 use Rattle.model.specs.Leaf.{minℤ}
@@ -51,7 +51,7 @@ agrees-split A s h U t b e u v = go (eqb U u && eqb t v) same
     go false k = h u v
 
 -- of any tree below A whose leaves hold
-pub sound-from : (P : Instance) (s : Schedule) → Meets P s → (A : Above) → Agrees A s → (t : Tree) → Holds P A t
+pub sound-from : (P : Instance) (s : Schedule) → MeetsPrinted P s → (A : Above) → Agrees A s → (t : Tree) → Holds P A t
     → Below (bound P A t) (cost P s)
 unfolding Holds bound
 sound-from P s M A h (split U t x y) k =
@@ -74,13 +74,13 @@ sound-from P s M A h (stuck U) k = stuck-excludes P s M A h U k
 sound-from P s M A h (price q r) k = leaf-below P s M A h (λ t. q at t) (λ t. r at t)
 
 module _ (P : Instance) (t : Tree) (holds : Holds P root t) where
-  pub sound : (s : Schedule) → Meets P s → Below (bound P root t) (cost P s)
+  pub sound : (s : Schedule) → MeetsPrinted P s → Below (bound P root t) (cost P s)
   sound s M = sound-from P s M root (agrees-root s) t holds
 
   -- every schedule that meets the rules costs at least the bound
-  pub number-sound : (z : ℤ) → bound P root t ≡ number z → (s : Schedule) → Meets P s → z ≤ℤ pos (cost P s)
+  pub number-sound : (z : ℤ) → bound P root t ≡ number z → (s : Schedule) → MeetsPrinted P s → z ≤ℤ pos (cost P s)
   number-sound z e s M = subst (λ (b : Bound). Below b (cost P s)) e (sound s M)
 
   -- a tree that gives never leaves none
-  pub never-sound : bound P root t ≡ never → (s : Schedule) → Meets P s → ⊥
+  pub never-sound : bound P root t ≡ never → (s : Schedule) → MeetsPrinted P s → ⊥
   never-sound e s M = subst (λ (b : Bound). Below b (cost P s)) e (sound s M)

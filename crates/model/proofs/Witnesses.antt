@@ -8,7 +8,7 @@ use lib.IntN.{pos}
 use lib.Signed.{_≤ℤ_}
 use Rattle.model.specs.declared.generator.Generator.{Generator}
 use Rattle.model.specs.Instance.{Instance, Schedule}
-use Rattle.model.specs.Rules.{output, capacity, Meets}
+use Rattle.model.specs.Rules.{output, capacity, MeetsPrinted, Meets}
 use Rattle.model.specs.Cost.{row-cost, cost}
 use Rattle.model.specs.Above.{root}
 use Rattle.model.specs.Breach.{Breach, first-breach}
@@ -38,6 +38,7 @@ unit TU = record {
   Csc = 0;
   Tcold = 0;
   Dc = 0;
+  p0 = 1;
 }
 
 -- one period, D being 2
@@ -88,7 +89,7 @@ two-costs : cost free-to-stop output-two ≡ 5
 unfolding cost row-cost
 two-costs = refl
 
-two-at-least : (s : Schedule) → Meets free-to-stop s → pos 5 ≤ℤ pos (cost free-to-stop s)
+two-at-least : (s : Schedule) → MeetsPrinted free-to-stop s → pos 5 ≤ℤ pos (cost free-to-stop s)
 two-at-least = number-sound free-to-stop (split 0 0 (short 0) priced) priced-holds (pos 5) priced-bound
 
 two-leaf : OneLeaf root (split 0 0 (short 0) priced) output-two
@@ -104,7 +105,7 @@ short-bound : bound too-much root (short 0) ≡ never
 unfolding bound
 short-bound = refl
 
-none-meets : (s : Schedule) → Meets too-much s → ⊥
+none-meets : (s : Schedule) → MeetsPrinted too-much s → ⊥
 none-meets = never-sound too-much (short 0) short-holds short-bound
 
 -- ---- a first breach: output 1 is under D

@@ -9,7 +9,7 @@ use lib.Dec.{T}
 use lib.IntN.{ℤ, pos, negsuc}
 use lib.Signed.{ltZ}
 use Rattle.model.specs.declared.generator.Generator.{Generator}
-use Rattle.model.specs.Ranges.{GoodUnit, in-range, costs-in-range, outputs-in-range, times-in-range, ordered}
+use Rattle.model.specs.Ranges.{GoodUnit, in-range, costs-in-range, outputs-in-range, times-in-range, midnight-ordered, ordered}
 use Rattle.model.specs.Rules.{Within}
 use Rattle.model.specs.Cost.{row-cost}
 use Rattle.model.specs.Above.{free}
@@ -21,7 +21,7 @@ use Rattle.model.proofs.PriceWalks.{unit-least-is}
 
 -- a unit with these costs and limits, on before, whose stop costs nothing
 abbrev unit : ℕ → ℕ → ℕ → ℕ → Generator
-unit b c pL pU = record { a = 0; b = b; c = c; pL = pL; pU = pU; TU = 1; TD = 1; on = true; since = 1; DR = 1; UR = 1; Hsc = 0; Csc = 0; Tcold = 0; Dc = 0 }
+unit b c pL pU = record { a = 0; b = b; c = c; pL = pL; pU = pU; TU = 1; TD = 1; on = true; since = 1; DR = 1; UR = 1; Hsc = 0; Csc = 0; Tcold = 0; Dc = 0; p0 = pL }
 
 -- q - b divided by 2c, rounded down
 abbrev vertex : Generator → ℕ → ℕ
@@ -43,7 +43,7 @@ abbrev curved : Generator
 curved = unit 1 2 1 50
 
 curved-good : GoodUnit curved
-unfolding in-range costs-in-range outputs-in-range times-in-range ordered
+unfolding in-range costs-in-range outputs-in-range times-in-range ordered midnight-ordered
 curved-good = good-unit curved tt tt
 
 curved-least : least-at curved 8 ≡ negsuc 5
@@ -65,7 +65,7 @@ abbrev high-start : Generator
 high-start = unit 1 2 4 50
 
 high-start-good : GoodUnit high-start
-unfolding in-range costs-in-range outputs-in-range times-in-range ordered
+unfolding in-range costs-in-range outputs-in-range times-in-range ordered midnight-ordered
 high-start-good = good-unit high-start tt tt
 
 high-start-least : least-at high-start 9 ≡ pos 0
@@ -95,7 +95,7 @@ abbrev flat : Generator
 flat = unit 10 0 20 80
 
 flat-good : GoodUnit flat
-unfolding in-range costs-in-range outputs-in-range times-in-range ordered
+unfolding in-range costs-in-range outputs-in-range times-in-range ordered midnight-ordered
 flat-good = good-unit flat tt tt
 
 flat-least : least-at flat 20 ≡ negsuc 799

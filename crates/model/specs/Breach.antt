@@ -26,10 +26,14 @@ not-permitted g b k [] t = false
 not-permitted g b k (d ∷ run) zero = not (permits g b k d)
 not-permitted g b k (d ∷ run) (suc t) = not-permitted g d (spent b k d) run t
 
--- (11), (12)
+-- (11), (12) of two outputs in a row, the unit having had the status b with the first
+abbrev pub too-steep : Generator → Bool → ℕ → ℕ → Bool
+too-steep g b p p′ = (b && on p′) && not (leb p′ (p + g .UR) && leb p (p′ + g .DR))
+
+-- the output before period 1 is that at midnight
 abbrev pub off-ramp : ℕ → Generator → List ℕ → Bool
-off-ramp zero g r = false
-off-ramp (suc t) g r = (on (r at t) && on (r at suc t)) && not (leb (r at suc t) (r at t + g .UR) && leb (r at t) (r at suc t + g .DR))
+off-ramp zero g r = too-steep g (g .on) (g .p0) (r at 0)
+off-ramp (suc t) g r = too-steep g (on (r at t)) (r at t) (r at suc t)
 
 -- ---- the first period, and in it the first unit
 

@@ -25,11 +25,11 @@ pub record FirstBarred (g : Generator) (run : List Bool) (t : ℕ) : Type 0 wher
   pub before : T (keeps g (g .on) (g .since) (take t run))
   pub barred : T (keeps g (g .on) (g .since) (take (suc t) run)) → ⊥
 
--- on in period t and in the next, and the outputs of the two break (11) or (12)
-pub record OffRamp (g : Generator) (r : List ℕ) (t : ℕ) : Type 0 where
-  pub on-before : T (on (r at t))
-  pub on-then : T (on (r at suc t))
-  pub off : Ramp g (r at t) (r at suc t) → ⊥
+-- after an output p with the status b, on or off, comes the output p′: the unit is on with both, and the two break (11) or (12)
+pub record OffRamp (g : Generator) (b : Bool) (p p′ : ℕ) : Type 0 where
+  pub on-before : T b
+  pub on-then : T (on p′)
+  pub off : Ramp g p p′ → ⊥
 
 module _ (P : Instance) (s : Schedule) where
   -- the rule with that number is broken at that unit and period, both counted from 1; 22 and 23 name no unit
@@ -46,8 +46,11 @@ module _ (P : Instance) (s : Schedule) where
     updown : (u t : ℕ) → t < P .periods → Of u (λ g r. FirstBarred g (statuses r) t) (P .units) s
         → Broken (record { number = 24; unit = suc u; period = suc t })
     -- (11), (12): the period is the second of the two
-    ramps : (u t : ℕ) → suc t < P .periods → Of u (λ g r. OffRamp g r t) (P .units) s
+    ramps : (u t : ℕ) → suc t < P .periods → Of u (λ g r. OffRamp g (on (r at t)) (r at t) (r at suc t)) (P .units) s
         → Broken (record { number = 25; unit = suc u; period = suc (suc t) })
+    -- the same at period 1, from the output at midnight
+    midnight : (u : ℕ) → 0 < P .periods → Of u (λ g r. OffRamp g (g .on) (g .p0) (r at 0)) (P .units) s
+        → Broken (record { number = 25; unit = suc u; period = 1 })
 
 -- lowest number, then lowest period, then lowest unit
 abbrev pub Lower : Breach → Breach → Type 0

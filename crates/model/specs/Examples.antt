@@ -8,17 +8,17 @@ use lib.IntN.{pos, negℤ}
 use lib.ListN.{replicate}
 use Rattle.model.specs.declared.generator.Generator.{Generator}
 use Rattle.model.specs.Instance.{Instance, Schedule, Tini}
-use Rattle.model.specs.Ranges.{costs-in-range, outputs-in-range, times-in-range, in-range, ordered}
+use Rattle.model.specs.Ranges.{costs-in-range, outputs-in-range, times-in-range, in-range, midnight-ordered, ordered}
 use Rattle.model.specs.Held.{view, held, pad}
-use Rattle.model.specs.Rules.{output, capacity, keeps}
+use Rattle.model.specs.Rules.{if-on, output, capacity, keeps}
 use Rattle.model.specs.Cost.{fuel-cost, row-cost, cost}
 use Rattle.model.specs.Breach.{Breach, off-limits, off-ramp, first-breach}
 
 -- ---- what the examples are about
 
 -- the numbers of a unit line in document 01's order, Tini being a status and a number of periods
-abbrev pub line : ℕ → ℕ → ℕ → ℕ → ℕ → ℕ → ℕ → Bool → ℕ → ℕ → ℕ → ℕ → ℕ → ℕ → ℕ → Generator
-line a b c pL pU TU TD status k DR UR Hsc Csc Tcold Dc = record {
+abbrev pub line : ℕ → ℕ → ℕ → ℕ → ℕ → ℕ → ℕ → Bool → ℕ → ℕ → ℕ → ℕ → ℕ → ℕ → ℕ → ℕ → Generator
+line a b c pL pU TU TD status k DR UR Hsc Csc Tcold Dc p0 = record {
   a = a;
   b = b;
   c = c;
@@ -34,14 +34,15 @@ line a b c pL pU TU TD status k DR UR Hsc Csc Tcold Dc = record {
   Csc = Csc;
   Tcold = Tcold;
   Dc = Dc;
+  p0 = p0;
 }
 
--- the problem of document 01, and the same with another spare R in both periods
+-- the problem of document 01, with 60 and 0 at midnight (document 02, [3]), and the same with another spare R in both periods
 abbrev pub unit1 : Generator
-unit1 = line 100 10 0 20 80 2 2 true 3 30 30 50 90 1 5
+unit1 = line 100 10 0 20 80 2 2 true 3 30 30 50 90 1 5 60
 
 abbrev pub unit2 : Generator
-unit2 = line 40 14 0 10 50 1 1 false 2 50 50 20 60 0 0
+unit2 = line 40 14 0 10 50 1 1 false 2 50 50 20 60 0 0 0
 
 abbrev pub with-spare : ℕ → Instance
 with-spare R = record { periods = 2; demand = 60 ∷ 100 ∷ []; spare = R ∷ R ∷ []; units = unit1 ∷ unit2 ∷ [] }
@@ -55,16 +56,23 @@ rows r r′ = r ∷ r′ ∷ []
 abbrev pub breach : ℕ → ℕ → ℕ → Option Breach
 breach n u t = some (record { number = n; unit = u; period = t })
 
--- a unit for which only times count: outputs 1 to 9, hot start 20, cold start 60, stop 5
+-- a unit for which only times count: outputs 1 to 9, at midnight 5 if it was on, hot start 20, cold start 60, stop 5
 abbrev pub timed : ℕ → ℕ → ℕ → Bool → ℕ → Generator
-timed TU TD Tcold status k = line 0 0 0 1 9 TU TD status k 9 9 20 60 Tcold 5
+timed TU TD Tcold status k = line 0 0 0 1 9 TU TD status k 9 9 20 60 Tcold 5 (if-on status 5)
 
--- one that may not go off for nine periods and ramps by 1; one with the cost 5·p·p, ramps by 1, a hot start of 20, a cold one of 90
+-- one that may not go off for nine periods and ramps by 1 from 1; one with the cost 5·p·p, ramps by 1, a hot start of 20, a cold one of 90
 abbrev pub slow : Generator
-slow = line 0 0 0 1 9 9 1 true 1 1 1 0 0 0 0
+slow = line 0 0 0 1 9 9 1 true 1 1 1 0 0 0 0 1
 
 abbrev pub square : ℕ → ℕ → Bool → ℕ → Generator
-square pL pU status k = line 0 0 5 pL pU 1 1 status k 1 1 20 90 0 0
+square pL pU status k = line 0 0 5 pL pU 1 1 status k 1 1 20 90 0 0 (if-on status pL)
+
+-- outputs 20 to 99, DR 20 and UR 30; nothing is asked in any period
+abbrev pub from-midnight : Bool → ℕ → Generator
+from-midnight status p0 = line 0 0 0 20 99 1 1 status 1 20 30 0 0 0 0 p0
+
+abbrev pub periods-of : ℕ → List Generator → Instance
+periods-of T gs = record { periods = T; demand = replicate T 0; spare = replicate T 0; units = gs }
 
 -- three periods, demand and spare in the last one alone
 abbrev pub three : ℕ → ℕ → List Generator → Instance
@@ -78,30 +86,37 @@ signs = refl
 
 -- every number at its least, every number at its most
 range-ends : map in-range (
-    line 0 0 0 1 1 1 1 true 1 1 1 0 0 0 0
-    ∷ line 1000000000 10000000 10000 10000 10000 48 48 false 1000 10000 10000 1000000000 1000000000 48 1000000000 ∷ []) ≡ replicate 2 true
+    line 0 0 0 1 1 1 1 true 1 1 1 0 0 0 0 0
+    ∷ line 1000000000 10000000 10000 10000 10000 48 48 false 1000 10000 10000 1000000000 1000000000 48 1000000000 10000 ∷ [])
+    ≡ replicate 2 true
 unfolding in-range costs-in-range outputs-in-range times-in-range
 range-ends = refl
 
--- one below its least, in the line's order: pL, pU, TU, TD, Tini, DR, UR; then each of the fourteen one above its most
+-- one below its least, in the line's order: pL, pU, TU, TD, Tini, DR, UR; then each of the fifteen one above its most
 out-of-range : map in-range (
-    line 0 0 0 0 1 1 1 true 1 1 1 0 0 0 0 ∷ line 0 0 0 1 0 1 1 true 1 1 1 0 0 0 0 ∷ line 0 0 0 1 1 0 1 true 1 1 1 0 0 0 0
-    ∷ line 0 0 0 1 1 1 0 true 1 1 1 0 0 0 0 ∷ line 0 0 0 1 1 1 1 true 0 1 1 0 0 0 0 ∷ line 0 0 0 1 1 1 1 true 1 0 1 0 0 0 0
-    ∷ line 0 0 0 1 1 1 1 true 1 1 0 0 0 0 0
-    ∷ line 1000000001 0 0 1 1 1 1 true 1 1 1 0 0 0 0 ∷ line 0 10000001 0 1 1 1 1 true 1 1 1 0 0 0 0
-    ∷ line 0 0 10001 1 1 1 1 true 1 1 1 0 0 0 0 ∷ line 0 0 0 10001 1 1 1 true 1 1 1 0 0 0 0 ∷ line 0 0 0 1 10001 1 1 true 1 1 1 0 0 0 0
-    ∷ line 0 0 0 1 1 49 1 true 1 1 1 0 0 0 0 ∷ line 0 0 0 1 1 1 49 true 1 1 1 0 0 0 0 ∷ line 0 0 0 1 1 1 1 true 1001 1 1 0 0 0 0
-    ∷ line 0 0 0 1 1 1 1 true 1 10001 1 0 0 0 0 ∷ line 0 0 0 1 1 1 1 true 1 1 10001 0 0 0 0 ∷ line 0 0 0 1 1 1 1 true 1 1 1 1000000001 0 0 0
-    ∷ line 0 0 0 1 1 1 1 true 1 1 1 0 1000000001 0 0 ∷ line 0 0 0 1 1 1 1 true 1 1 1 0 0 49 0
-    ∷ line 0 0 0 1 1 1 1 true 1 1 1 0 0 0 1000000001 ∷ []) ≡ replicate 21 false
+    line 0 0 0 0 1 1 1 true 1 1 1 0 0 0 0 0 ∷ line 0 0 0 1 0 1 1 true 1 1 1 0 0 0 0 1 ∷ line 0 0 0 1 1 0 1 true 1 1 1 0 0 0 0 1
+    ∷ line 0 0 0 1 1 1 0 true 1 1 1 0 0 0 0 1 ∷ line 0 0 0 1 1 1 1 true 0 1 1 0 0 0 0 1 ∷ line 0 0 0 1 1 1 1 true 1 0 1 0 0 0 0 1
+    ∷ line 0 0 0 1 1 1 1 true 1 1 0 0 0 0 0 1
+    ∷ line 1000000001 0 0 1 1 1 1 true 1 1 1 0 0 0 0 1 ∷ line 0 10000001 0 1 1 1 1 true 1 1 1 0 0 0 0 1
+    ∷ line 0 0 10001 1 1 1 1 true 1 1 1 0 0 0 0 1 ∷ line 0 0 0 10001 1 1 1 true 1 1 1 0 0 0 0 1 ∷ line 0 0 0 1 10001 1 1 true 1 1 1 0 0 0 0 1
+    ∷ line 0 0 0 1 1 49 1 true 1 1 1 0 0 0 0 1 ∷ line 0 0 0 1 1 1 49 true 1 1 1 0 0 0 0 1 ∷ line 0 0 0 1 1 1 1 true 1001 1 1 0 0 0 0 1
+    ∷ line 0 0 0 1 1 1 1 true 1 10001 1 0 0 0 0 1 ∷ line 0 0 0 1 1 1 1 true 1 1 10001 0 0 0 0 1 ∷ line 0 0 0 1 1 1 1 true 1 1 1 1000000001 0 0 0 1
+    ∷ line 0 0 0 1 1 1 1 true 1 1 1 0 1000000001 0 0 1 ∷ line 0 0 0 1 1 1 1 true 1 1 1 0 0 49 0 1
+    ∷ line 0 0 0 1 1 1 1 true 1 1 1 0 0 0 1000000001 1 ∷ line 0 0 0 1 1 1 1 true 1 1 1 0 0 0 0 10001 ∷ []) ≡ replicate 22 false
 unfolding in-range costs-in-range outputs-in-range times-in-range
 out-of-range = refl
 
 -- pL = pU and Hsc = Csc; pL above pU; Hsc above Csc
 order-ties : map ordered (
-    line 0 0 0 5 5 1 1 true 1 1 1 7 7 0 0 ∷ line 0 0 0 6 5 1 1 true 1 1 1 7 7 0 0 ∷ line 0 0 0 5 5 1 1 true 1 1 1 8 7 0 0 ∷ []) ≡ true ∷ false ∷ false ∷ []
-unfolding ordered
+    line 0 0 0 5 5 1 1 true 1 1 1 7 7 0 0 5 ∷ line 0 0 0 6 5 1 1 true 1 1 1 7 7 0 0 6 ∷ line 0 0 0 5 5 1 1 true 1 1 1 8 7 0 0 5 ∷ []) ≡ true ∷ false ∷ false ∷ []
+unfolding ordered midnight-ordered
 order-ties = refl
+
+-- document 02, [3]: one below pL, pL, pU, one above pU and 0 for a unit on before; 0 and 1 for one off before
+midnight-ends : (map (λ p0. ordered (from-midnight true p0)) (19 ∷ 20 ∷ 99 ∷ 100 ∷ 0 ∷ []) ≡ false ∷ true ∷ true ∷ false ∷ false ∷ [])
+    × (map (λ p0. ordered (from-midnight false p0)) (0 ∷ 1 ∷ []) ≡ true ∷ false ∷ [])
+unfolding ordered midnight-ordered
+midnight-ends = (refl, refl)
 
 -- the arrays give back the problem put into them
 there-and-back : view (held example) ≡ example
@@ -127,13 +142,29 @@ unfolding first-breach output capacity
 spare-tie = refl
 
 -- (11), (12) with DR 20 and UR 30: a rise of 30, of 31, a fall of 20, of 21, going on and going off with 80
-ramp-ends : map (off-ramp 1 (line 0 0 0 1 99 1 1 true 1 20 30 0 0 0 0)) (
+ramp-ends : map (off-ramp 1 (line 0 0 0 1 99 1 1 true 1 20 30 0 0 0 0 1)) (
     (50 ∷ 80 ∷ []) ∷ (50 ∷ 81 ∷ []) ∷ (80 ∷ 60 ∷ []) ∷ (80 ∷ 59 ∷ []) ∷ (0 ∷ 80 ∷ []) ∷ (80 ∷ 0 ∷ []) ∷ []) ≡ false ∷ true ∷ false ∷ true ∷ false ∷ false ∷ []
 ramp-ends = refl
 
--- no ramp leads into period 1, also for a unit on before it
-no-ramp-into-1 : off-ramp 0 unit1 (80 ∷ 80 ∷ []) ≡ false
-no-ramp-into-1 = refl
+-- document 02, [3], period 1 for a unit on before it: UR 30 from 30 at midnight, to 60 and to 61; DR 20 from 80, to 60 and to 59, and DR 30 with UR
+-- 20, to 50 and to 49; off from 80; and one off before it with UR 1, to its pU
+first-ramp-ends : map (λ (x : Generator × ℕ). off-ramp 0 (x .0) (x .1 ∷ [])) (
+    (from-midnight true 30, 60) ∷ (from-midnight true 30, 61) ∷ (from-midnight true 80, 60) ∷ (from-midnight true 80, 59)
+    ∷ (line 0 0 0 20 99 1 1 true 1 30 20 0 0 0 0 80, 50) ∷ (line 0 0 0 20 99 1 1 true 1 30 20 0 0 0 0 80, 49)
+    ∷ (from-midnight true 80, 0) ∷ (line 0 0 0 20 99 1 1 false 1 1 1 0 0 0 0 0, 99) ∷ [])
+    ≡ false ∷ true ∷ false ∷ true ∷ false ∷ true ∷ false ∷ false ∷ []
+first-ramp-ends = refl
+
+-- .. and judged: with one period, to 60, to 61 and off; with a ramp of period 2 broken too, by the same unit and by one before it; and by two units
+first-ramp-judged : map (λ (x : Instance × Schedule). first-breach (x .0) (x .1)) (
+    (periods-of 1 (from-midnight true 30 ∷ []), (60 ∷ []) ∷ []) ∷ (periods-of 1 (from-midnight true 30 ∷ []), (61 ∷ []) ∷ [])
+    ∷ (periods-of 1 (from-midnight true 80 ∷ []), (0 ∷ []) ∷ [])
+    ∷ (periods-of 2 (from-midnight true 30 ∷ []), (61 ∷ 20 ∷ []) ∷ [])
+    ∷ (periods-of 2 (from-midnight true 30 ∷ from-midnight true 80 ∷ []), rows (20 ∷ 51 ∷ []) (49 ∷ 49 ∷ []))
+    ∷ (periods-of 2 (from-midnight true 30 ∷ from-midnight true 80 ∷ []), rows (61 ∷ 61 ∷ []) (49 ∷ 49 ∷ [])) ∷ [])
+    ≡ none ∷ breach 25 1 1 ∷ none ∷ breach 25 1 1 ∷ breach 25 2 1 ∷ breach 25 1 1 ∷ []
+unfolding first-breach output capacity
+first-ramp-judged = refl
 
 -- document 01, Specimens: TD 3 and Tini -1, first on in period 2, in period 3, never
 first-on : map (λ r. first-breach (three 0 0 (timed 1 3 0 false 1 ∷ [])) (r ∷ [])) ((0 ∷ 5 ∷ 5 ∷ []) ∷ (0 ∷ 0 ∷ 5 ∷ []) ∷ (0 ∷ 0 ∷ 0 ∷ []) ∷ []) ≡ breach 24 1 2 ∷ none ∷ none ∷ []
@@ -175,7 +206,7 @@ unfolding cost row-cost
 specimen-costs = refl
 
 -- a + b·p + c·p·p with 1, 2, 3 at 4; nothing for a period off
-fuel : map (fuel-cost (line 1 2 3 1 9 1 1 true 1 9 9 0 0 0 0)) (4 ∷ 0 ∷ []) ≡ 57 ∷ 0 ∷ []
+fuel : map (fuel-cost (line 1 2 3 1 9 1 1 true 1 9 9 0 0 0 0 1)) (4 ∷ 0 ∷ []) ≡ 57 ∷ 0 ∷ []
 fuel = refl
 
 -- document 01, Specimens: TD + Tcold = 2, going on after two periods off and after three, some of them before period 1

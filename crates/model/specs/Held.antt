@@ -9,7 +9,7 @@ use Rattle.model.specs.Instance.{Instance}
 use Rattle.model.specs.Ranges.{WellFormed, every, between, good-generator, load-in-range}
 
 abbrev pub blank-generator : Generator
-blank-generator = record { a = 0; b = 0; c = 0; pL = 0; pU = 0; TU = 0; TD = 0; on = false; since = 0; DR = 0; UR = 0; Hsc = 0; Csc = 0; Tcold = 0; Dc = 0 }
+blank-generator = record { a = 0; b = 0; c = 0; pL = 0; pU = 0; TU = 0; TD = 0; on = false; since = 0; DR = 0; UR = 0; Hsc = 0; Csc = 0; Tcold = 0; Dc = 0; p0 = 0 }
 
 abbrev pub blank-problem : Problem
 blank-problem = record { periods = 0; units = 0; demand = replicate 48 0; spare = replicate 48 0; generators = replicate 32 blank-generator }

@@ -14,5 +14,6 @@ pub mod Table
 pub mod Tree
 pub mod Agreement
 pub mod Best
+pub mod Unread
 pub mod Examples
 pub mod TreeExamples

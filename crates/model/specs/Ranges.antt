@@ -1,9 +1,9 @@
--- Document 01, Texts: the ranges, and well-formed problems (refusals 13 and 15).
+-- Document 01, Texts, and document 02, [3]: the ranges, and well-formed problems (refusals 13 and 15).
 use mathlib.Core.Path.{_≡_}
-use mathlib.Core.Bool.{Bool, true, _&&_}
+use mathlib.Core.Bool.{Bool, true, not, cond, _&&_}
 use mathlib.Core.List.{List, [], _∷_}
 use Prim.Native.Nat.{ℕ, _≤_}
-use lib.Dec.{leb}
+use lib.Dec.{T, leb, eqb}
 use lib.ListN.{length}
 use Rattle.model.specs.declared.generator.Generator.{Generator}
 use Rattle.model.specs.Instance.{Instance, Schedule}
@@ -33,11 +33,13 @@ pub record InRange (g : Generator) : Type 0 where
   pub Csc-in : Between 0 (g .Csc) 1000000000
   pub Tcold-in : Between 0 (g .Tcold) 48
   pub Dc-in : Between 0 (g .Dc) 1000000000
+  pub p0-in : Between 0 (g .p0) 10000
 
--- 15 refuses pL above pU, or Hsc above Csc
+-- 15 refuses pL above pU, Hsc above Csc, and a p0 that is not within pL to pU with Tini above 0, or not 0 with Tini below
 pub record Ordered (g : Generator) : Type 0 where
   pub limits : g .pL ≤ g .pU
   pub starts : g .Hsc ≤ g .Csc
+  pub midnight : (T (g .on) → Between (g .pL) (g .p0) (g .pU)) × (T (not (g .on)) → g .p0 ≡ 0)
 
 -- a unit line that neither 13 nor 15 refuses
 pub record GoodUnit (g : Generator) : Type 0 where
@@ -90,9 +92,11 @@ costs-in-range g =
     between 0 (g .a) 1000000000 && (between 0 (g .b) 10000000 && (between 0 (g .c) 10000 && (between 0 (g .Hsc) 1000000000
     && (between 0 (g .Csc) 1000000000 && between 0 (g .Dc) 1000000000))))
 
--- pL, pU, DR, UR
+-- pL, pU, DR, UR, p0
 unfoldable pub outputs-in-range : Generator → Bool
-outputs-in-range g = between 1 (g .pL) 10000 && (between 1 (g .pU) 10000 && (between 1 (g .DR) 10000 && between 1 (g .UR) 10000))
+outputs-in-range g =
+    between 1 (g .pL) 10000 && (between 1 (g .pU) 10000 && (between 1 (g .DR) 10000 && (between 1 (g .UR) 10000
+    && between 0 (g .p0) 10000)))
 
 -- TU, TD, Tini, Tcold
 unfoldable pub times-in-range : Generator → Bool
@@ -102,9 +106,13 @@ times-in-range g = between 1 (g .TU) 48 && (between 1 (g .TD) 48 && (between 1 (
 unfoldable pub in-range : Generator → Bool
 in-range g = costs-in-range g && (outputs-in-range g && times-in-range g)
 
+-- p0 within pL to pU after periods on, 0 after periods off
+unfoldable pub midnight-ordered : Generator → Bool
+midnight-ordered g = cond (g .on) (between (g .pL) (g .p0) (g .pU)) (eqb (g .p0) 0)
+
 -- 15
 unfoldable pub ordered : Generator → Bool
-ordered g = leb (g .pL) (g .pU) && leb (g .Hsc) (g .Csc)
+ordered g = leb (g .pL) (g .pU) && (leb (g .Hsc) (g .Csc) && midnight-ordered g)
 
 -- neither 13 nor 15
 abbrev pub good-generator : Generator → Bool

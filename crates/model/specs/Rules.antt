@@ -1,4 +1,4 @@
--- Document 01, Rules for a schedule: (2) to (12).
+-- Document 01, Rules for a schedule: (2) to (12); and document 02, [3]: the ramp of period 1.
 use mathlib.Core.Path.{_≡_}
 use mathlib.Core.Bool.{Bool, true, false, _&&_}
 use mathlib.Core.List.{List, [], _∷_, map}
@@ -65,8 +65,17 @@ pub record Row (n : ℕ) (g : Generator) (r : List ℕ) : Type 0 where
   pub updown : T (keeps g (g .on) (g .since) (statuses r))
   pub ramps : (t : ℕ) → suc t < n → T (on (r at t)) → T (on (r at suc t)) → Ramp g (r at t) (r at suc t)
 
--- a schedule that meets the rules: I rows of T whole outputs, with no cap on an output but (4)
-pub record Meets (P : Instance) (s : Schedule) : Type 0 where
+-- (2) to (12) as the source prints them, ramps from period 2 on: I rows of T whole outputs, with no cap on an output but (4)
+pub record MeetsPrinted (P : Instance) (s : Schedule) : Type 0 where
   pub rows : Each (Row (P .periods)) (P .units) s
   pub meets-demand : (t : ℕ) → t < P .periods → P .demand at t ≤ output P s t
   pub meets-spare : (t : ℕ) → t < P .periods → P .demand at t + P .spare at t ≤ capacity P s t
+
+-- (11), (12) at period 1, from the output at midnight, for a unit that was on before it and is on in it
+abbrev pub FirstRamp : Generator → List ℕ → Type 0
+FirstRamp g r = T (g .on) → T (on (r at 0)) → Ramp g (g .p0) (r at 0)
+
+-- a schedule that meets the rules
+pub record Meets (P : Instance) (s : Schedule) : Type 0 where
+  pub printed : MeetsPrinted P s
+  pub midnight : Each FirstRamp (P .units) s

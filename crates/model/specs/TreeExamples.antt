@@ -47,7 +47,7 @@ unfolding unit-least value revenue rows-of row-cost
 whole-output = refl
 
 -- c = 0, b = 2, outputs 3 to 5: the price 10 wants pU; the price 1 wants off, or pL where on is fixed
-straight : map (λ q. map (λ x. unit-least 1 (λ t. q) (λ t. 0) (line 0 2 0 3 5 1 1 true 1 1 1 0 0 0 0) (λ t. x)) (free ∷ fixed true ∷ [])) (10 ∷ 1 ∷ [])
+straight : map (λ q. map (λ x. unit-least 1 (λ t. q) (λ t. 0) (line 0 2 0 3 5 1 1 true 1 1 1 0 0 0 0 3) (λ t. x)) (free ∷ fixed true ∷ [])) (10 ∷ 1 ∷ [])
     ≡ (negℤ (pos 40) ∷ negℤ (pos 40) ∷ []) ∷ (pos 0 ∷ pos 3 ∷ []) ∷ []
 unfolding unit-least value revenue rows-of row-cost
 straight = refl
@@ -84,7 +84,7 @@ by-hand = record {
   periods = 3;
   demand = 2 ∷ 1 ∷ 3 ∷ [];
   spare = 1 ∷ 0 ∷ 1 ∷ [];
-  units = line 10 2 2 1 3 1 1 true 1 9 9 5 20 0 3 ∷ line 5 1 1 1 2 2 1 false 1 9 9 2 6 1 1 ∷ [];
+  units = line 10 2 2 1 3 1 1 true 1 9 9 5 20 0 3 1 ∷ line 5 1 1 1 2 2 1 false 1 9 9 2 6 1 1 0 ∷ [];
 }
 
 three-periods : (leaf-value by-hand (root .marks) (λ t. (11 ∷ 0 ∷ 14 ∷ []) at t) (λ t. (1 ∷ 1 ∷ 2 ∷ []) at t) ≡ pos 40)

@@ -1,12 +1,12 @@
 // A generator, and the ranges of its numbers.
 ghost use mathlib.Core.Path.{_≡_};
-ghost use Rattle.model.specs.Ranges.{costs-in-range, outputs-in-range, times-in-range, in-range, ordered, good-generator};
+ghost use Rattle.model.specs.Ranges.{costs-in-range, outputs-in-range, times-in-range, in-range, midnight-ordered, ordered, good-generator};
 ghost use Rattle.model.specs.Held.{blank-generator};
 use crate::ranges::holds_both;
 use crate::ranges::is_between;
 
 // Document 01's unit, with the source's names for its numbers. Tini is on and since: before period 1 the generator has
-// been on, or off, for since periods.
+// been on, or off, for since periods. p0 is its output at midnight (document 02, [3]).
 pub struct Generator {
     pub a: u64,
     pub b: u64,
@@ -23,11 +23,12 @@ pub struct Generator {
     pub Csc: u64,
     pub Tcold: usize,
     pub Dc: u64,
+    pub p0: u64,
 }
 
 impl Generator {
-    // MOST_COST is for a, Hsc, Csc and Dc; LEAST_OUTPUT and MOST_OUTPUT are for pL, pU, DR and UR; the times are TU and TD, and
-    // MOST_TIME is Tcold's too.
+    // MOST_COST is for a, Hsc, Csc and Dc; LEAST_OUTPUT and MOST_OUTPUT are for pL, pU, DR and UR, and MOST_OUTPUT
+    // is p0's too; the times are TU and TD, and MOST_TIME is Tcold's too.
     pub const MOST_COST: u64 = 1_000_000_000;
 
     pub const MOST_B: u64 = 10_000_000;
@@ -66,6 +67,7 @@ impl Generator {
             Csc: 0,
             Tcold: 0,
             Dc: 0,
+            p0: 0,
         }
     }
 
@@ -95,7 +97,7 @@ impl Generator {
         )
     }
 
-    // Whether pL, pU, DR and UR are in range.
+    // Whether pL, pU, DR, UR and p0 are in range.
     fn has_outputs_in_range(self) -> bool
         ensures { λ r. ⌜ r ≡ outputs-in-range self ⌝ }
     {
@@ -103,7 +105,11 @@ impl Generator {
         let high = is_between(Self::LEAST_OUTPUT, self.pU, Self::MOST_OUTPUT);
         let down = is_between(Self::LEAST_OUTPUT, self.DR, Self::MOST_OUTPUT);
         let up = is_between(Self::LEAST_OUTPUT, self.UR, Self::MOST_OUTPUT);
-        holds_both(low, holds_both(high, holds_both(down, up)))
+        let midnight = is_between(0, self.p0, Self::MOST_OUTPUT);
+        holds_both(
+            low,
+            holds_both(high, holds_both(down, holds_both(up, midnight))),
+        )
     }
 
     // Whether TU, TD, Tini and Tcold are in range.
@@ -117,11 +123,26 @@ impl Generator {
         holds_both(up, holds_both(down, holds_both(before, cold)))
     }
 
-    // Whether pL is at most pU and Hsc at most Csc (15).
+    // Whether pL is at most pU, Hsc at most Csc, and p0 as Tini has it (15).
     pub fn is_ordered(self) -> bool
         ensures { λ r. ⌜ r ≡ ordered self ⌝ }
     {
-        holds_both(self.pL <= self.pU, self.Hsc <= self.Csc)
+        let midnight = self.has_midnight();
+        holds_both(
+            self.pL <= self.pU,
+            holds_both(self.Hsc <= self.Csc, midnight),
+        )
+    }
+
+    // Whether p0 is from pL to pU after periods on, and 0 after periods off.
+    fn has_midnight(self) -> bool
+        ensures { λ r. ⌜ r ≡ midnight-ordered self ⌝ }
+    {
+        if self.on {
+            is_between(self.pL, self.p0, self.pU)
+        } else {
+            self.p0 == 0
+        }
     }
 
     // Whether neither 13 nor 15 refuses the generator's line.

@@ -16,6 +16,9 @@ is-between-requires-3 c κs = search needs
 is-between-requires-4 : tie.Need-is-between-requires-4
 is-between-requires-4 c κs = search needs
 
+is-between-requires-5 : tie.Need-is-between-requires-5
+is-between-requires-5 c κs = search needs
+
 holds-both-requires : tie.Need-holds-both-requires
 holds-both-requires c κs = search needs
 
@@ -24,6 +27,9 @@ holds-both-requires-2 c κs = search needs
 
 holds-both-requires-3 : tie.Need-holds-both-requires-3
 holds-both-requires-3 c κs = search needs
+
+holds-both-requires-4 : tie.Need-holds-both-requires-4
+holds-both-requires-4 c κs = search needs
 
 returns : tie.Need-returns
 unfolding outputs-in-range
@@ -37,7 +43,9 @@ has-outputs-in-range-spec =
     is-between-requires-2
     is-between-requires-3
     is-between-requires-4
+    is-between-requires-5
     holds-both-requires
     holds-both-requires-2
     holds-both-requires-3
+    holds-both-requires-4
     returns)
