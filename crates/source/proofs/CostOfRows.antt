@@ -8,7 +8,7 @@ use lib.ListN.{length}
 use Rattle.model.specs.declared.generator.Generator.{Generator}
 use Rattle.model.specs.Instance.{Instance, Schedule, sum-units, Each}
 use Rattle.model.specs.Ranges.{WellFormed}
-use Rattle.model.specs.Rules.{on, Meets}
+use Rattle.model.specs.Rules.{on, MeetsPrinted}
 use Rattle.model.specs.Cost.{fuel-cost, row-cost, cost}
 use Rattle.model.proofs.Sums.{sum-add}
 use Rattle.source.specs.Source.{Σ₁, Σᵢ, nth, num, Fifteen, Sentence15, term, u-row, p-of, u-of}
@@ -56,7 +56,7 @@ value-is c F P s w f =
 
 -- if k is that sum for every schedule, k is the least objective with its outputs
 pub least-is : (F : Fifteen) (c : Charge) → LeastStart F c → (P : Instance) (k : Schedule → ℕ)
-    → ((s : Schedule) → Shape P s → Σᵢ (λ i g. unit-value c (P .periods) g (p-of s i)) (P .units) ≡ k s) → WellFormed P → (s : Schedule) → Meets P s
+    → ((s : Schedule) → Shape P s → Σᵢ (λ i g. unit-value c (P .periods) g (p-of s i)) (P .units) ≡ k s) → WellFormed P → (s : Schedule) → MeetsPrinted P s
     → LeastWith F P (p-of s) (k s)
 least-is F c L P k is W s M =
     subst (λ (v : ℕ). LeastWith F P (p-of s) v) (is s (shape-of P s M)) (least-with F c L P (p-of s) (formed→ranged P W) (u-of s) (meets→source P s M))
@@ -65,5 +65,5 @@ pub cost-value : (P : Instance) (s : Schedule) → Shape P s → Σᵢ (λ i g. 
 unfolding cost
 cost-value P s w = value-is start-cost (row-cost (P .periods)) P s w (row-value (P .periods))
 
-pub cost-is-least : (P : Instance) → WellFormed P → (s : Schedule) → Meets P s → LeastWith Sentence15 P (p-of s) (cost P s)
+pub cost-is-least : (P : Instance) → WellFormed P → (s : Schedule) → MeetsPrinted P s → LeastWith Sentence15 P (p-of s) (cost P s)
 cost-is-least P = least-is Sentence15 start-cost sentence-least P (cost P) (cost-value P)

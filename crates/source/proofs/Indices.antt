@@ -8,7 +8,7 @@ use lib.ListN.{length, getD}
 use Rattle.model.specs.declared.generator.Generator.{Generator}
 use Rattle.model.specs.Instance.{Instance, Schedule, sum-units, Each}
 use Rattle.model.specs.Ranges.{All, Shaped}
-use Rattle.model.specs.Rules.{Row, Meets}
+use Rattle.model.specs.Rules.{Row, MeetsPrinted}
 use Rattle.source.specs.Source.{Σ₁, Σᵢ, Every}
 
 -- ---- a rule for t = 1, 2, .., n, and one for t = 2, 3, .., n of two periods in a row
@@ -112,7 +112,7 @@ pub Σᵢ-is : (F : Generator → List ℕ → ℕ) (gs : List Generator) (s : S
 abbrev pub Shape : Instance → Schedule → Type 0
 Shape P s = Each (λ g r. length r ≡ P .periods) (P .units) s
 
-pub shape-of : (P : Instance) (s : Schedule) → Meets P s → Shape P s
+pub shape-of : (P : Instance) (s : Schedule) → MeetsPrinted P s → Shape P s
 shape-of P s M = each-map (Row (P .periods)) (λ g r. length r ≡ P .periods) (λ g r R. R .long) (P .units) s (M .rows)
 
 pub shaped→shape : (P : Instance) (s : Schedule) → Shaped P s → Shape P s

@@ -18,8 +18,10 @@ pub mod CostOfRows
 pub mod Repaired
 pub mod Printed
 pub mod Solutions
+pub mod Midnight
 pub mod BoundOfSource
 -- computed examples and counterexamples
 pub mod ShownFifteen
+pub mod ShownMidnight
 pub mod Conditions
 pub mod WholeOutputs

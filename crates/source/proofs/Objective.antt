@@ -10,11 +10,11 @@ use Rattle.model.specs.Rules.{on}
 use Rattle.source.specs.Source.{Bits, Σ₁, Σᵢ, Every, UnitSource, Source, num, Fifteen, Sentence15, Charges, Costs, term, objective}
 use Rattle.source.specs.Sentences.{start-cost, stop-cost}
 use Rattle.source.specs.Least.{LeastWith}
-use Rattle.source.proofs.Indices.{Σ₁-le, Σᵢ-same, Σᵢ-le, every-all, every-map, every-both}
+use Rattle.source.proofs.Indices.{Σ₁-le, Σᵢ-same, Σᵢ-le, every-map, every-both}
 use Rattle.source.proofs.Ranged.{Ranged, AllRanged}
 use Rattle.source.proofs.Stays.{num-le}
 use Rattle.source.proofs.Rows.{source-status}
-use Rattle.source.proofs.Schedules.{problem-same, statuses-are}
+use Rattle.source.proofs.Schedules.{same-self, problem-same, statuses-are}
 use Rattle.source.proofs.Charges.{charges-allowed, start-below, stop-below, start-same, stop-same}
 
 -- a cost in each period, from a unit and its statuses
@@ -119,7 +119,7 @@ module _ (F : Fifteen) (c : Charge) (L : LeastStart F c) where
       u = λ i. status (p i);
       cu = charge-of c;
       cd = charge-of stop-cost;
-      source = problem-same P u (λ i. status (p i)) p p (statuses-are P u p A S) (every-all _ (P .units) (λ i g t l m. refl)) S;
+      source = problem-same P u (λ i. status (p i)) p p (statuses-are P u p A S) (same-self P p) S;
       costs = value-allowed;
       value = value-attained;
       least = value-below;

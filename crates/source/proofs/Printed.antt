@@ -10,7 +10,7 @@ use lib.ListN.{length}
 use Rattle.model.specs.declared.generator.Generator.{Generator}
 use Rattle.model.specs.Instance.{Instance, Schedule, sum-units}
 use Rattle.model.specs.Ranges.{WellFormed}
-use Rattle.model.specs.Rules.{Meets}
+use Rattle.model.specs.Rules.{MeetsPrinted}
 use Rattle.model.specs.Cost.{row-cost, cost}
 use Rattle.model.proofs.Sums.{sum-add}
 use Rattle.source.specs.Source.{Bits, Σ₁, Σᵢ, nth, from, downtime, Printed15, Sentence15, Charges, term, u-row, p-of}
@@ -133,5 +133,5 @@ printed-value P s w =
     ∙ units-add (row-cost (P .periods)) (λ g r. Σ₁ (P .periods) (surcharge g (u-row r))) (P .units) s
 
 -- with (15) as printed, the least objective with a schedule's outputs is its cost and its surcharges
-pub printed-is-least : (P : Instance) → WellFormed P → (s : Schedule) → Meets P s → LeastWith Printed15 P (p-of s) (cost P s + surcharges P s)
+pub printed-is-least : (P : Instance) → WellFormed P → (s : Schedule) → MeetsPrinted P s → LeastWith Printed15 P (p-of s) (cost P s + surcharges P s)
 printed-is-least P = least-is Printed15 printed-cost printed-least P (λ s. cost P s + surcharges P s) (printed-value P)

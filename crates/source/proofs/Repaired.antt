@@ -8,7 +8,7 @@ use native.Mathlib.Omega.{arith}
 use Rattle.model.specs.declared.generator.Generator.{Generator}
 use Rattle.model.specs.Instance.{Instance, Schedule}
 use Rattle.model.specs.Ranges.{WellFormed}
-use Rattle.model.specs.Rules.{Meets}
+use Rattle.model.specs.Rules.{MeetsPrinted}
 use Rattle.model.specs.Cost.{cost}
 use Rattle.source.specs.Source.{Bits, Σ₁, num, from, idle, longer, downs, downtime, Repaired15, Sentence15, p-of}
 use Rattle.source.specs.Sentences.{start-cost, stop-cost}
@@ -72,5 +72,5 @@ repaired-least = record {
   same = sentence-least .same;
 }
 
-pub repaired-is-least : (P : Instance) → WellFormed P → (s : Schedule) → Meets P s → LeastWith Repaired15 P (p-of s) (cost P s)
+pub repaired-is-least : (P : Instance) → WellFormed P → (s : Schedule) → MeetsPrinted P s → LeastWith Repaired15 P (p-of s) (cost P s)
 repaired-is-least P = least-is Repaired15 start-cost repaired-least P (cost P) (cost-value P)

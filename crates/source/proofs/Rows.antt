@@ -1,6 +1,7 @@
 -- One unit: a row of outputs obeys the model's rules exactly if (4) to (12) hold for it, u being 1 where the output is above 0.
 -- Output by output (4) fixes u, and (11) and (12) say nothing unless both outputs are above 0.
 use mathlib.Core.Path.{_≡_, refl, sym, _∙_, ap}
+use mathlib.Core.Bool.{Bool, true, false, not}
 use mathlib.Core.Logic.{_↔_}
 use mathlib.Core.List.{List}
 use Prim.Native.Nat.{ℕ, zero, suc, _+_, _*_, _-_, _≤_, _<_}
@@ -34,24 +35,29 @@ eq4-status g (suc zero) zero l h i j = absurd (omega arith)
 eq4-status g (suc zero) (suc p) l h i j = refl
 eq4-status g (suc (suc u)) p l h i j = absurd (omega arith)
 
--- ---- (11), (12), of two outputs
+-- ---- (11), (12), of two outputs in a row, b being the status with the first
 
-abbrev Eq11 : Generator → ℕ → ℕ → Type 0
-Eq11 g p p′ = p ≤ p′ + g .DR * num (on p) + g .pU * (1 - num (on p′))
+abbrev pub Eq11 : Generator → Bool → ℕ → ℕ → Type 0
+Eq11 g b p p′ = p ≤ p′ + g .DR * num b + g .pU * (1 - num (on p′))
 
-abbrev Eq12 : Generator → ℕ → ℕ → Type 0
-Eq12 g p p′ = p′ ≤ p + g .UR * num (on p) + g .pU * (1 - num (on p))
+abbrev pub Eq12 : Generator → Bool → ℕ → ℕ → Type 0
+Eq12 g b p p′ = p′ ≤ p + g .UR * num b + g .pU * (1 - num b)
 
-ramp→eq : (g : Generator) (p p′ : ℕ) → Within g p → Within g p′ → (T (on p) → T (on p′) → Ramp g p p′) → Eq11 g p p′ × Eq12 g p p′
-ramp→eq g zero zero w w′ r = (omega arith, omega arith)
-ramp→eq g zero (suc p′) w w′ r = (omega arith, omega (arith, w′ tt .1))
-ramp→eq g (suc p) zero w w′ r = (omega (arith, w tt .1), omega arith)
-ramp→eq g (suc p) (suc p′) w w′ r = (omega (arith, r tt tt .fall), omega (arith, r tt tt .rise))
+pub ramp→eq : (g : Generator) (b : Bool) (p p′ : ℕ) → (T b → p ≤ g .pU) → (T (not b) → p ≡ 0) → Within g p′
+    → (T b → T (on p′) → Ramp g p p′) → Eq11 g b p p′ × Eq12 g b p p′
+ramp→eq g true p zero m z w r = (omega (arith, m tt), omega arith)
+ramp→eq g true p (suc p′) m z w r = (omega (arith, r tt tt .fall), omega (arith, r tt tt .rise))
+ramp→eq g false p zero m z w r = (omega (arith, z tt), omega arith)
+ramp→eq g false p (suc p′) m z w r = (omega (arith, z tt), omega (arith, w tt .1))
 
-eq→ramp : (g : Generator) (p p′ : ℕ) → Eq11 g p p′ → Eq12 g p p′ → T (on p) → T (on p′) → Ramp g p p′
-eq→ramp g zero p′ h i t t′ = absurd t
-eq→ramp g (suc p) zero h i t t′ = absurd t′
-eq→ramp g (suc p) (suc p′) h i t t′ = record { rise = omega arith; fall = omega arith }
+pub eq→ramp : (g : Generator) (b : Bool) (p p′ : ℕ) → Eq11 g b p p′ → Eq12 g b p p′ → T b → T (on p′) → Ramp g p p′
+eq→ramp g true p zero h i t t′ = absurd t′
+eq→ramp g true p (suc p′) h i t t′ = record { rise = omega arith; fall = omega arith }
+eq→ramp g false p p′ h i t t′ = absurd t
+
+off-none : (p : ℕ) → T (not (on p)) → p ≡ 0
+off-none zero t = refl
+off-none (suc p) t = absurd t
 
 -- ---- a row
 
@@ -66,13 +72,15 @@ module _ (n : ℕ) (g : Generator) (r : List ℕ) where
   row→source R = record {
     eq4 = from-one n _ (λ t l. within→eq4 g (r at t) (R .limits t l));
     eq5-10 = keeps→updown n g (u-row r) (statuses r) (length-map r on ∙ R .long) (row-reads g r) (R .updown);
-    eq11 = from-two n (λ s t. Eq11 g (nth r s) (nth r t)) (λ t l. ramps t l .0);
-    eq12 = from-two n (λ s t. Eq12 g (nth r s) (nth r t)) (λ t l. ramps t l .1);
+    eq11 = from-two n (λ s t. Eq11 g (on (nth r s)) (nth r s) (nth r t)) (λ t l. ramps t l .0);
+    eq12 = from-two n (λ s t. Eq12 g (on (nth r s)) (nth r s) (nth r t)) (λ t l. ramps t l .1);
     eq22 = row-bits n r;
   }
     where
-      ramps : (t : ℕ) → suc t < n → Eq11 g (r at t) (r at suc t) × Eq12 g (r at t) (r at suc t)
-      ramps t l = ramp→eq g (r at t) (r at suc t) (R .limits t (omega arith)) (R .limits (suc t) l) (R .ramps t l)
+      ramps : (t : ℕ) → suc t < n → Eq11 g (on (r at t)) (r at t) (r at suc t) × Eq12 g (on (r at t)) (r at t) (r at suc t)
+      ramps t l =
+          ramp→eq g (on (r at t)) (r at t) (r at suc t) (λ h. R .limits t (omega arith) h .1) (off-none (r at t)) (R .limits (suc t) l)
+          (R .ramps t l)
 
   pub source→row : 1 ≤ g .since → length r ≡ n → UnitSource n g (u-row r) (nth r) → Row n g r
   source→row started e S = record {
@@ -80,7 +88,8 @@ module _ (n : ℕ) (g : Generator) (r : List ℕ) where
     limits = λ t l. eq4→within g (r at t) (S .eq4 (suc t) (omega arith) l .0) (S .eq4 (suc t) (omega arith) l .1);
     updown = updown→keeps n g (u-row r) (statuses r) (length-map r on ∙ e) (row-reads g r) started (row-bits n r) (S .eq5-10);
     ramps = λ t l. let q : suc (suc t) - 1 ≡ suc t = omega arith in
-        eq→ramp g (r at t) (r at suc t) (rw q at (S .eq11 (suc (suc t)) (omega arith) l)) (rw q at (S .eq12 (suc (suc t)) (omega arith) l));
+        eq→ramp g (on (r at t)) (r at t) (r at suc t) (rw q at (S .eq11 (suc (suc t)) (omega arith) l))
+        (rw q at (S .eq12 (suc (suc t)) (omega arith) l));
   }
 
   -- of the ranges this wants only that Tini is not 0

@@ -8,7 +8,7 @@ use lib.Dec.{T, lit<, lit≤}
 use lib.IntN.{pos}
 use Rattle.model.specs.declared.generator.Generator.{Generator}
 use Rattle.model.specs.Instance.{Instance, Schedule}
-use Rattle.model.specs.Rules.{statuses, keeps}
+use Rattle.model.specs.Rules.{if-on, statuses, keeps}
 use Rattle.model.specs.Cost.{row-cost, cost}
 use Rattle.model.proofs.Integers.{ltZ→nat}
 use Rattle.source.specs.Source.{Σ₁, downtime, Fifteen, Printed15, Charges, Costs, objective, u-row, p-of, u-of}
@@ -16,7 +16,7 @@ use Rattle.source.specs.Sentences.{start-cost, stop-cost, printed-cost, 
 
 -- TD + Tcold = 2, Hsc 10, Csc 20; on or off for k periods before period 1
 abbrev unit : Bool → ℕ → Generator
-unit b k = record { a = 0; b = 1; c = 0; pL = 1; pU = 9; TU = 1; TD = 1; on = b; since = k; DR = 9; UR = 9; Hsc = 10; Csc = 20; Tcold = 1; Dc = 0 }
+unit b k = record { a = 0; b = 1; c = 0; pL = 1; pU = 9; TU = 1; TD = 1; on = b; since = k; DR = 9; UR = 9; Hsc = 10; Csc = 20; Tcold = 1; Dc = 0; p0 = if-on b 5 }
 
 -- A was on; it is off in 1 and 2, and on in 3
 abbrev A : Generator

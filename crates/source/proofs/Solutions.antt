@@ -1,5 +1,5 @@
--- Every solution of the printed equations is a schedule: its outputs, as rows. So the least objective over all u, p, cu and cd is the least
--- cost of a schedule that meets the model's rules.
+-- Every solution of the printed equations is a schedule: its outputs, as rows. So where the model's rules are equations, the least objective
+-- over all u, p, cu and cd is the least cost of a schedule that meets the rules.
 use mathlib.Core.Path.{_≡_, refl, sym, _∙_, ap}
 use mathlib.Core.Logic.{_↔_}
 use mathlib.Core.List.{List, [], _∷_}
@@ -9,14 +9,14 @@ use lib.ListN.{length, getD}
 use Rattle.model.specs.declared.generator.Generator.{Generator}
 use Rattle.model.specs.Instance.{Instance, Schedule, _at_, Each}
 use Rattle.model.specs.Ranges.{WellFormed}
-use Rattle.model.specs.Rules.{Meets}
+use Rattle.model.specs.Rules.{MeetsPrinted}
 use Rattle.model.specs.Cost.{cost}
 use Rattle.source.specs.Source.{Σ₁, Σᵢ, Every, nth, Source, Fifteen, Printed15, Repaired15, Sentence15, Costs, term, objective, p-of, u-of}
 use Rattle.source.specs.Sentences.{start-cost, printed-cost, surcharges}
-use Rattle.source.specs.Least.{LeastObjective, LeastCost}
-use Rattle.source.proofs.Indices.{Σ₁-same, Σᵢ-same, every-all, every-map, Shape, shape-of}
+use Rattle.source.specs.Least.{LeastWith, LeastObjective, LeastCost}
+use Rattle.source.proofs.Indices.{Σ₁-same, Σᵢ-same, every-map, Shape}
 use Rattle.source.proofs.Ranged.{AllRanged, formed→ranged}
-use Rattle.source.proofs.Schedules.{Same, problem-same, statuses-are, meets→source, source→meets}
+use Rattle.source.proofs.Schedules.{Same, same-self, same-sym, problem-same, statuses-are, Reading, any-meets, printed-reading}
 use Rattle.source.proofs.Objective.{Charge, LeastStart, unit-value, sentence-least, value-below, least-with}
 use Rattle.source.proofs.CostOfRows.{cost-value}
 use Rattle.source.proofs.Printed.{printed-least, printed-value}
@@ -69,7 +69,7 @@ module _ (P : Instance) (p : ℕ → ℕ → ℕ) where
   schedule-same = rows-same (P .units) (P .periods) p (p-of (schedule-of P p)) (λ i. refl)
 
   schedule-source : (u : ℕ → ℕ → ℕ) → Source P u p → Source P u (p-of (schedule-of P p))
-  schedule-source u S = problem-same P u u p (p-of (schedule-of P p)) (every-all _ (P .units) (λ i g t l m. refl)) schedule-same S
+  schedule-source u S = problem-same P u u p (p-of (schedule-of P p)) (same-self P u) schedule-same S
 
   schedule-objective : (u cu cd : ℕ → ℕ → ℕ) → objective P u p cu cd ≡ objective P u (p-of (schedule-of P p)) cu cd
   schedule-objective u cu cd =
@@ -79,13 +79,12 @@ module _ (P : Instance) (p : ℕ → ℕ → ℕ) where
       (λ t. term g (u i t) (p-of (schedule-of P p) i t) (cu i t) (cd i t)) (λ t l m. ap (λ (k : ℕ). term g (u i t) k (cu i t) (cd i t)) (e t l m)))
       schedule-same)
 
-  -- it meets the rules
-  pub solution-meets : (u : ℕ → ℕ → ℕ) → AllRanged P → Source P u p → Meets P (schedule-of P p)
-  solution-meets u A S =
-      let R = schedule-source u S in
-      let s = schedule-of P p in
-      source→meets P s A schedule-shape
-      (problem-same P u (u-of s) (p-of s) (p-of s) (statuses-are P u (p-of s) A R) (every-all _ (P .units) (λ i g t l m. refl)) R)
+-- it meets the rules, if these are the equations
+pub solution-meets : (P : Instance) (E : (ℕ → ℕ → ℕ) → (ℕ → ℕ → ℕ) → Type 0) (M : Schedule → Type 0) → Reading P E M → AllRanged P
+    → (u p : ℕ → ℕ → ℕ) → E u p → M (schedule-of P p)
+solution-meets P E M R A u p e =
+    let s = schedule-of P p in
+    any-meets P E M R s A (schedule-shape P p) u (R .same u u p (p-of s) (same-self P u) (schedule-same P p) e)
 
 -- ---- the two least values
 
@@ -101,43 +100,70 @@ module _ (F : Fifteen) (c : Charge) (L : LeastStart F c) (P : Instance) (A : All
     value-below F c L P (p-of s) A u cu cd (schedule-source P p u S) C,
   )
 
-  -- every schedule is a solution
-  as-solution : (s : Schedule) → Meets P s → (v : ℕ) → LeastObjective F P v → v ≤ k s
-  as-solution s M v O =
-      let W = least-with F c L P (p-of s) A (u-of s) (meets→source P s M) in
-      omega (arith, is s (shape-of P s M), W .value, O .least (W .u) (p-of s) (W .cu) (W .cd) (W .source) (W .costs))
+  -- the rules M are the equations E
+  module _ (E : (ℕ → ℕ → ℕ) → (ℕ → ℕ → ℕ) → Type 0) (M : Schedule → Type 0) (R : Reading P E M) where
+    -- a schedule with its least statuses and costs ..
+    with-least : (s : Schedule) → M s → LeastWith F P (p-of s) (Σᵢ (λ i g. unit-value c (P .periods) g (p-of s i)) (P .units))
+    with-least s m = least-with F c L P (p-of s) A (u-of s) (R .source (u-of s) (p-of s) (R .solves s m))
 
-  least→objective : (v : ℕ) → LeastCost P k v → LeastObjective F P v
-  least→objective v O =
-      let W = least-with F c L P (p-of (O .s)) A (u-of (O .s)) (meets→source P (O .s) (O .meets)) in record {
-        u = W .u;
-        p = p-of (O .s);
-        cu = W .cu;
-        cd = W .cd;
-        source = W .source;
-        costs = W .costs;
-        value = W .value ∙ is (O .s) (shape-of P (O .s) (O .meets)) ∙ O .value;
-        least = λ u p cu cd S C. omega (arith, solution-below u p cu cd S C, O .least (schedule-of P p) (solution-meets P p u A S));
-      }
+    -- .. is a solution
+    least-solves : (s : Schedule) (m : M s) → E (with-least s m .u) (p-of s)
+    least-solves s m =
+        let W = with-least s m in
+        R .same (u-of s) (W .u) (p-of s) (p-of s)
+        (same-sym P (W .u) (u-of s) (statuses-are P (W .u) (p-of s) A (W .source))) (same-self P (p-of s)) (R .solves s m)
 
-  objective→least : (v : ℕ) → LeastObjective F P v → LeastCost P k v
-  objective→least v O = let M = solution-meets P (O .p) (O .u) A (O .source) in record {
-    s = schedule-of P (O .p);
-    meets = M;
-    value = omega (arith, O .value, solution-below (O .u) (O .p) (O .cu) (O .cd) (O .source) (O .costs), as-solution (schedule-of P (O .p)) M v O);
-    least = λ s M′. as-solution s M′ v O;
-  }
+    as-solution : (s : Schedule) → M s → (v : ℕ) → LeastObjective E F P v → v ≤ k s
+    as-solution s m v O =
+        let W = with-least s m in
+        omega (arith, is s (R .shape s m), W .value, O .least (W .u) (p-of s) (W .cu) (W .cd) (least-solves s m) (W .costs))
 
-  pub optimum : (v : ℕ) → LeastCost P k v ↔ LeastObjective F P v
-  optimum v = (least→objective v, objective→least v)
+    least→objective : (v : ℕ) → LeastCost M k v → LeastObjective E F P v
+    least→objective v O = let W = with-least (O .s) (O .meets) in record {
+      u = W .u;
+      p = p-of (O .s);
+      cu = W .cu;
+      cd = W .cd;
+      solves = least-solves (O .s) (O .meets);
+      costs = W .costs;
+      value = W .value ∙ is (O .s) (R .shape (O .s) (O .meets)) ∙ O .value;
+      least = λ u p cu cd e C. omega (
+        arith,
+        solution-below u p cu cd (R .source u p e) C,
+        O .least (schedule-of P p) (solution-meets P E M R A u p e),
+      );
+    }
 
--- ---- the theorems, for each form of (15)
+    objective→least : (v : ℕ) → LeastObjective E F P v → LeastCost M k v
+    objective→least v O = let m = solution-meets P E M R A (O .u) (O .p) (O .solves) in record {
+      s = schedule-of P (O .p);
+      meets = m;
+      value = omega (
+        arith,
+        O .value,
+        solution-below (O .u) (O .p) (O .cu) (O .cd) (R .source (O .u) (O .p) (O .solves)) (O .costs),
+        as-solution (schedule-of P (O .p)) m v O,
+      );
+      least = λ s m′. as-solution s m′ v O;
+    }
 
-pub optimum-sentence : (P : Instance) → WellFormed P → (v : ℕ) → LeastCost P (cost P) v ↔ LeastObjective Sentence15 P v
-optimum-sentence P W = optimum Sentence15 start-cost sentence-least P (formed→ranged P W) (cost P) (cost-value P)
+    pub optimum : (v : ℕ) → LeastCost M k v ↔ LeastObjective E F P v
+    optimum v = (least→objective v, objective→least v)
 
-pub optimum-repaired : (P : Instance) → WellFormed P → (v : ℕ) → LeastCost P (cost P) v ↔ LeastObjective Repaired15 P v
-optimum-repaired P W = optimum Repaired15 start-cost repaired-least P (formed→ranged P W) (cost P) (cost-value P)
+-- ---- the theorems: the printed rules, for each form of (15)
 
-pub optimum-printed : (P : Instance) → WellFormed P → (v : ℕ) → LeastCost P (λ s. cost P s + surcharges P s) v ↔ LeastObjective Printed15 P v
-optimum-printed P W = optimum Printed15 printed-cost printed-least P (formed→ranged P W) (λ s. cost P s + surcharges P s) (printed-value P)
+pub optimum-sentence : (P : Instance) → WellFormed P → (v : ℕ) → LeastCost (MeetsPrinted P) (cost P) v ↔ LeastObjective (Source P) Sentence15 P v
+optimum-sentence P W =
+    let A = formed→ranged P W in
+    optimum Sentence15 start-cost sentence-least P A (cost P) (cost-value P) (Source P) (MeetsPrinted P) (printed-reading P A)
+
+pub optimum-repaired : (P : Instance) → WellFormed P → (v : ℕ) → LeastCost (MeetsPrinted P) (cost P) v ↔ LeastObjective (Source P) Repaired15 P v
+optimum-repaired P W =
+    let A = formed→ranged P W in
+    optimum Repaired15 start-cost repaired-least P A (cost P) (cost-value P) (Source P) (MeetsPrinted P) (printed-reading P A)
+
+pub optimum-printed : (P : Instance) → WellFormed P → (v : ℕ)
+    → LeastCost (MeetsPrinted P) (λ s. cost P s + surcharges P s) v ↔ LeastObjective (Source P) Printed15 P v
+optimum-printed P W =
+    let A = formed→ranged P W in
+    optimum Printed15 printed-cost printed-least P A (λ s. cost P s + surcharges P s) (printed-value P) (Source P) (MeetsPrinted P) (printed-reading P A)

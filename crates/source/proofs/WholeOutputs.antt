@@ -10,7 +10,7 @@ use lib.ListN.{length}
 use lib.IntN.{pos}
 use Rattle.model.specs.declared.generator.Generator.{Generator}
 use Rattle.model.specs.Instance.{Instance, Schedule, _at_, Each}
-use Rattle.model.specs.Rules.{Within, output, capacity, Row, Meets}
+use Rattle.model.specs.Rules.{Within, output, capacity, Row, MeetsPrinted, Meets}
 use Rattle.model.specs.Cost.{row-cost, cost}
 use Rattle.model.specs.Above.{root}
 use Rattle.model.specs.Leaf.{rows-of, is-stuck, revenue, value, unit-least, units-least, requirement, leaf-value}
@@ -18,7 +18,7 @@ use Rattle.model.specs.Tree.{price, Holds, number, bound}
 use Rattle.source.specs.Least.{LeastCost}
 
 abbrev square : Generator
-square = record { a = 0; b = 0; c = 1; pL = 1; pU = 3; TU = 1; TD = 1; on = true; since = 1; DR = 3; UR = 3; Hsc = 0; Csc = 0; Tcold = 0; Dc = 0 }
+square = record { a = 0; b = 0; c = 1; pL = 1; pU = 3; TU = 1; TD = 1; on = true; since = 1; DR = 3; UR = 3; Hsc = 0; Csc = 0; Tcold = 0; Dc = 0; p0 = 2 }
 
 abbrev pub squares : Instance
 squares = record { periods = 1; demand = 3 ∷ []; spare = 0 ∷ []; units = square ∷ (square ∷ []) }
@@ -32,7 +32,7 @@ cost-of zero (suc q) = omega arith
 cost-of (suc p) zero = omega arith
 cost-of (suc p) (suc q) = omega arith
 
-demand-of : (p q : ℕ) → Meets squares ((p ∷ []) ∷ ((q ∷ []) ∷ [])) → 3 ≤ p + q
+demand-of : (p q : ℕ) → MeetsPrinted squares ((p ∷ []) ∷ ((q ∷ []) ∷ [])) → 3 ≤ p + q
 unfolding output
 demand-of p q M = omega (arith, M .meets-demand 0 (lit< tt))
 
@@ -45,13 +45,13 @@ five (suc zero) q l = omega (arith, squared 2 q (omega arith))
 five (suc (suc zero)) q l = omega (arith, squared 1 q (omega arith))
 five (suc (suc (suc p))) q l = omega (arith, squared 3 (suc (suc (suc p))) (omega arith))
 
-whole-below : (s : Schedule) → Each (Row 1) (squares .units) s → Meets squares s → 5 ≤ cost squares s
+whole-below : (s : Schedule) → Each (Row 1) (squares .units) s → MeetsPrinted squares s → 5 ≤ cost squares s
 whole-below [] w M = absurd w
 whole-below (r ∷ []) w M = absurd (w .1)
 whole-below (r ∷ (r′ ∷ (x ∷ s))) w M = absurd (w .1 .1)
 whole-below (r ∷ (r′ ∷ [])) w M = go r r′ (w .0 .long) (w .1 .0 .long) M
   where
-    go : (r r′ : List ℕ) → length r ≡ 1 → length r′ ≡ 1 → Meets squares (r ∷ (r′ ∷ [])) → 5 ≤ cost squares (r ∷ (r′ ∷ []))
+    go : (r r′ : List ℕ) → length r ≡ 1 → length r′ ≡ 1 → MeetsPrinted squares (r ∷ (r′ ∷ [])) → 5 ≤ cost squares (r ∷ (r′ ∷ []))
     go [] r′ e e′ M = absurd (omega arith)
     go (p ∷ (x ∷ r)) r′ e e′ M = absurd (omega arith)
     go (p ∷ []) [] e e′ M = absurd (omega arith)
@@ -68,9 +68,13 @@ best-row p l = record { long = refl; limits = limits; updown = tt; ramps = λ t 
     limits zero m h = (omega arith, l)
     limits (suc t) m h = absurd (omega arith)
 
+-- 1 and 2, from 2 at midnight
 best-meets : Meets squares best
 unfolding output capacity
-best-meets = record { rows = (best-row 0 (lit≤ tt), (best-row 1 (lit≤ tt), tt)); meets-demand = demand; meets-spare = spare }
+best-meets = record {
+  printed = record { rows = (best-row 0 (lit≤ tt), (best-row 1 (lit≤ tt), tt)); meets-demand = demand; meets-spare = spare };
+  midnight = (λ b d. record { rise = lit≤ tt; fall = lit≤ tt }, (λ b d. record { rise = lit≤ tt; fall = lit≤ tt }, tt));
+}
   where
     demand : (t : ℕ) → t < 1 → squares .demand at t ≤ output squares best t
     demand zero l = lit≤ tt
@@ -80,8 +84,8 @@ best-meets = record { rows = (best-row 0 (lit≤ tt), (best-row 1 (lit≤ tt), t
     spare zero l = lit≤ tt
     spare (suc t) l = absurd (omega arith)
 
-pub whole-least : LeastCost squares (cost squares) 5
-whole-least = record { s = best; meets = best-meets; value = cost-of 1 2; least = λ s M. whole-below s (M .rows) M }
+pub whole-least : LeastCost (Meets squares) (cost squares) 5
+whole-least = record { s = best; meets = best-meets; value = cost-of 1 2; least = λ s M. whole-below s (M .printed .rows) (M .printed) }
 
 -- a tree's bound says so, too: a price leaf of 3
 pub whole-holds : Holds squares root (price (3 ∷ []) (0 ∷ []))

@@ -2,7 +2,6 @@
 use mathlib.Core.Path.{_≡_}
 use Prim.Native.Nat.{ℕ, _≤_}
 use Rattle.model.specs.Instance.{Instance, Schedule}
-use Rattle.model.specs.Rules.{Meets}
 use Rattle.source.specs.Source.{Source, Fifteen, Costs, objective}
 
 -- v is the least objective with the outputs p, over all u, cu and cd
@@ -15,20 +14,20 @@ pub record LeastWith (F : Fifteen) (P : Instance) (p : ℕ → ℕ → ℕ) (v :
   pub value : objective P u p cu cd ≡ v
   pub least : (u cu cd : ℕ → ℕ → ℕ) → Source P u p → Costs F P u cu cd → v ≤ objective P u p cu cd
 
--- v is the least objective over all u, p, cu and cd: what the paper's problem asks for
-pub record LeastObjective (F : Fifteen) (P : Instance) (v : ℕ) : Type 0 where
+-- v is the least objective over all u, p, cu and cd, u and p solving E: what the paper's problem asks for, with `Source P` as E
+pub record LeastObjective (E : (ℕ → ℕ → ℕ) → (ℕ → ℕ → ℕ) → Type 0) (F : Fifteen) (P : Instance) (v : ℕ) : Type 0 where
   pub u : ℕ → ℕ → ℕ
   pub p : ℕ → ℕ → ℕ
   pub cu : ℕ → ℕ → ℕ
   pub cd : ℕ → ℕ → ℕ
-  pub source : Source P u p
+  pub solves : E u p
   pub costs : Costs F P u cu cd
   pub value : objective P u p cu cd ≡ v
-  pub least : (u p cu cd : ℕ → ℕ → ℕ) → Source P u p → Costs F P u cu cd → v ≤ objective P u p cu cd
+  pub least : (u p cu cd : ℕ → ℕ → ℕ) → E u p → Costs F P u cu cd → v ≤ objective P u p cu cd
 
--- v is the least k of a schedule that meets the model's rules
-pub record LeastCost (P : Instance) (k : Schedule → ℕ) (v : ℕ) : Type 0 where
+-- v is the least k of a schedule that meets the rules M
+pub record LeastCost (M : Schedule → Type 0) (k : Schedule → ℕ) (v : ℕ) : Type 0 where
   pub s : Schedule
-  pub meets : Meets P s
+  pub meets : M s
   pub value : k s ≡ v
-  pub least : (s : Schedule) → Meets P s → v ≤ k s
+  pub least : (s : Schedule) → M s → v ≤ k s

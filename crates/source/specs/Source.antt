@@ -64,12 +64,19 @@ pub record SomePast (T : ℕ) (g : Generator) (u : ℕ → ℕ) : Type 0 where
 abbrev pub Bits : ℕ → (ℕ → ℕ) → Type 0
 Bits T u = (t : ℕ) → 1 ≤ t → t ≤ T → u t ≤ 1
 
+-- (11) and (12), from period t - 1 to period t
+abbrev pub RampDown : Generator → (ℕ → ℕ) → (ℕ → ℕ) → ℕ → Type 0
+RampDown g u p t = p (t - 1) ≤ p t + g .DR * u (t - 1) + g .pU * (1 - u t)
+
+abbrev pub RampUp : Generator → (ℕ → ℕ) → (ℕ → ℕ) → ℕ → Type 0
+RampUp g u p t = p t ≤ p (t - 1) + g .UR * u (t - 1) + g .pU * (1 - u (t - 1))
+
 -- with the limits of outputs, (4), and the ramps, (11) and (12)
 pub record UnitSource (T : ℕ) (g : Generator) (u p : ℕ → ℕ) : Type 0 where
   pub eq4 : (t : ℕ) → 1 ≤ t → t ≤ T → (u t * g .pL ≤ p t) × (p t ≤ g .pU * u t)
   pub eq5-10 : ToT T g u
-  pub eq11 : (t : ℕ) → 2 ≤ t → t ≤ T → p (t - 1) ≤ p t + g .DR * u (t - 1) + g .pU * (1 - u t)
-  pub eq12 : (t : ℕ) → 2 ≤ t → t ≤ T → p t ≤ p (t - 1) + g .UR * u (t - 1) + g .pU * (1 - u (t - 1))
+  pub eq11 : (t : ℕ) → 2 ≤ t → t ≤ T → RampDown g u p t
+  pub eq12 : (t : ℕ) → 2 ≤ t → t ≤ T → RampUp g u p t
   pub eq22 : Bits T u
 
 -- ---- a problem, with u i t and p i t
