@@ -1,12 +1,12 @@
 -- Document 01's example problem, and damaged ones, by computation.
 use Prim.Native.Nat.{ℕ}
 use mathlib.Core.Path.{_≡_, refl}
-use mathlib.Core.Bool.{true, false}
+use mathlib.Core.Bool.{Bool, true, false}
 use mathlib.Core.List.{List, [], _∷_, _++_, map}
 use Rattle.decimal.specs.Decimal.{digits, digitsBy}
 use Rattle.model.specs.declared.generator.Generator.{Generator}
 use Rattle.model.specs.Instance.{Instance}
-use Rattle.model.specs.Ranges.{WellFormed, ordered}
+use Rattle.model.specs.Ranges.{WellFormed, midnight-ordered, ordered}
 use Rattle.text.specs.Lines.{kindOf}
 use Rattle.text.specs.Forms.{malformed, wrongCount, outOfRange}
 use Rattle.text.specs.Rendering.{rendered, plain-line, text-of}
@@ -39,23 +39,23 @@ demand-line = 100 ∷ 101 ∷ 109 ∷ 97 ∷ 110 ∷ 100 ∷ 61 ∷ 54 ∷ 48 �
 abbrev spare-line : List ℕ
 spare-line = 115 ∷ 112 ∷ 97 ∷ 114 ∷ 101 ∷ 61 ∷ 49 ∷ 48 ∷ 44 ∷ 49 ∷ 48 ∷ []
 
--- unit=100,10,0,20,80,2,2,3,30,30,50,90,1,5
+-- unit=100,10,0,20,80,2,2,3,30,30,50,90,1,5,60
 abbrev first-unit : List ℕ
-first-unit = 117 ∷ 110 ∷ 105 ∷ 116 ∷ 61 ∷ 49 ∷ 48 ∷ 48 ∷ 44 ∷ 49 ∷ 48 ∷ 44 ∷ 48 ∷ 44 ∷ 50 ∷ 48 ∷ 44 ∷ 56 ∷ 48 ∷ 44 ∷ 50 ∷ 44 ∷ 50 ∷ 44 ∷ 51 ∷ 44 ∷ 51 ∷ 48 ∷ 44 ∷ 51 ∷ 48 ∷ 44 ∷ 53 ∷ 48 ∷ 44 ∷ 57 ∷ 48 ∷ 44 ∷ 49 ∷ 44 ∷ 53 ∷ []
+first-unit = 117 ∷ 110 ∷ 105 ∷ 116 ∷ 61 ∷ 49 ∷ 48 ∷ 48 ∷ 44 ∷ 49 ∷ 48 ∷ 44 ∷ 48 ∷ 44 ∷ 50 ∷ 48 ∷ 44 ∷ 56 ∷ 48 ∷ 44 ∷ 50 ∷ 44 ∷ 50 ∷ 44 ∷ 51 ∷ 44 ∷ 51 ∷ 48 ∷ 44 ∷ 51 ∷ 48 ∷ 44 ∷ 53 ∷ 48 ∷ 44 ∷ 57 ∷ 48 ∷ 44 ∷ 49 ∷ 44 ∷ 53 ∷ 44 ∷ 54 ∷ 48 ∷ []
 
--- unit=40,14,0,10,50,1,1,-2,50,50,20,60,0,0
+-- unit=40,14,0,10,50,1,1,-2,50,50,20,60,0,0,0
 abbrev second-unit : List ℕ
-second-unit = 117 ∷ 110 ∷ 105 ∷ 116 ∷ 61 ∷ 52 ∷ 48 ∷ 44 ∷ 49 ∷ 52 ∷ 44 ∷ 48 ∷ 44 ∷ 49 ∷ 48 ∷ 44 ∷ 53 ∷ 48 ∷ 44 ∷ 49 ∷ 44 ∷ 49 ∷ 44 ∷ 45 ∷ 50 ∷ 44 ∷ 53 ∷ 48 ∷ 44 ∷ 53 ∷ 48 ∷ 44 ∷ 50 ∷ 48 ∷ 44 ∷ 54 ∷ 48 ∷ 44 ∷ 48 ∷ 44 ∷ 48 ∷ []
+second-unit = 117 ∷ 110 ∷ 105 ∷ 116 ∷ 61 ∷ 52 ∷ 48 ∷ 44 ∷ 49 ∷ 52 ∷ 44 ∷ 48 ∷ 44 ∷ 49 ∷ 48 ∷ 44 ∷ 53 ∷ 48 ∷ 44 ∷ 49 ∷ 44 ∷ 49 ∷ 44 ∷ 45 ∷ 50 ∷ 44 ∷ 53 ∷ 48 ∷ 44 ∷ 53 ∷ 48 ∷ 44 ∷ 50 ∷ 48 ∷ 44 ∷ 54 ∷ 48 ∷ 44 ∷ 48 ∷ 44 ∷ 48 ∷ 44 ∷ 48 ∷ []
 
 -- end=problem
 abbrev end-line : List ℕ
 end-line = 101 ∷ 110 ∷ 100 ∷ 61 ∷ 112 ∷ 114 ∷ 111 ∷ 98 ∷ 108 ∷ 101 ∷ 109 ∷ []
 
 abbrev unit-one : Generator
-unit-one = record { a = 100; b = 10; c = 0; pL = 20; pU = 80; TU = 2; TD = 2; on = true; since = 3; DR = 30; UR = 30; Hsc = 50; Csc = 90; Tcold = 1; Dc = 5 }
+unit-one = record { a = 100; b = 10; c = 0; pL = 20; pU = 80; TU = 2; TD = 2; on = true; since = 3; DR = 30; UR = 30; Hsc = 50; Csc = 90; Tcold = 1; Dc = 5; p0 = 60 }
 
 abbrev unit-two : Generator
-unit-two = record { a = 40; b = 14; c = 0; pL = 10; pU = 50; TU = 1; TD = 1; on = false; since = 2; DR = 50; UR = 50; Hsc = 20; Csc = 60; Tcold = 0; Dc = 0 }
+unit-two = record { a = 40; b = 14; c = 0; pL = 10; pU = 50; TU = 1; TD = 1; on = false; since = 2; DR = 50; UR = 50; Hsc = 20; Csc = 60; Tcold = 0; Dc = 0; p0 = 0 }
 
 abbrev pub example : Instance
 example = record { periods = 2; demand = 60 ∷ 100 ∷ []; spare = 10 ∷ 10 ∷ []; units = unit-one ∷ unit-two ∷ [] }
@@ -65,7 +65,7 @@ abbrev pub example-text : List ℕ
 example-text = text-of (kind-line ∷ periods-line ∷ units-line ∷ demand-line ∷ spare-line ∷ first-unit ∷ second-unit ∷ end-line ∷ [])
 
 pub example-accepted : problem-judged example-text ≡ accepted example
-unfolding problem-judged judged-from judge malformed wrongCount outOfRange unit-of ordered
+unfolding problem-judged judged-from judge malformed wrongCount outOfRange unit-of ordered midnight-ordered
 example-accepted = refl
 
 pub example-kind : IsProblem example-text
@@ -83,32 +83,32 @@ example-formed = accepted-rendered example example-text example-kind example-acc
 
 -- the second line is missing: 12, line 2
 no-second-line : problem-judged (text-of (kind-line ∷ [])) ≡ refused-at 12 2
-unfolding problem-judged judged-from judge malformed wrongCount outOfRange unit-of ordered
+unfolding problem-judged judged-from judge malformed wrongCount outOfRange unit-of ordered midnight-ordered
 no-second-line = refl
 
 -- periods=49: 13, line 2
 too-many-periods : problem-judged (text-of (kind-line ∷ (112 ∷ 101 ∷ 114 ∷ 105 ∷ 111 ∷ 100 ∷ 115 ∷ 61 ∷ 52 ∷ 57 ∷ []) ∷ [])) ≡ refused-at 13 2
-unfolding problem-judged judged-from judge malformed wrongCount outOfRange unit-of ordered
+unfolding problem-judged judged-from judge malformed wrongCount outOfRange unit-of ordered midnight-ordered
 too-many-periods = refl
 
--- thirteen values, of which Tini is 0: 14, line 6
-count-before-range : problem-judged (text-of (kind-line ∷ periods-line ∷ units-line ∷ demand-line ∷ spare-line ∷ (117 ∷ 110 ∷ 105 ∷ 116 ∷ 61 ∷ 49 ∷ 48 ∷ 48 ∷ 44 ∷ 49 ∷ 48 ∷ 44 ∷ 48 ∷ 44 ∷ 50 ∷ 48 ∷ 44 ∷ 56 ∷ 48 ∷ 44 ∷ 50 ∷ 44 ∷ 50 ∷ 44 ∷ 48 ∷ 44 ∷ 51 ∷ 48 ∷ 44 ∷ 51 ∷ 48 ∷ 44 ∷ 53 ∷ 48 ∷ 44 ∷ 57 ∷ 48 ∷ 44 ∷ 49 ∷ []) ∷ [])) ≡ refused-at 14 6
-unfolding problem-judged judged-from judge malformed wrongCount outOfRange unit-of ordered
+-- fourteen values, of which Tini is 0: 14, line 6
+count-before-range : problem-judged (text-of (kind-line ∷ periods-line ∷ units-line ∷ demand-line ∷ spare-line ∷ (117 ∷ 110 ∷ 105 ∷ 116 ∷ 61 ∷ 49 ∷ 48 ∷ 48 ∷ 44 ∷ 49 ∷ 48 ∷ 44 ∷ 48 ∷ 44 ∷ 50 ∷ 48 ∷ 44 ∷ 56 ∷ 48 ∷ 44 ∷ 50 ∷ 44 ∷ 50 ∷ 44 ∷ 48 ∷ 44 ∷ 51 ∷ 48 ∷ 44 ∷ 51 ∷ 48 ∷ 44 ∷ 53 ∷ 48 ∷ 44 ∷ 57 ∷ 48 ∷ 44 ∷ 49 ∷ 44 ∷ 53 ∷ []) ∷ [])) ≡ refused-at 14 6
+unfolding problem-judged judged-from judge malformed wrongCount outOfRange unit-of ordered midnight-ordered
 count-before-range = refl
 
 -- a minus at the seventh value: 12, line 6
-minus-misplaced : problem-judged (text-of (kind-line ∷ periods-line ∷ units-line ∷ demand-line ∷ spare-line ∷ (117 ∷ 110 ∷ 105 ∷ 116 ∷ 61 ∷ 49 ∷ 48 ∷ 48 ∷ 44 ∷ 49 ∷ 48 ∷ 44 ∷ 48 ∷ 44 ∷ 50 ∷ 48 ∷ 44 ∷ 56 ∷ 48 ∷ 44 ∷ 50 ∷ 44 ∷ 45 ∷ 50 ∷ 44 ∷ 51 ∷ 44 ∷ 51 ∷ 48 ∷ 44 ∷ 51 ∷ 48 ∷ 44 ∷ 53 ∷ 48 ∷ 44 ∷ 57 ∷ 48 ∷ 44 ∷ 49 ∷ 44 ∷ 53 ∷ []) ∷ [])) ≡ refused-at 12 6
-unfolding problem-judged judged-from judge malformed wrongCount outOfRange unit-of ordered
+minus-misplaced : problem-judged (text-of (kind-line ∷ periods-line ∷ units-line ∷ demand-line ∷ spare-line ∷ (117 ∷ 110 ∷ 105 ∷ 116 ∷ 61 ∷ 49 ∷ 48 ∷ 48 ∷ 44 ∷ 49 ∷ 48 ∷ 44 ∷ 48 ∷ 44 ∷ 50 ∷ 48 ∷ 44 ∷ 56 ∷ 48 ∷ 44 ∷ 50 ∷ 44 ∷ 45 ∷ 50 ∷ 44 ∷ 51 ∷ 44 ∷ 51 ∷ 48 ∷ 44 ∷ 51 ∷ 48 ∷ 44 ∷ 53 ∷ 48 ∷ 44 ∷ 57 ∷ 48 ∷ 44 ∷ 49 ∷ 44 ∷ 53 ∷ 44 ∷ 54 ∷ 48 ∷ []) ∷ [])) ≡ refused-at 12 6
+unfolding problem-judged judged-from judge malformed wrongCount outOfRange unit-of ordered midnight-ordered
 minus-misplaced = refl
 
 -- pL above pU: 15, line 7
-limits-crossed : problem-judged (text-of (kind-line ∷ periods-line ∷ units-line ∷ demand-line ∷ spare-line ∷ first-unit ∷ (117 ∷ 110 ∷ 105 ∷ 116 ∷ 61 ∷ 52 ∷ 48 ∷ 44 ∷ 49 ∷ 52 ∷ 44 ∷ 48 ∷ 44 ∷ 54 ∷ 48 ∷ 44 ∷ 53 ∷ 48 ∷ 44 ∷ 49 ∷ 44 ∷ 49 ∷ 44 ∷ 45 ∷ 50 ∷ 44 ∷ 53 ∷ 48 ∷ 44 ∷ 53 ∷ 48 ∷ 44 ∷ 50 ∷ 48 ∷ 44 ∷ 54 ∷ 48 ∷ 44 ∷ 48 ∷ 44 ∷ 48 ∷ []) ∷ [])) ≡ refused-at 15 7
-unfolding problem-judged judged-from judge malformed wrongCount outOfRange unit-of ordered
+limits-crossed : problem-judged (text-of (kind-line ∷ periods-line ∷ units-line ∷ demand-line ∷ spare-line ∷ first-unit ∷ (117 ∷ 110 ∷ 105 ∷ 116 ∷ 61 ∷ 52 ∷ 48 ∷ 44 ∷ 49 ∷ 52 ∷ 44 ∷ 48 ∷ 44 ∷ 54 ∷ 48 ∷ 44 ∷ 53 ∷ 48 ∷ 44 ∷ 49 ∷ 44 ∷ 49 ∷ 44 ∷ 45 ∷ 50 ∷ 44 ∷ 53 ∷ 48 ∷ 44 ∷ 53 ∷ 48 ∷ 44 ∷ 50 ∷ 48 ∷ 44 ∷ 54 ∷ 48 ∷ 44 ∷ 48 ∷ 44 ∷ 48 ∷ 44 ∷ 48 ∷ []) ∷ [])) ≡ refused-at 15 7
+unfolding problem-judged judged-from judge malformed wrongCount outOfRange unit-of ordered midnight-ordered
 limits-crossed = refl
 
 -- a byte 10 after the end line: 12, line 9
 one-byte-over : problem-judged (text-of (kind-line ∷ periods-line ∷ units-line ∷ demand-line ∷ spare-line ∷ first-unit ∷ second-unit ∷ end-line ∷ [] ∷ [])) ≡ refused-at 12 9
-unfolding problem-judged judged-from judge malformed wrongCount outOfRange unit-of ordered
+unfolding problem-judged judged-from judge malformed wrongCount outOfRange unit-of ordered midnight-ordered
 one-byte-over = refl
 
 -- ---- the ends of the ranges, and the order of the numbers of a line
@@ -119,9 +119,9 @@ periods T = plain-line periods-key (T ∷ [])
 abbrev units : ℕ → List ℕ
 units I = plain-line units-key (I ∷ [])
 
--- a unit line with these pL and pU
-abbrev outputs-from : ℕ → ℕ → List ℕ
-outputs-from pL pU = rendered unit-key Tini-place false (0 ∷ 0 ∷ 0 ∷ pL ∷ pU ∷ 1 ∷ 1 ∷ 1 ∷ 1 ∷ 1 ∷ 0 ∷ 0 ∷ 0 ∷ 0 ∷ [])
+-- a unit line with these pL, pU and p0, Tini being 1, or -1 with a minus
+abbrev outputs-from : Bool → ℕ → ℕ → ℕ → List ℕ
+outputs-from minus pL pU p0 = rendered unit-key Tini-place minus (0 ∷ 0 ∷ 0 ∷ pL ∷ pU ∷ 1 ∷ 1 ∷ 1 ∷ 1 ∷ 1 ∷ 0 ∷ 0 ∷ 0 ∷ 0 ∷ p0 ∷ [])
 
 -- Each text ends after the line in question: where that is good, the next one is missing, 12. T 1, 48, 0, 49; I 1, 32, 0, 33; D 0 and 320,000, 320,001; R the
 -- same. Then lines that break two numbers: demand=060 (12, 14), demand=320001 (14, 13), pL 10,001 above pU 10,000 (13, 15)
@@ -132,10 +132,34 @@ pub range-ends : map (λ ls. problem-judged (text-of (kind-line ∷ ls))) (
     ∷ (periods 2 ∷ units 1 ∷ demand-line ∷ plain-line spare-key (0 ∷ 320000 ∷ []) ∷ [])
     ∷ (periods 2 ∷ units 1 ∷ demand-line ∷ plain-line spare-key (0 ∷ 320001 ∷ []) ∷ [])
     ∷ (periods 2 ∷ units 1 ∷ (demand-key ++ (48 ∷ 54 ∷ 48 ∷ [])) ∷ []) ∷ (periods 2 ∷ units 1 ∷ plain-line demand-key (320001 ∷ []) ∷ [])
-    ∷ (periods 2 ∷ units 1 ∷ demand-line ∷ spare-line ∷ outputs-from 10001 10000 ∷ []) ∷ [])
+    ∷ (periods 2 ∷ units 1 ∷ demand-line ∷ spare-line ∷ outputs-from false 10001 10000 1 ∷ []) ∷ [])
     ≡ refused-at 12 3 ∷ refused-at 12 3 ∷ refused-at 13 2 ∷ refused-at 13 2
     ∷ refused-at 12 4 ∷ refused-at 12 4 ∷ refused-at 13 3 ∷ refused-at 13 3
     ∷ refused-at 12 5 ∷ refused-at 13 4 ∷ refused-at 12 6 ∷ refused-at 13 5
     ∷ refused-at 12 4 ∷ refused-at 14 4 ∷ refused-at 13 6 ∷ []
-unfolding problem-judged judged-from judge malformed wrongCount outOfRange unit-of ordered digits digitsBy
+unfolding problem-judged judged-from judge malformed wrongCount outOfRange unit-of ordered midnight-ordered digits digitsBy
 range-ends = refl
+
+-- document 02, [3], on the line of the only unit; where it is good, the end line is missing, 12. On before, pL 2 and pU 9: p0 2, 9, 1, 10, 0; off before: p0 0, 1; p0
+-- 10,000 with pU 10,000, 10,001 with the same, and with pL above pU
+pub midnight-ends : map (λ l. problem-judged (text-of (kind-line ∷ periods 2 ∷ units 1 ∷ demand-line ∷ spare-line ∷ l ∷ []))) (
+    outputs-from false 2 9 2 ∷ outputs-from false 2 9 9 ∷ outputs-from false 2 9 1 ∷ outputs-from false 2 9 10 ∷ outputs-from false 2 9 0
+    ∷ outputs-from true 2 9 0 ∷ outputs-from true 2 9 1
+    ∷ outputs-from false 2 10000 10000 ∷ outputs-from false 2 10000 10001 ∷ outputs-from false 9 2 10001 ∷ [])
+    ≡ refused-at 12 7 ∷ refused-at 12 7 ∷ refused-at 15 6 ∷ refused-at 15 6 ∷ refused-at 15 6
+    ∷ refused-at 12 7 ∷ refused-at 15 6
+    ∷ refused-at 12 7 ∷ refused-at 13 6 ∷ refused-at 13 6 ∷ []
+unfolding problem-judged judged-from judge malformed wrongCount outOfRange unit-of ordered midnight-ordered digits digitsBy
+midnight-ends = refl
+
+-- fourteen good values, a comma and these bytes
+abbrev with-last : List ℕ → List ℕ
+with-last v = rendered unit-key Tini-place false (0 ∷ 0 ∷ 0 ∷ 1 ∷ 1 ∷ 1 ∷ 1 ∷ 1 ∷ 1 ∷ 1 ∷ 0 ∷ 0 ∷ 0 ∷ 0 ∷ []) ++ (44 ∷ v)
+
+-- sixteen values, the first out of range: 14. At the fifteenth place a minus, a leading zero, nothing: 12
+pub midnight-malformed : map (λ l. problem-judged (text-of (kind-line ∷ periods 2 ∷ units 1 ∷ demand-line ∷ spare-line ∷ l ∷ []))) (
+    rendered unit-key Tini-place false (1000000001 ∷ 0 ∷ 0 ∷ 1 ∷ 1 ∷ 1 ∷ 1 ∷ 1 ∷ 1 ∷ 1 ∷ 0 ∷ 0 ∷ 0 ∷ 0 ∷ 1 ∷ 0 ∷ [])
+    ∷ with-last (45 ∷ 49 ∷ []) ∷ with-last (48 ∷ 49 ∷ []) ∷ with-last [] ∷ [])
+    ≡ refused-at 14 6 ∷ refused-at 12 6 ∷ refused-at 12 6 ∷ refused-at 12 6 ∷ []
+unfolding problem-judged judged-from judge malformed wrongCount outOfRange unit-of ordered midnight-ordered digits digitsBy
+midnight-malformed = refl

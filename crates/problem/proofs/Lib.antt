@@ -6,6 +6,7 @@ pub mod Fleets
 pub mod Ends
 pub mod FirstLine
 pub mod UnitLines
+pub mod UnitRefusals
 pub mod Signs
 pub mod PlainLines
 pub mod Rendered

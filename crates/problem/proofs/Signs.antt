@@ -34,6 +34,7 @@ with-Tini g b n = record {
   Csc = g .Csc;
   Tcold = g .Tcold;
   Dc = g .Dc;
+  p0 = g .p0;
 }
 
 -- on the line of a generator

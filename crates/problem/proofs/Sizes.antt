@@ -42,23 +42,23 @@ loads-short (v ∷ vs) a = (let h = a .0 .1 in omega arith, loads-short vs (a .1
 
 numbers-short : (g : Generator) → InRange g → All Short (numbers g)
 numbers-short g R =
-    (omega arith, (omega arith, (omega arith, (omega arith, (omega arith, (omega arith, (omega arith, (omega arith, (omega arith, (omega arith, (omega arith, (omega arith, (omega arith, (omega arith, tt))))))))))))))
+    (omega arith, (omega arith, (omega arith, (omega arith, (omega arith, (omega arith, (omega arith, (omega arith, (omega arith, (omega arith, (omega arith, (omega arith, (omega arith, (omega arith, (omega arith, tt)))))))))))))))
 
 -- ---- the whole
 
 text-short : (b : List ℕ) (bs : List (List ℕ)) (m n : ℕ) → length b ≤ m → length (text-of bs) ≤ n → length (text-of (b ∷ bs)) ≤ m + 1 + n
 text-short b bs m n h k = omega (arith, length-append b (10 ∷ text-of bs))
 
-units-short : (gs : List Generator) → All GoodUnit gs → length (text-of (map unit-line gs ++ (endProblem ∷ []))) ≤ 12 + 174 * length gs
+units-short : (gs : List Generator) → All GoodUnit gs → length (text-of (map unit-line gs ++ (endProblem ∷ []))) ≤ 12 + 186 * length gs
 unfolding unit-line
 units-short [] a = omega arith
 units-short (g ∷ gs) a =
     let r = units-short gs (a .1) in
     let l = line-short unit-key Tini-place (not (g .on)) (numbers g) (numbers-short g (a .0 .in-range)) in
-    omega (arith, text-short (unit-line g) (map unit-line gs ++ (endProblem ∷ [])) 173 (12 + 174 * length gs) (omega (arith, l)) r)
+    omega (arith, text-short (unit-line g) (map unit-line gs ++ (endProblem ∷ [])) 185 (12 + 186 * length gs) (omega (arith, l)) r)
 
--- at most 6,800 bytes
-pub render-short : (P : Instance) → WellFormed P → length (render P) ≤ 6800
+-- at most 7,184 bytes
+pub render-short : (P : Instance) → WellFormed P → length (render P) ≤ 7184
 unfolding render lines-after
 render-short P W =
     let D = loads-short (P .demand) (W .demand-in) in
@@ -68,9 +68,9 @@ render-short P W =
     let u = plain-line units-key (length (P .units) ∷ []) in
     let d = plain-line demand-key (P .demand) in
     let r = plain-line spare-key (P .spare) in
-    let n : 12 + 174 * length (P .units) ≤ 5580 = (let h = W .units-in .1 in omega arith) in
-    let s₄ = text-short r us 582 5580 (omega (arith, line-short spare-key 0 false (P .spare) R, W .spare-long, W .periods-in .1)) (omega (arith, units-short (P .units) (W .units-good))) in
-    let s₃ = text-short d (r ∷ us) 583 6163 (omega (arith, line-short demand-key 0 false (P .demand) D, W .demand-long, W .periods-in .1)) s₄ in
-    let s₂ = text-short u (d ∷ r ∷ us) 18 6747 (line-short units-key 0 false (length (P .units) ∷ []) (let h = W .units-in .1 in omega arith, tt)) s₃ in
-    let s₁ = text-short p (u ∷ d ∷ r ∷ us) 20 6766 (line-short periods-key 0 false (P .periods ∷ []) (let h = W .periods-in .1 in omega arith, tt)) s₂ in
-    text-short kindProblem (p ∷ u ∷ d ∷ r ∷ us) 12 6787 (omega arith) s₁
+    let n : 12 + 186 * length (P .units) ≤ 5964 = (let h = W .units-in .1 in omega arith) in
+    let s₄ = text-short r us 582 5964 (omega (arith, line-short spare-key 0 false (P .spare) R, W .spare-long, W .periods-in .1)) (omega (arith, units-short (P .units) (W .units-good))) in
+    let s₃ = text-short d (r ∷ us) 583 6547 (omega (arith, line-short demand-key 0 false (P .demand) D, W .demand-long, W .periods-in .1)) s₄ in
+    let s₂ = text-short u (d ∷ r ∷ us) 18 7131 (line-short units-key 0 false (length (P .units) ∷ []) (let h = W .units-in .1 in omega arith, tt)) s₃ in
+    let s₁ = text-short p (u ∷ d ∷ r ∷ us) 20 7150 (line-short periods-key 0 false (P .periods ∷ []) (let h = W .periods-in .1 in omega arith, tt)) s₂ in
+    text-short kindProblem (p ∷ u ∷ d ∷ r ∷ us) 12 7171 (omega arith) s₁

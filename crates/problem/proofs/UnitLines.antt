@@ -10,6 +10,8 @@ use lib.Seq.{drop-cons}
 use borrow.Author.Tests.{leb-true, le-leb}
 use Rattle.model.specs.declared.generator.Generator.{Generator}
 use Rattle.model.specs.Ranges.{Between, InRange, Ordered, GoodUnit, ordered}
+use Rattle.model.proofs.Tests.{true-T, T-true}
+use Rattle.model.proofs.RangeTests.{ordered-is}
 use Rattle.text.specs.Lines.{Line, ended}
 use Rattle.text.specs.Forms as forms
 use Rattle.text.specs.Forms.{withinAll, valuesOf, sizes, anyMinus}
@@ -34,9 +36,9 @@ all-from : (n k : ℕ) (vs : List ℕ) → length vs ≡ k + n → from-place k 
 all-from zero k vs e = sym (drop-of-length-le vs {i = k} (omega arith))
 all-from (suc n) k vs e = ap (λ (l : List ℕ). getD vs k 0 ∷ l) (all-from n (suc k) vs (omega arith)) ∙ sym (drop-cons vs k 0 (omega arith))
 
--- the numbers of a generator that is built from fourteen are these
-pub numbers-generator : (minus : Bool) (vs : List ℕ) → length vs ≡ 14 → numbers (generator minus vs) ≡ vs
-numbers-generator minus vs e = all-from 14 0 vs e
+-- the numbers of a generator that is built from fifteen are these
+pub numbers-generator : (minus : Bool) (vs : List ℕ) → length vs ≡ 15 → numbers (generator minus vs) ≡ vs
+numbers-generator minus vs e = all-from 15 0 vs e
 
 -- the generator that is built from a generator's numbers and sign is that generator
 pub generator-numbers : (g : Generator) → generator (not (g .on)) (numbers g) ≡ g
@@ -56,6 +58,7 @@ generator-numbers g = λ i. record {
   Csc = g .Csc;
   Tcold = g .Tcold;
   Dc = g .Dc;
+  p0 = g .p0;
 }
 
 -- ---- the ranges
@@ -86,6 +89,7 @@ module _ (g : Generator) where
       let Csc = is-within 0 (g .Csc) 1000000000 _ (Hsc .1) in
       let Tcold = is-within 0 (g .Tcold) 48 _ (Csc .1) in
       let Dc = is-within 0 (g .Dc) 1000000000 _ (Tcold .1) in
+      let p0 = is-within 0 (g .p0) 10000 _ (Dc .1) in
       record {
         a-in = a .0;
         b-in = b .0;
@@ -101,6 +105,7 @@ module _ (g : Generator) where
         Csc-in = Csc .0;
         Tcold-in = Tcold .0;
         Dc-in = Dc .0;
+        p0-in = p0 .0;
       }
 
   pub of-in-range : InRange g → withinAll (numbers g) unit-lows unit-highs ≡ true
@@ -109,17 +114,13 @@ module _ (g : Generator) where
       (within-is 1 (g .pL) 10000 _ (R .pL-in) (within-is 1 (g .pU) 10000 _ (R .pU-in) (within-is 1 (g .TU) 48 _ (R .TU-in)
       (within-is 1 (g .TD) 48 _ (R .TD-in) (within-is 1 (g .since) 1000 _ (R .since-in) (within-is 1 (g .DR) 10000 _ (R .DR-in)
       (within-is 1 (g .UR) 10000 _ (R .UR-in) (within-is 0 (g .Hsc) 1000000000 _ (R .Hsc-in) (within-is 0 (g .Csc) 1000000000 _ (R .Csc-in)
-      (within-is 0 (g .Tcold) 48 _ (R .Tcold-in) (within-is 0 (g .Dc) 1000000000 _ (R .Dc-in) refl)))))))))))))
+      (within-is 0 (g .Tcold) 48 _ (R .Tcold-in) (within-is 0 (g .Dc) 1000000000 _ (R .Dc-in) (within-is 0 (g .p0) 10000 _ (R .p0-in) refl))))))))))))))
 
   pub ordered-of : ordered g ≡ true → Ordered g
-  unfolding ordered
-  ordered-of e =
-      let p = and-both (leb (g .pL) (g .pU)) (leb (g .Hsc) (g .Csc)) e in
-      record { limits = leb-true (g .pL) (g .pU) (p .0); starts = leb-true (g .Hsc) (g .Csc) (p .1) }
+  ordered-of e = ordered-is g .0 (true-T (ordered g) e)
 
   pub of-ordered : Ordered g → ordered g ≡ true
-  unfolding ordered
-  of-ordered O = simp (le-leb (g .pL) (g .pU) (O .limits), le-leb (g .Hsc) (g .Csc) (O .starts))
+  of-ordered O = T-true (ordered g) (ordered-is g .1 O)
 
   -- ---- the line of a generator
 

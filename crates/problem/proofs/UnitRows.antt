@@ -46,7 +46,7 @@ module _ (l : Line) (at : ℕ) where
       built g e =
           let vs = sizes (valuesOf unit-form l) in
           let c = good-rendered unit-form l (was-good .0) .fits .count in
-          let i : (k : ℕ) → k < 14 → getD (padded vs) k 0 ≡ getD vs k 0 = λ k h. padded-at vs k (omega arith) in
+          let i : (k : ℕ) → k < 15 → getD (padded vs) k 0 ≡ getD vs k 0 = λ k h. padded-at vs k (omega arith) in
           e
           ∙ ap (λ (r : Row). generator (r .minus) (r .values)) whole
           ∙ simp (
@@ -64,6 +64,7 @@ module _ (l : Line) (at : ℕ) where
             i 11 (omega arith),
             i 12 (omega arith),
             i 13 (omega arith),
+            i 14 (omega arith),
           )
 
       module _ (g : Generator) (e : g ≡ generator (row .minus) (row .values)) where

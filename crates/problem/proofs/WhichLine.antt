@@ -37,7 +37,7 @@ zeros-in zero = tt
 zeros-in (suc n) = ((omega arith, omega arith), zeros-in n)
 
 abbrev some-unit : Generator
-some-unit = record { a = 0; b = 0; c = 0; pL = 1; pU = 1; TU = 1; TD = 1; on = true; since = 1; DR = 1; UR = 1; Hsc = 0; Csc = 0; Tcold = 0; Dc = 0 }
+some-unit = record { a = 0; b = 0; c = 0; pL = 1; pU = 1; TU = 1; TD = 1; on = true; since = 1; DR = 1; UR = 1; Hsc = 0; Csc = 0; Tcold = 0; Dc = 0; p0 = 1 }
 
 some-good : GoodUnit some-unit
 some-good = record {
@@ -56,8 +56,9 @@ some-good = record {
     Csc-in = (omega arith, omega arith);
     Tcold-in = (omega arith, omega arith);
     Dc-in = (omega arith, omega arith);
+    p0-in = (omega arith, omega arith);
   };
-  ordered = record { limits = omega arith; starts = omega arith };
+  ordered = record { limits = omega arith; starts = omega arith; midnight = (λ k. (omega arith, omega arith), λ k. absurd k) };
 }
 
 -- ---- a text can be completed from every place that is reached

@@ -65,7 +65,7 @@ next-due (nothing-due P) l = nothing-due P
 
 -- ---- document 01, Numbers that come from the text: the tests of a line at its place
 
--- 12, 14, 13, and on a unit line 15: pL above pU, or Hsc above Csc
+-- 12, 14, 13, and on a unit line 15: pL above pU, Hsc above Csc, or a p0 that Tini does not allow
 abbrev pub tests : Due → Line → List Test
 tests periods-due l = form-tests periods-form l []
 tests (units-due T) l = form-tests units-form l []

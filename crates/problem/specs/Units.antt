@@ -8,7 +8,7 @@ use Rattle.text.specs.Lines.{Line}
 use Rattle.text.specs.Forms.{Form, form, valuesOf, numbers-of, anyMinus}
 use Rattle.text.specs.Rendering.{rendered, shownAll}
 
--- ---- document 01, Texts: unit=a,b,c,pL,pU,TU,TD,Tini,DR,UR,Hsc,Csc,Tcold,Dc
+-- ---- document 01, Texts, and document 02, [3]: unit=a,b,c,pL,pU,TU,TD,Tini,DR,UR,Hsc,Csc,Tcold,Dc,p0
 
 -- unit=
 abbrev pub unit-key : List ℕ
@@ -21,7 +21,7 @@ Tini-place = 8
 -- the numbers of a generator in the order of its line, Tini without its sign
 abbrev pub numbers : Generator → List ℕ
 numbers g =
-    g .a ∷ g .b ∷ g .c ∷ g .pL ∷ g .pU ∷ g .TU ∷ g .TD ∷ g .since ∷ g .DR ∷ g .UR ∷ g .Hsc ∷ g .Csc ∷ g .Tcold ∷ g .Dc ∷ []
+    g .a ∷ g .b ∷ g .c ∷ g .pL ∷ g .pU ∷ g .TU ∷ g .TD ∷ g .since ∷ g .DR ∷ g .UR ∷ g .Hsc ∷ g .Csc ∷ g .Tcold ∷ g .Dc ∷ g .p0 ∷ []
 
 -- the generator of numbers in that order, of which Tini carries a minus or not
 abbrev pub generator : Bool → List ℕ → Generator
@@ -41,6 +41,7 @@ generator minus v = record {
   Csc = v at 11;
   Tcold = v at 12;
   Dc = v at 13;
+  p0 = v at 14;
 }
 
 -- ---- the line of a generator
@@ -53,14 +54,15 @@ unit-values g = shownAll Tini-place (not (g .on)) 1 (numbers g)
 unfoldable pub unit-line : Generator → List ℕ
 unit-line g = rendered unit-key Tini-place (not (g .on)) (numbers g)
 
--- ---- document 01, Texts: the ranges of a unit line, Tini's without its sign
+-- ---- document 01, Texts, and document 02, [3]: the ranges of a unit line, Tini's without its sign
 
 abbrev pub unit-lows : List ℕ
-unit-lows = 0 ∷ 0 ∷ 0 ∷ 1 ∷ 1 ∷ 1 ∷ 1 ∷ 1 ∷ 1 ∷ 1 ∷ 0 ∷ 0 ∷ 0 ∷ 0 ∷ []
+unit-lows = 0 ∷ 0 ∷ 0 ∷ 1 ∷ 1 ∷ 1 ∷ 1 ∷ 1 ∷ 1 ∷ 1 ∷ 0 ∷ 0 ∷ 0 ∷ 0 ∷ 0 ∷ []
 
 abbrev pub unit-highs : List ℕ
 unit-highs =
-    1000000000 ∷ 10000000 ∷ 10000 ∷ 10000 ∷ 10000 ∷ 48 ∷ 48 ∷ 1000 ∷ 10000 ∷ 10000 ∷ 1000000000 ∷ 1000000000 ∷ 48 ∷ 1000000000 ∷ []
+    1000000000 ∷ 10000000 ∷ 10000 ∷ 10000 ∷ 10000 ∷ 48 ∷ 48 ∷ 1000 ∷ 10000 ∷ 10000 ∷ 1000000000 ∷ 1000000000 ∷ 48 ∷ 1000000000 ∷ 10000
+    ∷ []
 
 abbrev pub unit-form : Form
 unit-form = form unit-key Tini-place unit-lows unit-highs

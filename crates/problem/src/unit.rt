@@ -7,7 +7,7 @@ use model::generator::Generator;
 use text::Verdict;
 
 // The lowest and the highest that each value may be, Tini's without its sign.
-const LOWS: [u64; 14] = [
+const LOWS: [u64; 15] = [
     0,
     0,
     0,
@@ -22,9 +22,10 @@ const LOWS: [u64; 14] = [
     0,
     0,
     0,
+    0,
 ];
 
-const HIGHS: [u64; 14] = [
+const HIGHS: [u64; 15] = [
     Generator::MOST_COST,
     Generator::MOST_B,
     Generator::MOST_C,
@@ -39,6 +40,7 @@ const HIGHS: [u64; 14] = [
     Generator::MOST_COST,
     Generator::MOST_TIME,
     Generator::MOST_COST,
+    Generator::MOST_OUTPUT,
 ];
 
 // What a unit line is, and its generator; a blank one where the line is refused.
@@ -78,6 +80,7 @@ fn make_generator(minus: bool, v: [u64; 48]) -> Generator
         Csc: v[11],
         Tcold: v[12] as usize,
         Dc: v[13],
+        p0: v[14],
     }
 }
 
