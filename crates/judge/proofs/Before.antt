@@ -1,5 +1,5 @@
 -- Up and down times by looking back: counting from a period backwards, as far as the status stays, finds the periods that counting
--- forward from Tini finds.
+-- forward from Tini finds. The output before a period.
 use mathlib.Core.Path.{_≡_, refl, sym, ap, _∙_}
 use mathlib.Core.Bool.{Bool, true, false, not, Bool·not-not}
 use mathlib.Core.List.{List, [], _∷_}
@@ -11,7 +11,7 @@ use Rattle.model.specs.declared.generator.Generator.{Generator}
 use Rattle.model.specs.Instance.{_at_}
 use Rattle.model.specs.Rules.{on, statuses, permits, spent}
 use Rattle.model.specs.Breach.{not-permitted}
-use Rattle.judge.specs.Before.{status-before, spent-before}
+use Rattle.judge.specs.Before.{status-before, spent-before, output-before}
 use Rattle.judge.proofs.Switch.{spent-same, spent-other, permits-same, permits-off, permits-on}
 
 -- ---- one period on
@@ -107,3 +107,17 @@ module _ (b : Bool) (n : ℕ) (r : List ℕ) where
 pub status-later : (b : Bool) (r : List ℕ) (t : ℕ) → (t ≡ 0 → ⊥) → t ≤ length r → status-before b (statuses r) t ≡ on (r at (t - 1))
 status-later b r zero h l = absurd (h refl)
 status-later b r (suc t) h l = let i : suc t - 1 ≡ t = omega arith in rw i (status-next b r t (omega arith))
+
+-- ---- the output before a period, m being that at midnight
+
+module _ (m : ℕ) (r : List ℕ) where
+  pub output-first : (t : ℕ) → t ≡ 0 → output-before m r t ≡ m
+  output-first t e = rw e refl
+
+  pub output-later : (t : ℕ) → (t ≡ 0 → ⊥) → output-before m r t ≡ r at (t - 1)
+  output-later zero h = absurd (h refl)
+  output-later (suc t) h = let i : suc t - 1 ≡ t = omega arith in rw i refl
+
+  pub output-most : (k : ℕ) → m ≤ k → ((t : ℕ) → r at t ≤ k) → (t : ℕ) → output-before m r t ≤ k
+  output-most k h l zero = h
+  output-most k h l (suc t) = l t

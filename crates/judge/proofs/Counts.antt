@@ -1,5 +1,5 @@
 -- The places at which a rule is broken fit a small number, and where there is none every period of every unit is clear.
-use mathlib.Core.Path.{_≡_, refl}
+use mathlib.Core.Path.{_≡_, refl, sym, ap}
 use mathlib.Core.Bool.{Bool, true, false, not, _&&_}
 use mathlib.Core.Option.{none}
 use mathlib.Core.List.{List}
@@ -11,12 +11,15 @@ use borrow.Author.Tests.{lt-leb, le-leb}
 use Rattle.model.specs.declared.generator.Generator.{Generator}
 use Rattle.model.specs.declared.arrays.Problem.{Problem}
 use Rattle.model.specs.Instance.{_at_, sum}
+use Rattle.model.specs.Ranges.{GoodUnit}
 use Rattle.model.specs.Rules.{on, permits}
 use Rattle.model.specs.Breach.{off-ramp, first-place}
 use Rattle.model.proofs.PeriodSums.{sum-eq, sum-most}
 use Rattle.judge.specs.Rows.{Fitting}
 use Rattle.judge.specs.Counts.{bit, breaches, all-breaches}
-use Rattle.judge.proofs.Tests.{is-off, is-on}
+use Rattle.judge.specs.Before.{output-before}
+use Rattle.judge.proofs.Before.{output-later}
+use Rattle.judge.proofs.Tests.{is-off, is-on, ramp-is}
 use Rattle.judge.proofs.Sums.{sum-next}
 use Rattle.judge.proofs.Units.{unit, part, periods-most}
 use Rattle.judge.proofs.Search.{Clear, first-in, search-ends}
@@ -110,18 +113,16 @@ module _ (up down b p : ℕ) where
       pub steep-none : p ≤ b + up → b ≤ p + down → 0 ≡ steep-bit up down b p
       steep-none k h = rw (is-on b was, is-on p is, le-leb p (b + up) k, le-leb b (p + down) h) refl
 
--- in period t of a row
-abbrev pub steep : ℕ → ℕ → List ℕ → ℕ → ℕ
-steep up down r zero = 0
-steep up down r (suc t) = steep-bit up down (r at t) (r at suc t)
+  pub steep-most : steep-bit up down b p ≤ 1
+  steep-most = bit-most ((on b && on p) && not (leb p (b + up) && leb b (p + down)))
 
-pub steep-later : (up down : ℕ) (r : List ℕ) (t : ℕ) → 1 ≤ t → steep up down r t ≡ steep-bit up down (r at (t - 1)) (r at t)
-steep-later up down r zero h = absurd (omega arith)
-steep-later up down r (suc t) h = let e : suc t - 1 ≡ t = omega arith in rw e refl
+-- in period t of a row, m being the output at midnight
+abbrev pub steep : ℕ → ℕ → ℕ → List ℕ → ℕ → ℕ
+steep up down m r t = steep-bit up down (output-before m r t) (r at t)
 
-steep-is : (g : Generator) (r : List ℕ) (t : ℕ) → steep (g .UR) (g .DR) r t ≡ bit (off-ramp t g r)
-steep-is g r zero = refl
-steep-is g r (suc t) = refl
+pub steep-later : (up down m : ℕ) (r : List ℕ) (t : ℕ) → 1 ≤ t → steep up down m r t ≡ steep-bit up down (r at (t - 1)) (r at t)
+steep-later up down m r t h = ap (λ (p : ℕ). steep-bit up down p (r at t)) (output-later m r t (λ e. omega arith))
 
-pub steep-breaches : (g : Generator) (r : List ℕ) (n : ℕ) → sum n (steep (g .UR) (g .DR) r) ≡ breaches off-ramp g r n
-steep-breaches g r n = sum-eq n (steep (g .UR) (g .DR) r) (λ t. bit (off-ramp t g r)) (λ t h. steep-is g r t)
+pub steep-breaches : (g : Generator) → GoodUnit g → (r : List ℕ) (n : ℕ) → sum n (steep (g .UR) (g .DR) (g .p0) r) ≡ breaches off-ramp g r n
+steep-breaches g good r n =
+    sum-eq n (steep (g .UR) (g .DR) (g .p0) r) (λ t. bit (off-ramp t g r)) (λ t h. ap bit (sym (ramp-is g good r t)))

@@ -37,6 +37,9 @@ module _ (g : Generator) where
   switch-none false false k e = refl
 
   module _ (b : Bool) (k : ℕ) where
+    pub switch-stop : b ≡ true → switch-cost g b k (not b) ≡ g .Dc
+    switch-stop e = rw e refl
+
     pub switch-hot : b ≡ false → k ≤ g .TD + g .Tcold → switch-cost g b k (not b) ≡ g .Hsc
     switch-hot e l = rw (e, le-leb k (g .TD + g .Tcold) l) refl
 

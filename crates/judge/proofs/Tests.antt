@@ -1,15 +1,18 @@
 -- The rules' tests at one unit and period, as the code makes them.
-use mathlib.Core.Path.{_≡_, refl, sym}
+use mathlib.Core.Path.{_≡_, refl, sym, ap}
 use mathlib.Core.Bool.{Bool, true, false, not, _&&_, Bool·beq}
 use mathlib.Core.List.{List}
-use Prim.Native.Nat.{ℕ, zero, suc, _+_, _-_, _≤_, _<_}
+use Prim.Native.Nat.{ℕ, zero, suc, _+_, _≤_, _<_}
 use native.Mathlib.Omega.{arith}
 use borrow.Author.Tests.{leb-true, leb-false, lt-ltb, le-ltb, lt-leb, le-leb}
 use lib.Dec.{leb, ltb}
 use Rattle.model.specs.declared.generator.Generator.{Generator}
 use Rattle.model.specs.Instance.{_at_}
+use Rattle.model.specs.Ranges.{GoodUnit}
 use Rattle.model.specs.Rules.{on}
-use Rattle.model.specs.Breach.{off-limits, off-ramp}
+use Rattle.model.specs.Breach.{off-limits, too-steep, off-ramp}
+use Rattle.model.proofs.RangeTests.{on-at-midnight}
+use Rattle.judge.specs.Before.{output-before}
 
 pub not-leb : (a b : ℕ) → not (leb a b) ≡ ltb b a
 not-leb a b = go (leb a b) refl
@@ -53,29 +56,30 @@ module _ (g : Generator) (r : List ℕ) (t : ℕ) where
 
 -- ---- (11), (12)
 
-module _ (g : Generator) (r : List ℕ) where
-  pub ramp-first : (t : ℕ) → t ≡ 0 → off-ramp t g r ≡ false
-  ramp-first t e = rw e refl
+module _ (g : Generator) (good : GoodUnit g) (r : List ℕ) (t : ℕ) where
+  -- the output before the period says whether the unit was on, also before period 1
+  pub ramp-is : off-ramp t g r ≡ too-steep g (on (output-before (g .p0) r t)) (output-before (g .p0) r t) (r at t)
+  ramp-is = go t
+    where
+      go : (k : ℕ) → off-ramp k g r ≡ too-steep g (on (output-before (g .p0) r k)) (output-before (g .p0) r k) (r at k)
+      go zero = ap (λ (b : Bool). too-steep g b (g .p0) (r at 0)) (sym (on-at-midnight g good))
+      go (suc k) = refl
 
-  -- from the second period on
-  pub ramp-later : (t : ℕ) → (t ≡ 0 → ⊥)
-      → off-ramp t g r ≡ (on (r at (t - 1)) && on (r at t)) && not (leb (r at t) (r at (t - 1) + g .UR) && leb (r at (t - 1)) (r at t + g .DR))
-  ramp-later zero h = absurd (h refl)
-  ramp-later (suc t) h = let e : suc t - 1 ≡ t = omega arith in rw e refl
+  module _ (p : ℕ) (before : p ≡ output-before (g .p0) r t) where
+    ramp-from : off-ramp t g r ≡ too-steep g (on p) p (r at t)
+    ramp-from = rw before ramp-is
 
-  module _ (t : ℕ) (later : t ≡ 0 → ⊥) where
-    pub ramp-was-off : r at (t - 1) ≡ 0 → off-ramp t g r ≡ false
-    ramp-was-off e = rw (ramp-later t later, is-off (r at (t - 1)) e) refl
+    pub ramp-was-off : p ≡ 0 → off-ramp t g r ≡ false
+    ramp-was-off e = rw (ramp-from, is-off p e) refl
 
-    module _ (was : r at (t - 1) ≡ 0 → ⊥) where
+    module _ (was : p ≡ 0 → ⊥) where
       pub ramp-is-off : r at t ≡ 0 → off-ramp t g r ≡ false
-      ramp-is-off e = rw (ramp-later t later, is-on (r at (t - 1)) was, is-off (r at t) e) refl
+      ramp-is-off e = rw (ramp-from, is-on p was, is-off (r at t) e) refl
 
       module _ (is : r at t ≡ 0 → ⊥) where
-        pub ramp-rises : r at (t - 1) + g .UR < r at t → off-ramp t g r ≡ true
-        ramp-rises h = rw (ramp-later t later, is-on (r at (t - 1)) was, is-on (r at t) is, lt-leb (r at t) (r at (t - 1) + g .UR) h) refl
+        pub ramp-rises : p + g .UR < r at t → off-ramp t g r ≡ true
+        ramp-rises h = rw (ramp-from, is-on p was, is-on (r at t) is, lt-leb (r at t) (p + g .UR) h) refl
 
-        pub ramp-falls : r at t ≤ r at (t - 1) + g .UR → off-ramp t g r ≡ ltb (r at t + g .DR) (r at (t - 1))
+        pub ramp-falls : r at t ≤ p + g .UR → off-ramp t g r ≡ ltb (r at t + g .DR) p
         ramp-falls h =
-            rw (ramp-later t later, is-on (r at (t - 1)) was, is-on (r at t) is, le-leb (r at t) (r at (t - 1) + g .UR) h)
-            (not-leb (r at (t - 1)) (r at t + g .DR))
+            rw (ramp-from, is-on p was, is-on (r at t) is, le-leb (r at t) (p + g .UR) h) (not-leb p (r at t + g .DR))

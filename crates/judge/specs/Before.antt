@@ -1,7 +1,8 @@
--- What stands before a period, for (5) to (10): document 01 counts from Tini on, period by period.
+-- What stands before a period: for (5) to (10) document 01 counts from Tini on, period by period; for (11), (12) an output.
 use mathlib.Core.Bool.{Bool}
 use mathlib.Core.List.{List, [], _∷_}
 use Prim.Native.Nat.{ℕ, zero, suc}
+use Rattle.model.specs.Instance.{_at_}
 use Rattle.model.specs.Rules.{spent}
 
 -- the status in the period before t of a run, b being the status before the run
@@ -15,3 +16,8 @@ abbrev pub spent-before : Bool → ℕ → List Bool → ℕ → ℕ
 spent-before b k run zero = k
 spent-before b k [] (suc t) = k
 spent-before b k (d ∷ run) (suc t) = spent-before d (spent b k d) run t
+
+-- the output in the period before t of a row, m being that at midnight
+abbrev pub output-before : ℕ → List ℕ → ℕ → ℕ
+output-before m r zero = m
+output-before m r (suc t) = r at t

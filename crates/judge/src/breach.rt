@@ -3,7 +3,7 @@ ghost use mathlib.Core.Path.{_≡_};
 ghost use Prim.Native.Nat.{_<_, _≤_};
 ghost use lib.ListN.{length};
 ghost use Rattle.model.specs.Held.{view};
-ghost use Rattle.model.specs.Ranges.{InRange};
+ghost use Rattle.model.specs.Ranges.{GoodUnit};
 ghost use Rattle.judge.specs.Judgement.{found};
 ghost use Rattle.judge.specs.Rows.{schedule-of, Fitting};
 ghost use Rattle.judge.specs.Rule.{broken-by, place-of};
@@ -24,7 +24,7 @@ pub enum Rule {
 
 // Whether the row breaks the rule in period t.
 fn breaks(rule: Rule, g: Generator, row: &[u16], t: usize) -> bool
-    requires { ⌜ InRange g × (t < length (now row)) × (length (now row) ≤ 48) ⌝ }
+    requires { ⌜ GoodUnit g × (t < length (now row)) × (length (now row) ≤ 48) ⌝ }
     ensures { λ r. ⌜ r ≡ broken-by rule t g (now (row .entry)) ⌝ }
 {
     match rule {

@@ -1,26 +1,35 @@
-// 25: ramps, by (11) and (12).
+// 25: ramps, by (11) and (12). A good unit was on before period 1 exactly when its output at midnight is above 0.
 ghost use mathlib.Core.Path.{_≡_};
 ghost use mathlib.Core.Bool.{not, _&&_};
 ghost use Prim.Native.Nat.{_+_, _<_, _≤_};
 ghost use lib.Dec.{leb};
 ghost use lib.ListN.{length};
-ghost use Rattle.model.specs.Ranges.{InRange, All, GoodOutput};
+ghost use Rattle.model.specs.Ranges.{GoodUnit, All, GoodOutput};
 ghost use Rattle.model.specs.Rules.{on};
 ghost use Rattle.model.specs.Breach.{off-ramp};
 ghost use Rattle.judge.specs.Counts.{bit, breaches};
+ghost use Rattle.judge.specs.Before.{output-before};
 use model::generator::Generator;
+
+// The output in the period before t; before period 1 it is that at midnight.
+fn look_back(g: Generator, row: &[u16], t: usize) -> u64
+    requires { ⌜ t < length (now row) ⌝ }
+    ensures { λ r. ⌜ r ≡ output-before (g .p0) (now (row .entry)) t ⌝ }
+{
+    if t == 0 {
+        return g.p0;
+    }
+    row[t - 1] as u64
+}
 
 // Whether the output, on in the period before t and in t, rises by more than UR or falls by more than DR.
 pub fn is_off_ramp(g: Generator, row: &[u16], t: usize) -> bool
-    requires { ⌜ InRange g × (t < length (now row)) ⌝ }
+    requires { ⌜ GoodUnit g × (t < length (now row)) ⌝ }
     ensures { λ r. ⌜ r ≡ off-ramp t g (now (row .entry)) ⌝ }
 {
     let up = g.UR;
     let down = g.DR;
-    if t == 0 {
-        return false;
-    }
-    let before = row[t - 1] as u64;
+    let before = look_back(g, row, t);
     let after = row[t] as u64;
     if before == 0 {
         return false;
@@ -56,12 +65,13 @@ fn count_steep(up: u16, down: u16, previous: u16, output: u16) -> u16
 
 // In how many periods the row's output leaves its ramp.
 pub fn count_off_ramp(g: Generator, row: &[u16]) -> u16
-    requires { ⌜ InRange g × (length (now row) ≤ 48) × (1 ≤ length (now row)) × All GoodOutput (now row) ⌝ }
+    requires { ⌜ GoodUnit g × (length (now row) ≤ 48) × (1 ≤ length (now row)) × All GoodOutput (now row) ⌝ }
     ensures { λ r. ⌜ r ≡ breaches off-ramp g (now (row .entry)) (length (now (row .entry))) ⌝ }
 {
     let up = g.UR as u16;
     let down = g.DR as u16;
-    let mut n: u16 = 0;
+    let midnight = g.p0 as u16;
+    let mut n = count_steep(up, down, midnight, row[0]);
     for t in 1..row.len() {
         n += count_steep(up, down, row[t - 1], row[t]);
     }

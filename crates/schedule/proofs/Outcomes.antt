@@ -10,7 +10,7 @@ use Rattle.model.specs.Instance.{Instance, Schedule}
 use Rattle.model.specs.Ranges.{WellFormed}
 use Rattle.model.specs.Cost.{cost}
 use Rattle.model.specs.Breach.{Breach, first-breach}
-use Rattle.model.specs.Broken.{Broken, limits, demand, spare, updown, ramps}
+use Rattle.model.specs.Broken.{Broken, limits, demand, spare, updown, ramps, midnight}
 use Rattle.model.proofs.Judging.{judge-none, judge-some}
 use Rattle.refusal.specs.declared.Refusal.{Refusal}
 use Rattle.refusal.specs.Refusals.{refusalOf, carriesLine, carriesUnit, carriesPeriod, line-refusal}
@@ -31,6 +31,7 @@ module _ (P : Instance) (s : Schedule) where
   breach-carries b (spare t h k) = refl
   breach-carries b (updown u t h k) = refl
   breach-carries b (ramps u t h k) = refl
+  breach-carries b (midnight u h k) = refl
 
   breach-period : (b : Breach) → Broken P s b → 0 < b .period
   breach-period b (limits u t h k) = omega arith
@@ -38,6 +39,7 @@ module _ (P : Instance) (s : Schedule) where
   breach-period b (spare t h k) = omega arith
   breach-period b (updown u t h k) = omega arith
   breach-period b (ramps u t h k) = omega arith
+  breach-period b (midnight u h k) = omega arith
 
 -- ---- the answer, by what the lines and the rules are found to be
 

@@ -5,7 +5,7 @@ use mathlib.Core.List.{List, [], _∷_, _++_, map}
 use lib.Dec.{lit≤}
 use Rattle.decimal.specs.Decimal.{digits, digitsBy}
 use Rattle.model.specs.Examples.{example, unit1, unit2, rows}
-use Rattle.model.specs.Ranges.{WellFormed, costs-in-range, outputs-in-range, times-in-range, in-range, ordered}
+use Rattle.model.specs.Ranges.{WellFormed, costs-in-range, outputs-in-range, times-in-range, in-range, midnight-ordered, ordered}
 use Rattle.model.proofs.RangeTests.{in-range-is, ordered-is}
 use Rattle.model.specs.Rules.{output, capacity}
 use Rattle.model.specs.Cost.{cost, row-cost}
@@ -47,6 +47,13 @@ pub specimens : map (schedule-outcome example) (
 unfolding schedule-outcome schedule-judged judged-from judge malformed wrongCount outOfRange first-breach output capacity cost row-cost refusalOf carriesLine carriesUnit carriesPeriod render digits digitsBy
 specimens = refl
 
+-- document 02, [3], from 60 at midnight: a fall of 30, and one of 31
+pub from-midnight : map (schedule-outcome example) (
+    render 1 (rows (30 ∷ 60 ∷ []) (30 ∷ 40 ∷ [])) ∷ render 1 (rows (29 ∷ 59 ∷ []) (31 ∷ 41 ∷ [])) ∷ [])
+    ≡ accepted-as 1 2220 (rows (30 ∷ 60 ∷ []) (30 ∷ 40 ∷ [])) ∷ refused-by (rule-refusal (record { number = 25; unit = 1; period = 1 })) ∷ []
+unfolding schedule-outcome schedule-judged judged-from judge malformed wrongCount outOfRange first-breach output capacity cost row-cost refusalOf carriesLine carriesUnit carriesPeriod render digits digitsBy
+from-midnight = refl
+
 -- ---- refused at a line
 
 -- a text of the kind with these lines after its first
@@ -86,7 +93,7 @@ range-ends = refl
 -- ---- the premises of the laws can be met
 
 pub example-good : WellFormed example
-unfolding in-range costs-in-range outputs-in-range times-in-range ordered
+unfolding in-range costs-in-range outputs-in-range times-in-range ordered midnight-ordered
 example-good = record {
   periods-in = (lit≤ tt, lit≤ tt);
   units-in = (lit≤ tt, lit≤ tt);

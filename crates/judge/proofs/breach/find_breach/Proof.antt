@@ -9,7 +9,7 @@ use Rattle.model.specs.Held.{view}
 use Rattle.judge.specs.declared.place.Found.the-variants.{Nothing}
 use Rattle.judge.specs.Judgement.{found}
 use Rattle.judge.specs.Rule.{broken-by}
-use Rattle.judge.proofs.Units.{unit, part, units-most, periods-most, part-within, part-long, unit-in}
+use Rattle.judge.proofs.Units.{unit, part, units-most, periods-most, part-within, part-long, unit-good}
 use Rattle.judge.proofs.Search.{Passed, Clear, search-found, search-ends}
 use Rattle.judge.proofs.breach.find_breach.Statement.{statement}
 use Rattle.judge.proofs.breach.find_breach.Tie as tie
@@ -91,7 +91,7 @@ breaks-requires c κs =
     let u = c .before .before .before .loop .u in
     let e : u * T + T - u * T ≡ T = omega arith in
     let n = part-long (s .args .t1) (s .args .rows .now) (s .pre) u (c .before .before .loop-test .taken) in
-    let g = unit-in (s .args .t1) (s .args .rows .now) (s .pre) (many s) u (c .before .before .loop-test .taken) in
+    let g = unit-good (s .args .t1) (s .args .rows .now) (s .pre) (many s) u (c .before .before .loop-test .taken) in
     rw e (g, omega arith, omega (arith, periods-most (s .args .t1) (s .args .rows .now) (s .pre)))
 
 add-t24 : tie.Need-add-t24 Inv-loop μ-loop Inv-search μ-search

@@ -2,12 +2,12 @@
 use mathlib.Core.Path.{sym}
 use native.Mathlib.Omega.{arith}
 use borrow.Author.Needs.{needs}
-use Rattle.judge.proofs.Switch.{switch-hot, switch-cold}
+use Rattle.judge.proofs.Switch.{switch-stop, switch-hot, switch-cold}
 use Rattle.judge.proofs.cost.charge_switch.Statement.{statement}
 use Rattle.judge.proofs.cost.charge_switch.Tie as tie
 
 returns : tie.Need-returns
-returns c = search needs
+returns c = let a = c .before .args in sym (switch-stop (a .g) (a .status) (a .k) (c .if1 .taken))
 
 add-if2 : tie.Need-add-if2
 add-if2 c = search needs
