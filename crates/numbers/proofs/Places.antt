@@ -10,20 +10,20 @@ use Rattle.model.specs.declared.arrays.Problem.{Problem}
 use Rattle.model.specs.Held.{blank-generator}
 use Rattle.numbers.specs.Numbers.{numbers-of, all-numbers, laid-out}
 
-pub all-long : (gs : List Generator) → length (all-numbers gs) ≡ length gs * 15
+pub all-long : (gs : List Generator) → length (all-numbers gs) ≡ length gs * 16
 all-long [] = refl
 all-long (g ∷ gs) = omega (arith, all-long gs, length-append (numbers-of g) (all-numbers gs))
 
 all-from : (gs : List Generator) (l : List ℕ) (u : ℕ) → u < length gs
-    → drop (u * 15) (all-numbers gs ++ l) ≡ numbers-of (getD gs u blank-generator) ++ (all-numbers (drop (suc u) gs) ++ l)
+    → drop (u * 16) (all-numbers gs ++ l) ≡ numbers-of (getD gs u blank-generator) ++ (all-numbers (drop (suc u) gs) ++ l)
 all-from [] l u h = absurd (omega arith)
 all-from (g ∷ gs) l zero h = refl
 all-from (g ∷ gs) l (suc u) h =
-    let e : suc u * 15 ≡ 15 + u * 15 = omega arith in
-    rw e (sym (drop-drop (u * 15) 15 (all-numbers (g ∷ gs) ++ l)) ∙ all-from gs l u (omega arith))
+    let e : suc u * 16 ≡ 16 + u * 16 = omega arith in
+    rw e (sym (drop-drop (u * 16) 16 (all-numbers (g ∷ gs) ++ l)) ∙ all-from gs l u (omega arith))
 
 module _ (p : Problem) (demand-long : length (p .demand) ≡ 48) (spare-long : length (p .spare) ≡ 48) (units-long : length (p .generators) ≡ 32) where
-  pub laid-long : length (laid-out p) ≡ 578
+  pub laid-long : length (laid-out p) ≡ 610
   unfolding laid-out
   laid-long =
       omega (
@@ -51,6 +51,6 @@ module _ (p : Problem) (demand-long : length (p .demand) ≡ 48) (spare-long : l
         sym (drop-drop 48 50 (laid-out p ++ l)) ∙ ap (drop 48) from-spare ∙ drop-at (p .spare) (all-numbers (p .generators) ++ l) 48 spare-long
 
     pub from-unit : (u : ℕ) → u < 32
-        → drop (98 + u * 15) (laid-out p ++ l) ≡ numbers-of (getD (p .generators) u blank-generator) ++ (all-numbers (drop (suc u) (p .generators)) ++ l)
+        → drop (98 + u * 16) (laid-out p ++ l) ≡ numbers-of (getD (p .generators) u blank-generator) ++ (all-numbers (drop (suc u) (p .generators)) ++ l)
     from-unit u h =
-        sym (drop-drop (u * 15) 98 (laid-out p ++ l)) ∙ ap (drop (u * 15)) from-generators ∙ all-from (p .generators) l u (omega (arith, units-long))
+        sym (drop-drop (u * 16) 98 (laid-out p ++ l)) ∙ ap (drop (u * 16)) from-generators ∙ all-from (p .generators) l u (omega (arith, units-long))

@@ -47,8 +47,8 @@ module _ (v : List ℕ) where
     unfolding instance-in
     unit-at = generators-at (v at 1) u (omega (arith, units-long))
 
-    pub pU-at : v at (98 + u * 15 + 4) ≡ getD (instance-in v .units) u blank-generator .pU
-    pU-at = sym (ap (λ (g : Generator). g .pU) unit-at ∙ getD-drop (98 + u * 15) v 4 0)
+    pub pU-at : v at (98 + u * 16 + 4) ≡ getD (instance-in v .units) u blank-generator .pU
+    pU-at = sym (ap (λ (g : Generator). g .pU) unit-at ∙ getD-drop (98 + u * 16) v 4 0)
 
   module _ (t : ℕ) (within : t < instance-in v .periods) where
     pub demand-at : v at (2 + t) ≡ instance-in v .demand at t

@@ -37,13 +37,13 @@ module _ (d : List ℕ) (gs : List Generator) (room : 98 ≤ length d) where
 
   -- a generator more
   pub begun-more : (x w s : List ℕ) (u : ℕ) → u < length gs → x ≡ begun d gs u → s ≡ numbers-of (getD gs u blank-generator)
-      → w ≡ stored x (98 + u * 15) s → w ≡ begun d gs (u + 1)
+      → w ≡ stored x (98 + u * 16) s → w ≡ begun d gs (u + 1)
   begun-more x w s u h is piece stores =
       let before = all-numbers (take u gs) in
       let g = numbers-of (getD gs u blank-generator) in
-      let long : length (take 98 d ++ before) ≡ 98 + u * 15 =
+      let long : length (take 98 d ++ before) ≡ 98 + u * 16 =
       length-append (take 98 d) before ∙ omega (arith, first-long, all-long (take u gs), length-take-le u gs (omega arith)) in
-      stores ∙ ap (stored x (98 + u * 15)) piece ∙ front-more (take 98 d ++ before) d x g (98 + u * 15) is long
+      stores ∙ ap (stored x (98 + u * 16)) piece ∙ front-more (take 98 d ++ before) d x g (98 + u * 16) is long
       ∙ ap (λ (l : List ℕ). front l d) (append-assoc (take 98 d) before g ∙ ap (λ (l : List ℕ). take 98 d ++ l) (sym (all-more gs u h)))
       ∙ ap (begun d gs) (sym (add-one u))
 
@@ -57,16 +57,16 @@ module _ (p : Problem) (demand-long : length (p .demand) ≡ 48) (spare-long : l
   abbrev head : List ℕ
   head = (counts ++ p .demand) ++ p .spare
 
-  module _ (v d : List ℕ) (demand : v ≡ stored (set (set (replicate 578 0) 0 (p .periods)) 1 (p .units)) 2 (p .demand)) (spare : d ≡ stored v 50 (p .spare)) where
-    head-stored : d ≡ front head (replicate 578 0)
+  module _ (v d : List ℕ) (demand : v ≡ stored (set (set (replicate 610 0) 0 (p .periods)) 1 (p .units)) 2 (p .demand)) (spare : d ≡ stored v 50 (p .spare)) where
+    head-stored : d ≡ front head (replicate 610 0)
     head-stored =
         let long : length (counts ++ p .demand) ≡ 50 = length-append counts (p .demand) ∙ omega (arith, demand-long) in
-        spare ∙ front-more (counts ++ p .demand) (replicate 578 0) v (p .spare) 50 (demand ∙ front-more counts (replicate 578 0) _ (p .demand) 2 refl refl) long
+        spare ∙ front-more (counts ++ p .demand) (replicate 610 0) v (p .spare) 50 (demand ∙ front-more counts (replicate 610 0) _ (p .demand) 2 refl refl) long
 
     first-is : take 98 d ≡ head
     first-is =
         let long : length head ≡ 98 = length-append (counts ++ p .demand) (p .spare) ∙ omega (arith, length-append counts (p .demand), demand-long, spare-long) in
-        ap (take 98) head-stored ∙ take-at head (drop (length head) (replicate 578 0)) 98 long
+        ap (take 98) head-stored ∙ take-at head (drop (length head) (replicate 610 0)) 98 long
 
     whole-is : take 98 d ++ all-numbers (take 32 (p .generators)) ≡ laid-out p
     unfolding laid-out
@@ -75,7 +75,7 @@ module _ (p : Problem) (demand-long : length (p .demand) ≡ 48) (spare-long : l
         (ap (λ (l : List ℕ). p .periods ∷ p .units ∷ l) (append-assoc (p .demand) (p .spare) (all-numbers (p .generators))))
 
     -- all of them
-    pub begun-all : (x : List ℕ) (u : ℕ) → u ≡ 32 → length d ≡ 578 → x ≡ begun d (p .generators) u → x ≡ laid-out p
+    pub begun-all : (x : List ℕ) (u : ℕ) → u ≡ 32 → length d ≡ 610 → x ≡ begun d (p .generators) u → x ≡ laid-out p
     begun-all x u last long is =
         is ∙ ap (begun d (p .generators)) last ∙ ap (λ (l : List ℕ). front l d) whole-is
         ∙ ap (λ (k : ℕ). laid-out p ++ drop k d) (laid-long p demand-long spare-long units-long ∙ sym long)

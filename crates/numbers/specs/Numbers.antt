@@ -1,4 +1,4 @@
--- A problem's numbers in one list of 578: the periods T, the units, 48 demands, 48 spares, and 15 numbers for each of 32
+-- A problem's numbers in one list of 610: the periods T, the units, 48 demands, 48 spares, and 16 numbers for each of 32
 -- generators, on being 0 or 1. Of the demands and the spares the
 -- first T are the problem's, of the generators as many as it has units.
 use mathlib.Core.Path.{_≡_}
@@ -15,7 +15,7 @@ use Rattle.model.specs.Ranges.{WellFormed}
 -- a generator's numbers
 abbrev pub numbers-of : Generator → List ℕ
 numbers-of g =
-    g .a ∷ g .b ∷ g .c ∷ g .pL ∷ g .pU ∷ g .TU ∷ g .TD ∷ cond (g .on) 1 0 ∷ g .since ∷ g .DR ∷ g .UR ∷ g .Hsc ∷ g .Csc ∷ g .Tcold ∷ g .Dc ∷ []
+    g .a ∷ g .b ∷ g .c ∷ g .pL ∷ g .pU ∷ g .TU ∷ g .TD ∷ cond (g .on) 1 0 ∷ g .since ∷ g .DR ∷ g .UR ∷ g .Hsc ∷ g .Csc ∷ g .Tcold ∷ g .Dc ∷ g .p0 ∷ []
 
 -- the generators' numbers, one after another
 abbrev pub all-numbers : List Generator → List ℕ
@@ -44,11 +44,12 @@ generator-of v = record {
   Csc = v at 12;
   Tcold = v at 13;
   Dc = v at 14;
+  p0 = v at 15;
 }
 
 -- the generator u, counted from 0
 abbrev pub generator-in : List ℕ → ℕ → Generator
-generator-in v u = generator-of (drop (98 + u * 15) v)
+generator-in v u = generator-of (drop (98 + u * 16) v)
 
 -- the n generators from u on
 abbrev pub generators-in : List ℕ → ℕ → ℕ → List Generator
@@ -76,5 +77,5 @@ instance-in v = record {
 
 -- the numbers are a well-formed problem's
 pub record Laid (v : List ℕ) : Type 0 where
-  pub long : length v ≡ 578
+  pub long : length v ≡ 610
   pub well-formed : WellFormed (instance-in v)

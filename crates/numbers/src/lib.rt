@@ -23,8 +23,8 @@ fn status_number(on: bool) -> u64
     0
 }
 
-// The generator's 15 numbers.
-fn generator_numbers(g: Generator) -> [u64; 15]
+// The generator's 16 numbers.
+fn generator_numbers(g: Generator) -> [u64; 16]
     ensures { λ r. ⌜ r ≡ numbers-of g ⌝ }
 {
     [
@@ -43,18 +43,19 @@ fn generator_numbers(g: Generator) -> [u64; 15]
         g.Csc,
         g.Tcold as u64,
         g.Dc,
+        g.p0,
     ]
 }
 
 // The problem's numbers; a well-formed problem is had again from them.
-pub fn lay_out(problem: Problem) -> [u64; 578]
+pub fn lay_out(problem: Problem) -> [u64; 610]
     ensures whole { λ r. ⌜ r ≡ laid-out problem ⌝ }
     ensures read { λ r. ⌜ (Valid problem → Laid r × (instance-in r ≡ view problem)) ⌝ }
 {
     let demand = problem.demand;
     let spare = problem.spare;
     let generators = problem.generators;
-    let mut numbers = [0u64; 578];
+    let mut numbers = [0u64; 610];
     numbers[0] = problem.periods as u64;
     numbers[1] = problem.units as u64;
     store(&mut numbers, 2, &demand);
@@ -62,7 +63,7 @@ pub fn lay_out(problem: Problem) -> [u64; 578]
     let mut u = 0;
     while u < 32 {
         let values = generator_numbers(generators[u]);
-        store(&mut numbers, 98 + u * 15, &values);
+        store(&mut numbers, 98 + u * 16, &values);
         u += 1;
     }
     numbers
@@ -108,12 +109,12 @@ pub fn pU_at(numbers: &[u64], u: usize) -> u64
     requires { ⌜ u < length (instance-in (now numbers) .units) ⌝ }
     ensures { λ r. ⌜ r ≡ getD (instance-in (now (numbers .entry)) .units) u blank-generator .pU ⌝ }
 {
-    numbers[98 + u * 15 + 4]
+    numbers[98 + u * 16 + 4]
 }
 
 // The generator that these numbers are.
 fn generator_of(values: &[u64]) -> Generator
-    requires { ⌜ 15 ≤ length (now values) ⌝ }
+    requires { ⌜ 16 ≤ length (now values) ⌝ }
     ensures { λ r. ⌜ r ≡ generator-of (now (values .entry)) ⌝ }
 {
     Generator {
@@ -132,6 +133,7 @@ fn generator_of(values: &[u64]) -> Generator
         Csc: values[12],
         Tcold: values[13] as usize,
         Dc: values[14],
+        p0: values[15],
     }
 }
 
@@ -141,6 +143,6 @@ pub fn generator_at(numbers: &[u64], u: usize) -> Generator
     requires { ⌜ u < length (instance-in (now numbers) .units) ⌝ }
     ensures { λ r. ⌜ r ≡ getD (instance-in (now (numbers .entry)) .units) u blank-generator ⌝ }
 {
-    let from = 98 + u * 15;
+    let from = 98 + u * 16;
     generator_of(&numbers[from..])
 }

@@ -23,14 +23,14 @@ fn loads_in(numbers: &[u64]) -> [u64; 48]
 
 // The generators of a problem's numbers.
 fn generators_in(numbers: &[u64]) -> [Generator; 32]
-    requires { ⌜ 578 ≤ length (now numbers) ⌝ }
+    requires { ⌜ 610 ≤ length (now numbers) ⌝ }
     ensures { λ r. ⌜ r ≡ generators-in (now (numbers .entry)) 0 32 ⌝ }
 {
     let blank = Generator::blank();
     let mut generators = [blank; 32];
     let mut u = 0;
     while u < 32 {
-        let from = 98 + u * 15;
+        let from = 98 + u * 16;
         let generator = generator_of(&numbers[from..]);
         generators[u] = generator;
         u += 1;
@@ -40,7 +40,7 @@ fn generators_in(numbers: &[u64]) -> [Generator; 32]
 
 // The problem of its numbers, well-formed or not.
 pub fn problem_in(numbers: &[u64]) -> Problem
-    requires { ⌜ 578 ≤ length (now numbers) ⌝ }
+    requires { ⌜ 610 ≤ length (now numbers) ⌝ }
     ensures { λ r. ⌜ r ≡ problem-in (now (numbers .entry)) ⌝ }
 {
     let demand = loads_in(&numbers[2..]);

@@ -8,7 +8,7 @@ use lib.IntN.{ℤ, pos}
 use lib.Signed.{_≤ℤ_}
 use Rattle.model.specs.Instance.{Instance, Schedule}
 use Rattle.model.specs.Ranges.{WellFormed}
-use Rattle.model.specs.Rules.{Meets}
+use Rattle.model.specs.Rules.{MeetsPrinted}
 use Rattle.model.specs.Cost.{cost}
 use Rattle.model.specs.Above.{root}
 use Rattle.model.specs.Tree.{Tree, bound, never, number}
@@ -85,10 +85,10 @@ module _ (P : Instance) (W : WellFormed P) (text : List ℕ) (first : IsTree tex
   bound-is : F .bound ≡ bound P root (accepted-tree .tree)
   bound-is = ap (λ (x : Figures). x .bound) (accepted-tree .figures)
 
-  -- no schedule that meets the rules costs less than the bound of an accepted tree
-  pub accepted-sound : (z : ℤ) → F .bound ≡ number z → (s : Schedule) → Meets P s → z ≤ℤ pos (cost P s)
+  -- no schedule that meets the rules costs less than the bound of an accepted tree, whether or not it ramps from midnight
+  pub accepted-sound : (z : ℤ) → F .bound ≡ number z → (s : Schedule) → MeetsPrinted P s → z ≤ℤ pos (cost P s)
   accepted-sound z b = number-sound P (accepted-tree .tree) (accepted-tree .holds) z (sym bound-is ∙ b)
 
   -- and where it gives never none meets them
-  pub accepted-never : F .bound ≡ never → (s : Schedule) → Meets P s → ⊥
+  pub accepted-never : F .bound ≡ never → (s : Schedule) → MeetsPrinted P s → ⊥
   accepted-never b = never-sound P (accepted-tree .tree) (accepted-tree .holds) (sym bound-is ∙ b)

@@ -21,3 +21,4 @@ pub mod Texts
 pub mod ReadAnswers
 pub mod WellFormedTrees
 pub mod WellFormed
+pub mod Unread

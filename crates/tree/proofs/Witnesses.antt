@@ -35,10 +35,10 @@ use Rattle.tree.proofs.WellFormed.{well-formed-is}
 -- ---- document 01's problem and tree
 
 abbrev first : Generator
-first = record { a = 100; b = 10; c = 0; pL = 20; pU = 80; TU = 2; TD = 2; on = true; since = 3; DR = 30; UR = 30; Hsc = 50; Csc = 90; Tcold = 1; Dc = 5 }
+first = record { a = 100; b = 10; c = 0; pL = 20; pU = 80; TU = 2; TD = 2; on = true; since = 3; DR = 30; UR = 30; Hsc = 50; Csc = 90; Tcold = 1; Dc = 5; p0 = 60 }
 
 abbrev second : Generator
-second = record { a = 40; b = 14; c = 0; pL = 10; pU = 50; TU = 1; TD = 1; on = false; since = 2; DR = 50; UR = 50; Hsc = 20; Csc = 60; Tcold = 0; Dc = 0 }
+second = record { a = 40; b = 14; c = 0; pL = 10; pU = 50; TU = 1; TD = 1; on = false; since = 2; DR = 50; UR = 50; Hsc = 20; Csc = 60; Tcold = 0; Dc = 0; p0 = 0 }
 
 abbrev problem : Instance
 problem = record { periods = 2; demand = 60 ∷ 100 ∷ []; spare = 10 ∷ 10 ∷ []; units = first ∷ second ∷ [] }

@@ -33,7 +33,7 @@ returns c =
     let s = c .before .before .before in
     let v = s .args .numbers .now in
     let u = s .args .u in
-    c .generator-of .ensures ∙ ap generator-of (from-whole v (98 + u * 15)) ∙ sym (unit-at v u (s .pre .1))
+    c .generator-of .ensures ∙ ap generator-of (from-whole v (98 + u * 16)) ∙ sym (unit-at v u (s .pre .1))
 
 pub generator-at-spec : {M : Type 1} → statement M
 generator-at-spec =

@@ -1,4 +1,4 @@
--- `lay_out` meets its contract. The loop's invariant: the first 98 + u * 15 numbers are stored.
+-- `lay_out` meets its contract. The loop's invariant: the first 98 + u * 16 numbers are stored.
 use mathlib.Core.Path.{_≡_, sym, _∙_}
 use Prim.Native.Nat.{_-_, _≤_}
 use native.Mathlib.Omega.{arith}
@@ -10,7 +10,7 @@ use Rattle.numbers.proofs.lay_out.Statement.{statement}
 use Rattle.numbers.proofs.lay_out.Tie as tie
 
 abbrev Inv-loop : tie.InvT-loop
-Inv-loop generators numbers₀ u₀ numbers u = (u ≤ 32) × (length numbers ≡ 578) × (numbers ≡ begun numbers₀ generators u)
+Inv-loop generators numbers₀ u₀ numbers u = (u ≤ 32) × (length numbers ≡ 610) × (numbers ≡ begun numbers₀ generators u)
 
 abbrev μ-loop : tie.MeasureT-loop
 μ-loop generators numbers₀ u₀ numbers u = 32 - u
@@ -24,7 +24,7 @@ abbrev start : tie.After-store2 Inv-loop μ-loop → tie.Start Inv-loop μ-loop
 start c = c .before .before .before .before .before .before .before .before .before .before
 
 -- the array after what stands before the generators is stored
-long : (c : tie.After-store2 Inv-loop μ-loop) → length (c .store2 .last .0) ≡ 578
+long : (c : tie.After-store2 Inv-loop μ-loop) → length (c .store2 .last .0) ≡ 610
 long c = search needs
 
 array-write-numbers : tie.Need-array-write-numbers Inv-loop μ-loop
@@ -50,7 +50,7 @@ slice-aggregate-store-4 c = search needs
 
 store-requires-2 : tie.Need-store-requires-2 Inv-loop μ-loop
 store-requires-2 c κs =
-    let n : length (c .before .before .before .store .last .0) ≡ 578 = search needs in
+    let n : length (c .before .before .before .store .last .0) ≡ 610 = search needs in
     omega (arith, longs (c .before .before .before .before .before .before .before .before .before))
 
 loop-holds : tie.Need-loop-holds Inv-loop μ-loop
@@ -93,7 +93,7 @@ loop-again c =
     let loop = c .before .before .before .before .before .before .before in
     let front = loop .before .before in
     let values = c .before .before .before .before .generator-numbers .ensures in
-    let same : length (c .before .store3 .last .0) ≡ 578 = search needs in
+    let same : length (c .before .store3 .last .0) ≡ 610 = search needs in
     let more =
     begun-more (front .store2 .last .0) (start front .args .problem .generators) (omega (arith, long front)) _ _ _ (loop .loop .u) (omega (arith, longs (start front)))
     (loop .loop .inv .2) values (c .before .store3 .ensures) in

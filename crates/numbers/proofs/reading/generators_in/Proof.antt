@@ -64,7 +64,7 @@ loop-again c =
     let u = l .loop .u in
     let gs = generators-in v 0 32 in
     let e : c .generator-of .result ≡ getD gs u blank-generator =
-    c .generator-of .ensures ∙ ap generator-of (from-whole v (98 + u * 15)) ∙ sym (generators-at v 32 u (c .before .before .loop-test .taken)) in
+    c .generator-of .ensures ∙ ap generator-of (from-whole v (98 + u * 16)) ∙ sym (generators-at v 32 u (c .before .before .loop-test .taken)) in
     let more =
     overlay-more (replicate 32 blank-generator) gs u blank-generator (omega (arith, generators-long v 0 32)) (omega (arith, length-replicate 32 blank-generator)) in
     (omega arith, rw (e, l .loop .inv .1) more)
