@@ -50,7 +50,8 @@ same-verdict : (c : Bool) (P : Instance) (text : List ℕ) → verdict-of (if-kn
 same-verdict true P text = refl
 same-verdict false P text = judged-free (view blank-problem) P text
 
-fine-under : (d : Docket) → Long d → Fine (judged-under d)
+-- the problem that it judges by is well-formed
+pub fine-under : (d : Docket) → Long d → Fine (judged-under d)
 fine-under d long = go (sound d) refl
   where
     known : (c : Bool) → d .known ≡ c → sound d ≡ true → Fine (if-known c (view (d .problem)))

@@ -46,11 +46,11 @@ module _ (P : Instance) where
       go : (b : Bound) → h .bound ≡ b → BoundHeld P l (bound-by b (h .writer))
       go never e = (
         record { best = h; first = f; held-bound = sym e; held-writer = refl },
-        never-sound P (t .its) (t .holds) (sym (t .bound-is) ∙ e),
+        λ s M. never-sound P (t .its) (t .holds) (sym (t .bound-is) ∙ e) s (M .printed),
       )
       go (number z) e = (
         record { best = h; first = f; held-bound = sym e; held-writer = refl },
-        number-sound P (t .its) (t .holds) z (sym (t .bound-is) ∙ e),
+        λ s M. number-sound P (t .its) (t .holds) z (sym (t .bound-is) ∙ e) s (M .printed),
       )
 
 pub holding : (o : Option Instance) (vs : List Verdict) → Proper o vs → Holding o vs (docket-of o vs)

@@ -52,7 +52,7 @@ module _ (P : Instance) (n : ℕ) where
       go : (b : Bound) → F .bound ≡ b → gap-between (s .cost) b ≡ Minus n → ⊥
       go never f e = missing-no-minus n e
       go (number z) f e =
-          let below = number-sound P (its .its) (its .holds) z (sym (its .bound-is) ∙ f) (s .rows) (good .meets) in
+          let below = number-sound P (its .its) (its .holds) z (sym (its .bound-is) ∙ f) (s .rows) (good .meets .printed) in
           no-minus (pos (s .cost) -ℤ z) n (gap-from-zero (s .cost) z (subst (λ (c : ℕ). z ≤ℤ pos c) (sym (good .cost-is)) below)) e
 
 -- the gap line of the report that is due after a list shows no minus

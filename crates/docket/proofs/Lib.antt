@@ -23,6 +23,8 @@ pub mod AnyDocket
 pub mod NeverHeld
 pub mod Contracts
 pub mod Promises
+pub mod Midnight
+pub mod Requested
 pub mod Interleaved
 pub mod Specimens
 pub mod SpecimenTexts

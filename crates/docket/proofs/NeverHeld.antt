@@ -5,7 +5,7 @@ use mathlib.Core.List.{List, [], _∷_}
 use mathlib.Core.Option.{none, some}
 use Prim.Native.Nat.{ℕ}
 use Rattle.model.specs.Instance.{Instance}
-use Rattle.model.specs.Ranges.{ordered}
+use Rattle.model.specs.Ranges.{midnight-ordered, ordered}
 use Rattle.model.specs.Leaf.{available, is-stuck}
 use Rattle.model.specs.Tree.{never}
 use Rattle.refusal.specs.Refusals.{refusalOf, carriesLine, carriesUnit, carriesPeriod}
@@ -31,7 +31,7 @@ use Rattle.docket.proofs.Reached.{docket-of}
 use Rattle.docket.proofs.Specimens.{judged-as}
 
 unfoldable pub too-little : List ℕ
-too-little = specimens.lines ("kind=problem" ∷ "periods=1" ∷ "units=1" ∷ "demand=60" ∷ "spare=0" ∷ "unit=0,0,0,10,50,1,1,-2,50,50,20,60,1,0" ∷ "end=problem" ∷ [])
+too-little = specimens.lines ("kind=problem" ∷ "periods=1" ∷ "units=1" ∷ "demand=60" ∷ "spare=0" ∷ "unit=0,0,0,10,50,1,1,-2,50,50,20,60,1,0,0" ∷ "end=problem" ∷ [])
 
 abbrev pub short-tree : List ℕ
 short-tree = specimens.tree-text ("writer=9" ∷ "short=1" ∷ [])
@@ -41,11 +41,11 @@ little = record {
   periods = 1;
   demand = 60 ∷ [];
   spare = 0 ∷ [];
-  units = record { a = 0; b = 0; c = 0; pL = 10; pU = 50; TU = 1; TD = 1; on = false; since = 2; DR = 50; UR = 50; Hsc = 20; Csc = 60; Tcold = 1; Dc = 0 } ∷ [];
+  units = record { a = 0; b = 0; c = 0; pL = 10; pU = 50; TU = 1; TD = 1; on = false; since = 2; DR = 50; UR = 50; Hsc = 20; Csc = 60; Tcold = 1; Dc = 0; p0 = 0 } ∷ [];
 }
 
 gives : verdict-of none too-little ≡ verdict.problem little
-unfolding judged admit kindOf problem-course.problem-judged judged-from problem-course.judge malformed wrongCount outOfRange unit-of ordered too-little
+unfolding judged admit kindOf problem-course.problem-judged judged-from problem-course.judge malformed wrongCount outOfRange unit-of ordered midnight-ordered too-little
 gives = refl
 
 gives-never : verdict-of (some little) short-tree ≡ verdict.tree (record { writer = 9; bound = never; splits = 0; leaves = 1 })

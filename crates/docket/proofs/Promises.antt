@@ -71,7 +71,7 @@ calls-end = (fresh-met.met, lodge-met.met, report-met.met)
 -- Those theorems ask nothing of the caller, and fix all that comes back: fresh-says, lodge-says, report-says of Contracts.antt. So `lodge-of`, `report-of`
 -- and `buffer-of` below are what the functions do. The listing has a page of its own: crates/list/proofs/ListingPromises.antt
 
--- A refused text gets the number and place that document 01 gives it, and no other text does: of every docket value, under the problem it judges by
+-- A refused text gets the number and place that document 01, with the requests of document 02 built, gives it, and no other text does: of every docket value, under the problem it judges by
 pub refused-gets : (d : Docket) → Long d → (text : List ℕ) (r : Refusal)
     → (stated (lodge-of d text .answer) ≡ refused (r .number) (r .line) (r .unit) (r .period)) ↔ Is (judged-under d) text (verdict.refused r)
 refused-gets = any.refused-everywhere

@@ -74,7 +74,7 @@ module _ (P : Instance) (W : WellFormed P) where
   cost-small (some h) l f g =
       let s = all-mem (GoodSchedule P) l g h (first-mem by-cost h l f) in
       let e = s .cost-is in
-      T-true _ (lt→ltb (h .cost) size-limit (omega (arith, cost-fits P W (h .rows) (meets-small P W (h .rows) (s .meets)))))
+      T-true _ (lt→ltb (h .cost) size-limit (omega (arith, cost-fits P W (h .rows) (meets-small P W (h .rows) (s .meets .printed)))))
 
   number-small : (z : ℤ) → Fits (number z) → T (small-number z)
   number-small (pos n) f = lt→ltb n size-limit (omega arith)

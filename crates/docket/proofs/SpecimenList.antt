@@ -23,7 +23,7 @@ use Rattle.docket.proofs.ListVerdicts.{fine-after, are-verdicts}
 use Rattle.docket.proofs.Reached.{docket-of}
 use Rattle.docket.proofs.Lists.{lodges}
 use Rattle.docket.proofs.Specimens.{rows, figures, judged-as}
-use Rattle.docket.proofs.SpecimenTexts.{by-seven, is-listed-problem, is-listed-schedule, is-listed-tree, is-lone-leaf, is-lone-short, is-empty, is-early, schedules-judged, problems-judged, alone-judged}
+use Rattle.docket.proofs.SpecimenTexts.{by-seven, is-listed-problem, is-listed-schedule, is-listed-tree, is-lone-leaf, is-lone-short, is-empty, is-early, schedules-judged, units-judged, problems-judged, alone-judged}
 
 -- ---- answers by what the texts are
 
@@ -42,6 +42,10 @@ then-one i = last-by (then is-listed-problem (then i no-more))
 then-judged : (text : List ℕ) {v : Verdict} → verdict-of (some example) text ≡ v
     → last (map stated (answers-to lodge-of fresh-docket (listed-problem ∷ text ∷ []))) ≡ last (answers-due [] (problem example ∷ v ∷ []))
 then-judged text {v} e = then-one (judged-as (some example) example-formed text v e)
+
+-- a text in a fresh docket
+first-judged : (text : List ℕ) {v : Verdict} → verdict-of none text ≡ v → last (map stated (answers-to lodge-of fresh-docket (text ∷ []))) ≡ last (answers-due [] (v ∷ []))
+first-judged text {v} e = last-by (then (judged-as none tt text v e) no-more)
 
 -- a problem and a text after it, both judged
 both-judged : {P : Instance} (first text : List ℕ) {v : Verdict} → verdict-of none first ≡ problem P → verdict-of (some P) text ≡ v
@@ -74,6 +78,11 @@ specimens-answered =
     also both-judged _ _ (problems-judged .1) (alone-judged .1)
     also both-judged _ _ (problems-judged .2) (alone-judged .2)
     also both-judged _ _ (problems-judged .2) (alone-judged .3)
+    also then-judged _ (schedules-judged .4)
+    also then-judged _ (schedules-judged .5)
+    also first-judged _ (units-judged .0)
+    also first-judged _ (units-judged .1)
+    also first-judged _ (units-judged .2)
     also tt
 
 -- ---- the listing: its three answers, and what its report then shows, 1980 by 7 and 1980 by 3

@@ -10,7 +10,7 @@ use lib.Dec.{lit≤}
 use Rattle.decimal.specs.Decimal.{digits, digitsBy}
 use Rattle.model.specs.declared.generator.Generator.{Generator}
 use Rattle.model.specs.Instance.{Instance}
-use Rattle.model.specs.Ranges.{ordered}
+use Rattle.model.specs.Ranges.{midnight-ordered, ordered}
 use Rattle.model.specs.Rules.{output, capacity}
 use Rattle.model.specs.Cost.{cost, row-cost}
 use Rattle.model.specs.Breach.{first-breach}
@@ -30,7 +30,7 @@ use Rattle.tree.specs.Rendering as trees
 use Rattle.docket.specs.Verdicts.{Verdict, refused, problem, schedule, tree}
 use Rattle.docket.specs.Texts.{at-line, Is, no-kind, tree-early}
 use Rattle.docket.specs.Lodging.{admit, judged}
-use Rattle.docket.specs.Specimens.{listed-problem, schedule-text, listed-schedule, tree-text, listed-tree, lone-leaf, lone-short, start-problem, off-two, off-three, down-problem}
+use Rattle.docket.specs.Specimens.{problem-of, listed-problem, schedule-text, listed-schedule, tree-text, listed-tree, lone-leaf, lone-short, start-problem, off-two, off-three, down-problem}
 use Rattle.docket.proofs.OneVerdict.{verdict-of}
 use Rattle.docket.proofs.Specimens.{rows, one-split, lone-price, figures, is-problem, is-cheap, is-tree, is-lone-price, is-not-short}
 
@@ -38,7 +38,7 @@ use Rattle.docket.proofs.Specimens.{rows, one-split, lone-price, figure
 
 pub listed-rendered : (listed-problem ≡ problems.render example) × (listed-schedule ≡ schedules.render 7 (rows 60 80 0 20))
     × (listed-tree ≡ trees.render 3 one-split)
-unfolding listed-problem schedule-text tree-text schedules.render trees.render trees.node-lines digits digitsBy
+unfolding problem-of schedule-text tree-text schedules.render trees.render trees.node-lines digits digitsBy
 listed-rendered = (sym example-rendered, refl, refl)
 
 leaves-rendered : (lone-leaf ≡ trees.render 4 lone-price) × (lone-short ≡ trees.render 3 (short 1))
@@ -88,15 +88,17 @@ pub schedules-judged : (verdict-of (some example) (schedule-text ("run=50,80" �
     × (verdict-of (some example) (schedule-text ("run=49,80" ∷ "run=11,20" ∷ [])) ≡ breach 25 1 2)
     × (verdict-of (some example) (schedule-text ("run=59,80" ∷ "run=0,20" ∷ [])) ≡ breach 22 0 1)
     × (verdict-of (some example) (schedule-text ("run=60,80" ∷ "run=0,9" ∷ [])) ≡ breach 21 2 2)
+    × (verdict-of (some example) (schedule-text ("run=29,59" ∷ "run=31,41" ∷ [])) ≡ breach 25 1 1)
+    × (verdict-of (some example) (schedule-text ("run=30,60" ∷ "run=30,40" ∷ [])) ≡ by-seven 2220 (rows 30 60 30 40))
 unfolding judged admit kindOf schedule-outcome schedule-course.schedule-judged judged-from schedule-course.judge malformed wrongCount outOfRange first-breach output capacity cost row-cost refusalOf carriesLine carriesUnit carriesPeriod schedule-text
-schedules-judged = (refl, refl, refl, refl)
+schedules-judged = (refl, refl, refl, refl, refl, refl)
 
 -- ---- problems of one unit
 
 -- a unit with this TD and this Tcold, off for k periods
 abbrev off-for : ℕ → ℕ → ℕ → Generator
 off-for down cold k =
-    record { a = 0; b = 0; c = 0; pL = 10; pU = 50; TU = 1; TD = down; on = false; since = k; DR = 50; UR = 50; Hsc = 20; Csc = 60; Tcold = cold; Dc = 0 }
+    record { a = 0; b = 0; c = 0; pL = 10; pU = 50; TU = 1; TD = down; on = false; since = k; DR = 50; UR = 50; Hsc = 20; Csc = 60; Tcold = cold; Dc = 0; p0 = 0 }
 
 abbrev start : ℕ → Instance
 start k = record { periods = 1; demand = 0 ∷ []; spare = 0 ∷ []; units = off-for 1 1 k ∷ [] }
@@ -106,8 +108,15 @@ down = record { periods = 3; demand = 0 ∷ 0 ∷ 0 ∷ []; spare = 0 ∷ 0 ∷ 
 
 pub problems-judged : (verdict-of none off-two ≡ problem (start 2)) × (verdict-of none off-three ≡ problem (start 3))
     × (verdict-of none down-problem ≡ problem down)
-unfolding judged admit kindOf problem-course.problem-judged judged-from problem-course.judge malformed wrongCount outOfRange unit-of ordered start-problem down-problem
+unfolding judged admit kindOf problem-course.problem-judged judged-from problem-course.judge malformed wrongCount outOfRange unit-of ordered midnight-ordered start-problem down-problem
 problems-judged = (refl, refl, refl)
+
+-- the listing's problem with other unit lines
+pub units-judged : (verdict-of none (problem-of "unit=100,10,0,20,80,2,2,3,30,30,50,90,1,5" "unit=40,14,0,10,50,1,1,-2,50,50,20,60,0,0,0") ≡ at-line 14 6)
+    × (verdict-of none (problem-of "unit=100,10,0,20,80,2,2,3,30,30,50,90,1,5,19" "unit=40,14,0,10,50,1,1,-2,50,50,20,60,0,0,0") ≡ at-line 15 6)
+    × (verdict-of none (problem-of "unit=100,10,0,20,80,2,2,3,30,30,50,90,1,5,60" "unit=40,14,0,10,50,1,1,-2,50,50,20,60,0,0,1") ≡ at-line 15 7)
+unfolding judged admit kindOf problem-course.problem-judged judged-from problem-course.judge malformed wrongCount outOfRange unit-of ordered midnight-ordered refusalOf carriesLine carriesUnit carriesPeriod problem-of
+units-judged = (refl, refl, refl)
 
 pub alone-judged : (verdict-of (some (start 2)) (schedule-text ("run=10" ∷ [])) ≡ by-seven 20 ((10 ∷ []) ∷ []))
     × (verdict-of (some (start 3)) (schedule-text ("run=10" ∷ [])) ≡ by-seven 60 ((10 ∷ []) ∷ []))

@@ -11,3 +11,4 @@ pub mod Promised
 pub mod Shown
 pub mod Following
 pub mod Specimens
+pub mod Requested

@@ -1,5 +1,5 @@
--- Document 01, Specimens on that problem: the marked ones. Each is a pair of the texts that are lodged in turn from a fresh docket and the answer to
--- the last of them.
+-- Document 01, Specimens on that problem: the marked ones, with 60 and 0 at midnight (document 02, [3]), and five more of that request. Each is a pair of the texts
+-- that are lodged in turn from a fresh docket and the answer to the last of them.
 use mathlib.Core.Path.{_≡_}
 use mathlib.Core.List.{List, [], _∷_, _++_, map}
 use mathlib.Core.Option.{Option, none, some}
@@ -28,10 +28,13 @@ lines (l ∷ ls) = bytes l ++ (10 ∷ lines ls)
 
 -- ---- document 01, The listing program: the texts of its input
 
-unfoldable pub listed-problem : List ℕ
-listed-problem =
-    lines ("kind=problem" ∷ "periods=2" ∷ "units=2" ∷ "demand=60,100" ∷ "spare=10,10"
-    ∷ "unit=100,10,0,20,80,2,2,3,30,30,50,90,1,5" ∷ "unit=40,14,0,10,50,1,1,-2,50,50,20,60,0,0" ∷ "end=problem" ∷ [])
+-- its problem, with these unit lines
+unfoldable pub problem-of : String → String → List ℕ
+problem-of first second =
+    lines ("kind=problem" ∷ "periods=2" ∷ "units=2" ∷ "demand=60,100" ∷ "spare=10,10" ∷ first ∷ second ∷ "end=problem" ∷ [])
+
+abbrev pub listed-problem : List ℕ
+listed-problem = problem-of "unit=100,10,0,20,80,2,2,3,30,30,50,90,1,5,60" "unit=40,14,0,10,50,1,1,-2,50,50,20,60,0,0,0"
 
 -- a schedule by the writer 7, by its run lines
 unfoldable pub schedule-text : List String → List ℕ
@@ -74,15 +77,15 @@ unfoldable pub start-problem : String → List ℕ
 start-problem unit = lines ("kind=problem" ∷ "periods=1" ∷ "units=1" ∷ "demand=0" ∷ "spare=0" ∷ unit ∷ "end=problem" ∷ [])
 
 abbrev pub off-two : List ℕ
-off-two = start-problem "unit=0,0,0,10,50,1,1,-2,50,50,20,60,1,0"
+off-two = start-problem "unit=0,0,0,10,50,1,1,-2,50,50,20,60,1,0,0"
 
 abbrev pub off-three : List ℕ
-off-three = start-problem "unit=0,0,0,10,50,1,1,-3,50,50,20,60,1,0"
+off-three = start-problem "unit=0,0,0,10,50,1,1,-3,50,50,20,60,1,0,0"
 
 -- three periods, TD 3 and Tini -1
 unfoldable pub down-problem : List ℕ
 down-problem =
-    lines ("kind=problem" ∷ "periods=3" ∷ "units=1" ∷ "demand=0,0,0" ∷ "spare=0,0,0" ∷ "unit=0,0,0,10,50,1,3,-1,50,50,20,60,0,0" ∷ "end=problem" ∷ [])
+    lines ("kind=problem" ∷ "periods=3" ∷ "units=1" ∷ "demand=0,0,0" ∷ "spare=0,0,0" ∷ "unit=0,0,0,10,50,1,3,-1,50,50,20,60,0,0,0" ∷ "end=problem" ∷ [])
 
 -- ---- the list
 
@@ -114,6 +117,13 @@ specimens =
     -- TD is 3, off for one period before: first on in period 2 breaks 24, in period 3 nothing
     ∷ (down-problem ∷ schedule-text ("run=0,10,10" ∷ []) ∷ [], refused 24 0 1 2)
     ∷ (down-problem ∷ schedule-text ("run=0,0,10" ∷ []) ∷ [], held (its-cost 20))
+    -- document 02, [3]: unit 1, at 60 at midnight, falls by 31: 25, unit 1, period 1; it falls by 30: its cost
+    ∷ (listed-problem ∷ schedule-text ("run=29,59" ∷ "run=31,41" ∷ []) ∷ [], refused 25 0 1 1)
+    ∷ (listed-problem ∷ schedule-text ("run=30,60" ∷ "run=30,40" ∷ []) ∷ [], held (its-cost 2220))
+    -- the problem with fourteen numbers for unit 1: 14; with 19 at midnight for it, and with 1 for unit 2: 15
+    ∷ (problem-of "unit=100,10,0,20,80,2,2,3,30,30,50,90,1,5" "unit=40,14,0,10,50,1,1,-2,50,50,20,60,0,0,0" ∷ [], refused 14 6 0 0)
+    ∷ (problem-of "unit=100,10,0,20,80,2,2,3,30,30,50,90,1,5,19" "unit=40,14,0,10,50,1,1,-2,50,50,20,60,0,0,0" ∷ [], refused 15 6 0 0)
+    ∷ (problem-of "unit=100,10,0,20,80,2,2,3,30,30,50,90,1,5,60" "unit=40,14,0,10,50,1,1,-2,50,50,20,60,0,0,1" ∷ [], refused 15 7 0 0)
     ∷ []
 
 -- ---- what is said of a pair

@@ -13,7 +13,7 @@ use lib.ListN.{length}
 use Rattle.model.specs.declared.generator.Generator.{Generator}
 use Rattle.model.specs.Instance.{Instance, Schedule}
 use Rattle.model.specs.Ranges.{WellFormed}
-use Rattle.model.specs.Broken.{Of, Broken, limits, demand, spare, updown, ramps}
+use Rattle.model.specs.Broken.{Of, Broken, limits, demand, spare, updown, ramps, midnight}
 use Rattle.model.specs.Breach.{Breach}
 use Rattle.model.specs.Above.{root}
 use Rattle.model.specs.Held.{view, blank-problem}
@@ -104,6 +104,7 @@ module _ (P : Instance) (W : WellFormed P) (s : Schedule) where
   rule-small b (spare t h k) = period-small 23 t (omega arith) h
   rule-small b (updown u t h o) = unit-small 24 u t _ (omega arith) h o
   rule-small b (ramps u t h o) = unit-small 25 u (suc t) _ (omega arith) h o
+  rule-small b (midnight u h o) = unit-small 25 u 0 _ (omega arith) h o
 
 -- ---- every verdict
 
@@ -122,7 +123,7 @@ module _ (text : List ℕ) where
       line-small text h n l (r .before) (r .rest) (carried n l (length (r .before)) (r .place) (problems.refused-carries n l text r)) (r .place) (r .parts)
   verdict-small o W v (a-problem P h e G) = tt
   verdict-small (some P) W v (schedule-refused r h b f) = schedule-small h P W r f
-  verdict-small (some P) W v (a-schedule w s h e ok rows meets) = omega (arith, cost-fits P W s (meets-small P W s meets))
+  verdict-small (some P) W v (a-schedule w s h e ok rows meets) = omega (arith, cost-fits P W s (meets-small P W s (meets .printed)))
   verdict-small (some P) W v (tree-refused n l h b r) =
       line-small text h n l (r .before) (r .rest) (carried n l (length (r .before)) (r .place) (trees-read.refused-carries P text n l r)) (r .place) (r .parts)
   verdict-small (some P) W v (a-tree w t h e ok within holds) =

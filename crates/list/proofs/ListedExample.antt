@@ -15,13 +15,13 @@ use Rattle.docket.specs.Lodging.{lodge-of}
 use Rattle.docket.specs.Report.{report-text}
 use Rattle.docket.specs.Demand3.{answers-to}
 use Rattle.docket.specs.Promised.{stated-lines}
-use Rattle.docket.specs.Specimens.{listed-problem, schedule-text, tree-text, listed-texts, listed-input, listed-output}
+use Rattle.docket.specs.Specimens.{problem-of, listed-problem, schedule-text, tree-text, listed-texts, listed-input, listed-output}
 use Rattle.docket.proofs.SpecimenList.{listing-answers, listing-held}
 use Rattle.list.specs.Listing.{answer-lines, listed, listing-text}
 
 -- the input's pieces
 pub input-pieces : pieces listed-input ≡ listed-texts
-unfolding pieces listed-problem schedule-text tree-text
+unfolding pieces problem-of schedule-text tree-text
 input-pieces = refl
 
 -- the lines of answers are those of what they state
@@ -36,5 +36,5 @@ texts-listed =
     λ i. a i ++ report-text (listing-held i)
 
 pub input-listed : listing-text listed-input ≡ listed-output
-unfolding listing-text listed-problem schedule-text tree-text
+unfolding listing-text problem-of schedule-text tree-text
 input-listed = ap listed input-pieces ∙ texts-listed

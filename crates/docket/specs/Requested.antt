@@ -1,0 +1,36 @@
+-- The words of the page of what document 02 asks beyond demands 1 to 3.
+use mathlib.Core.Path.{_≡_}
+use mathlib.Core.Bool.{not}
+use mathlib.Core.List.{List, _∷_, _++_}
+use Prim.Native.Nat.{ℕ, suc}
+use lib.Dec.{T}
+use Rattle.model.specs.declared.generator.Generator.{Generator}
+use Rattle.model.specs.Instance.{Instance}
+use Rattle.model.specs.Ranges.{Between}
+use Rattle.model.specs.Breach.{Breach}
+use Rattle.text.specs.Lines.{Line, later, linesOf, kindProblem}
+use Rattle.text.specs.Tests.{Passed}
+use Rattle.problem.specs.Course.{periods-due, unit-due, tests, next-due}
+use Rattle.docket.specs.Texts.{Short, Begins}
+
+-- ---- [3] Yesterday's last output
+
+-- p0 in its range, and as Tini has it: an output that (4) allows after periods on, 0 after periods off
+pub record Midnight (g : Generator) : Type 0 where
+  pub in-range : Between 0 (g .p0) 10000
+  pub on-before : T (g .on) → Between (g .pL) (g .p0) (g .pU)
+  pub off-before : T (not (g .on)) → g .p0 ≡ 0
+
+-- 25 in period 1, of unit u counted from 0
+abbrev pub in-period-1 : ℕ → Breach
+in-period-1 u = record { number = 25; unit = suc u; period = 1 }
+
+-- the line x of a problem's text stands where a unit line is due: the lines between the first and it pass
+pub record UnitLineDue (text : List ℕ) (before : List Line) (x : Line) : Type 0 where
+  pub short : Short text
+  pub begins : Begins text kindProblem
+  pub so-far : Instance
+  pub more : ℕ
+  pub rest : List Line
+  pub lines : later (linesOf text) ≡ before ++ (x ∷ rest)
+  pub passed : Passed tests next-due periods-due before (unit-due more so-far)
