@@ -37,7 +37,7 @@ extern "C" {
 #define DOCKET_TOO_SMALL SIZE_MAX
 
 /* No docket: what is lent as its state was never begun, is that of another layout, or was changed so that its problem or its
- * figures are out of range. Begin it anew and lodge the texts again. */
+ * figures are out of range. Begin it anew and lodge the texts again, changed where docket_rules has gone up (docs/changes). */
 #define DOCKET_NO_DOCKET (SIZE_MAX - 1)
 
 /* ---- what to lend; more may be lent. What a call does not name as written stays as it was, within the asked-for part too */
@@ -54,7 +54,7 @@ extern "C" {
 /* for the outputs of the held schedule: docket_outputs asks for so many, whatever is held */
 #define DOCKET_OUTPUTS ((size_t)1536)
 
-/* Stack enough for a call. A tree of the greatest depth uses less than 260,000 bytes of it, measured; no proof covers the stack.
+/* Stack enough for a call. A tree of the greatest depth uses less than 265,000 bytes of it, measured; no proof covers the stack.
  * On a thread with less the process ends at the stack's guard page. */
 #define DOCKET_STACK_BYTES ((size_t)1048576)
 

@@ -4,7 +4,7 @@
 
 int main(void) {
     const uint8_t problem[] = "kind=problem\nperiods=1\nunits=1\ndemand=50\nspare=0\n"
-                              "unit=100,10,0,20,80,1,1,3,80,80,0,0,0,0\nend=problem\n";
+                              "unit=100,10,0,20,80,1,1,3,80,80,0,0,0,0,50\nend=problem\n";
     const uint8_t schedule[] = "kind=schedule\nwriter=7\nrun=50\nend=schedule\n";
     size_t n = docket_numbers(), r = docket_rows();
     uint64_t numbers[n], values[DOCKET_VALUES];

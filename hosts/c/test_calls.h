@@ -7,7 +7,7 @@
 /* the texts of examples/example.txt and a dearer schedule, the lines of their answers, and reports */
 #define PROBLEM                                                                                                                  \
     "kind=problem\nperiods=2\nunits=2\ndemand=60,100\nspare=10,10\n"                                                             \
-    "unit=100,10,0,20,80,2,2,3,30,30,50,90,1,5\nunit=40,14,0,10,50,1,1,-2,50,50,20,60,0,0\nend=problem\n"
+    "unit=100,10,0,20,80,2,2,3,30,30,50,90,1,5,60\nunit=40,14,0,10,50,1,1,-2,50,50,20,60,0,0,0\nend=problem\n"
 #define SCHEDULE "kind=schedule\nwriter=7\nrun=60,80\nrun=0,20\nend=schedule\n"
 #define TREE "kind=tree\nwriter=3\nsplit=2,2\nshort=2\nprice=10,14\nreserve=0,0\nend=tree\n"
 #define PROBLEM_HELD "answer=held\n"

@@ -38,18 +38,28 @@ static inline void change_mark(uint64_t *numbers) {
     }
 }
 
+/* Puts a unit's p0 where its Tini does not allow it, within its own range too. */
+static inline void change_midnight(uint64_t *unit) {
+    if (unit[ON]) {
+        unit[P0] = between(0, 1) == 0 ? between(0, unit[PL] - 1) : between(unit[PU] + 1, unit[PU] + 9);
+    } else {
+        unit[P0] = between(1, unit[PU]);
+    }
+}
+
 /* Puts one number of the problem out of its range, not one that only says yes or no. */
 static inline void change_problem(uint64_t *numbers) {
     uint64_t t = between(0, numbers[AT_PERIODS] - 1), which = (ON + between(1, UNIT_NUMBERS - 1)) % UNIT_NUMBERS;
     const struct range *range = &unit_ranges[which];
     uint64_t *unit = numbers + AT_UNITS + between(0, numbers[AT_COUNT] - 1) * UNIT_NUMBERS;
-    switch (between(0, 7)) {
+    switch (between(0, 8)) {
     case 0: numbers[AT_PERIODS] = between(0, 2) == 0 ? 0 : above(MOST_PERIODS); break;
     case 1: numbers[AT_COUNT] = between(0, 2) == 0 ? 0 : above(MOST_UNITS); break;
     case 2: numbers[AT_DEMAND + t] = above(MOST_DEMAND); break;
     case 3: numbers[AT_SPARE + t] = above(MOST_DEMAND); break;
     case 4: unit[PL] = between(unit[PU] + 1, unit[PU] + 9); break;
     case 5: unit[HSC] = between(unit[CSC] + 1, unit[CSC] + 9); break;
+    case 6: change_midnight(unit); break;
     default: unit[which] = range->least > 0 && between(0, 1) == 0 ? range->least - 1 : above(range->most);
     }
 }
@@ -76,6 +86,12 @@ static inline void hold_without_problem(uint64_t *numbers) {
 /* A number of the range where the problem uses the place, any number elsewhere. */
 static inline uint64_t within(int used, uint64_t least, uint64_t most) { return used ? between(least, most) : next_random(); }
 
+/* Makes a unit's p0 one that its Tini allows, the nearest. */
+static inline void mend_midnight(uint64_t *unit) {
+    uint64_t least = unit[ON] ? unit[PL] : 0, most = unit[ON] ? unit[PU] : 0;
+    unit[P0] = unit[P0] < least ? least : unit[P0] > most ? most : unit[P0];
+}
+
 /* Changes a number of the problem so that it stays one, or one that it does not use. */
 static inline void change_problem_within(uint64_t *numbers) {
     uint64_t t = between(0, MOST_PERIODS - 1), u = between(0, MOST_UNITS - 1), which = between(0, UNIT_NUMBERS - 1);
@@ -89,6 +105,7 @@ static inline void change_problem_within(uint64_t *numbers) {
         unit[which] = within(unit_used, unit_ranges[which].least, unit_ranges[which].most);
         unit[PU] = unit[PU] < unit[PL] ? unit[PL] : unit[PU];
         unit[CSC] = unit[CSC] < unit[HSC] ? unit[HSC] : unit[CSC];
+        mend_midnight(unit);
     }
 }
 

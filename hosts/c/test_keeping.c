@@ -2,8 +2,8 @@
 #include "test_calls.h"
 
 static void test_sizes(void) {
-    count(docket_rules() == 1, "the rules have number 1");
-    count(docket_numbers() == 586, "586 numbers");
+    count(docket_rules() == 2, "the rules have number 2");
+    count(docket_numbers() == 618, "618 numbers");
     count(docket_rows() == 1536, "1536 rows");
 }
 

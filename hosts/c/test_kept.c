@@ -4,7 +4,7 @@
 #include <glob.h>
 
 /* the kept state of the present layout; every other one is no docket */
-#define PRESENT "layout-1.state"
+#define PRESENT "layout-2.state"
 
 /* The docket whose bytes are those of a kept state, as far as there are so many, and zeros after them. */
 static struct docket open_state(const struct bytes *state) {
@@ -27,6 +27,19 @@ static int is_no_docket(struct docket d) {
     return lodge(&d, (const uint8_t *)SCHEDULE, strlen(SCHEDULE), w.line, w.values) == DOCKET_NO_DOCKET &&
            report(&d, w.buffer) == DOCKET_NO_DOCKET && copy_outputs(&d, w.outputs) == DOCKET_NO_DOCKET &&
            same_docket(&d, &kept) && is_unwritten(&w);
+}
+
+/* Whether a state of fewer numbers, lent as it was kept, is told to be too small, and all is left as it was. */
+static int is_too_small(const struct bytes *state, const struct docket *present) {
+    struct docket d = open_state(state);
+    struct written w = room_to_write();
+    size_t kept = (state->length - present->rows_length * sizeof *present->rows) / sizeof *d.numbers;
+    paint(&w);
+    d.numbers_length = kept;
+    memcpy(d.rows, state->start + kept * sizeof *d.numbers, d.rows_length * sizeof *d.rows);
+    return kept < present->numbers_length && lodge(&d, (const uint8_t *)SCHEDULE, strlen(SCHEDULE), w.line, w.values) == DOCKET_TOO_SMALL &&
+           report(&d, w.buffer) == DOCKET_TOO_SMALL && copy_outputs(&d, w.outputs) == DOCKET_TOO_SMALL &&
+           memcmp(d.numbers, state->start, kept * sizeof *d.numbers) == 0 && is_unwritten(&w);
 }
 
 static void test_present(const struct bytes *state) {
@@ -59,7 +72,9 @@ int main(int argc, char **argv) {
             presents++;
             test_present(&state);
         } else {
+            struct docket present = fresh_docket();
             count(is_no_docket(open_state(&state)), "%s is no docket", found.gl_pathv[k]);
+            count(is_too_small(&state, &present), "%s, lent as it was kept, is too small", found.gl_pathv[k]);
         }
         free(state.start);
     }

@@ -9,12 +9,12 @@
 #include <string.h>
 
 /* the bytes DOCKET and the layout's number */
-#define LAYOUT 1
+#define LAYOUT 2
 #define MARK ((uint64_t)0x444F434B4554 << 8 | LAYOUT)
 
-#define NUMBERS 586
+#define NUMBERS 618
 #define ROWS 1536
-#define UNIT_NUMBERS 15
+#define UNIT_NUMBERS 16
 #define MOST_PERIODS 48
 #define MOST_UNITS 32
 #define MOST_DEMAND 320000
@@ -34,14 +34,20 @@ enum place {
 };
 
 /* the places of a unit's numbers */
-enum unit_place { A, B, C, PL, PU, TU, TD, ON, SINCE, DR, UR, HSC, CSC, TCOLD, DC };
+enum unit_place { A, B, C, PL, PU, TU, TD, ON, SINCE, DR, UR, HSC, CSC, TCOLD, DC, P0 };
 
 static const struct range {
     uint64_t least, most;
 } unit_ranges[UNIT_NUMBERS] = {
     [A] = {0, 1000000000}, [B] = {0, 10000000},     [C] = {0, 10000},        [PL] = {1, 10000},   [PU] = {1, 10000},
     [TU] = {1, 48},        [TD] = {1, 48},          [ON] = {0, 1},           [SINCE] = {1, 1000}, [DR] = {1, 10000},
-    [UR] = {1, 10000},     [HSC] = {0, 1000000000}, [CSC] = {0, 1000000000}, [TCOLD] = {0, 48},   [DC] = {0, 1000000000}};
+    [UR] = {1, 10000},     [HSC] = {0, 1000000000}, [CSC] = {0, 1000000000}, [TCOLD] = {0, 48},   [DC] = {0, 1000000000},
+    [P0] = {0, 10000}};
+
+/* Whether a unit's p0 is from pL to pU where it was on before period 1, and 0 where it was off. */
+static inline int is_midnight_sound(const uint64_t *unit) {
+    return unit[ON] ? unit[PL] <= unit[P0] && unit[P0] <= unit[PU] : unit[P0] == 0;
+}
 
 /* Whether a problem's numbers are in their ranges. */
 static inline int is_problem_sound(const uint64_t *numbers) {
@@ -58,7 +64,7 @@ static inline int is_problem_sound(const uint64_t *numbers) {
         for (int k = 0; k < UNIT_NUMBERS; k++) {
             sound = sound && unit[k] >= unit_ranges[k].least && unit[k] <= unit_ranges[k].most;
         }
-        sound = sound && unit[PL] <= unit[PU] && unit[HSC] <= unit[CSC];
+        sound = sound && unit[PL] <= unit[PU] && unit[HSC] <= unit[CSC] && is_midnight_sound(unit);
     }
     return sound;
 }

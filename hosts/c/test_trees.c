@@ -65,7 +65,7 @@ static const char *problem(void) {
         memcpy(zeros + 2 * t, t + 1 < PERIODS ? "0," : "0", 2);
     }
     snprintf(text, sizeof text, "kind=problem\nperiods=%d\nunits=1\ndemand=%s\nspare=%s\n%s\nend=problem\n", PERIODS, zeros,
-             zeros, "unit=0,10000000,0,10,10,1,1,1,10,10,0,0,0,0");
+             zeros, "unit=0,10000000,0,10,10,1,1,1,10,10,0,0,0,0,10");
     return text;
 }
 

@@ -1,5 +1,5 @@
 #!/usr/bin/env python3
-"""make.py: writes layout-1.state, the state of a docket after the texts of examples/example.txt, in layout 1.
+"""make.py: writes layout-N.state for each layout N, the state of a docket after the texts of examples/example.txt.
 
 The problem and the outputs are read from examples/example.txt, the held figures and their writers from the report that
 ends examples/example.out. No docket is asked.
@@ -10,8 +10,10 @@ from pathlib import Path
 HERE = Path(__file__).resolve().parent
 EXAMPLE = HERE.parent.parent / "examples" / "example"
 
-MARK = int.from_bytes(b"DOCKET\x01", "big")
-MOST_PERIODS, MOST_UNITS, UNIT_NUMBERS = 48, 32, 15
+MOST_PERIODS, MOST_UNITS = 48, 32
+
+#: How many numbers a unit has in each layout: the first has all but p0, the second all.
+UNIT_NUMBERS = {1: 15, 2: 16}
 
 
 def values(path: Path) -> list[tuple[str, str]]:
@@ -29,28 +31,32 @@ def padded(numbers: list[int], length: int) -> list[int]:
     return numbers + [0] * (length - len(numbers))
 
 
-def unit_numbers(line: list[int]) -> list[int]:
+def unit_numbers(line: list[int], layout: int) -> list[int]:
     """A unit's numbers as a state has them: Tini is whether the unit is on, and for how many periods it was so."""
-    tini = line[7]
-    return line[:7] + [int(tini > 0), abs(tini)] + line[8:]
+    *before, tini = line[:8]
+    numbers = before + [int(tini > 0), abs(tini)] + line[8:]
+    assert len(numbers) == 16, "a unit line has fifteen numbers"
+    return numbers[: UNIT_NUMBERS[layout]]
 
 
-def state() -> bytes:
+def state(layout: int) -> bytes:
     """The numbers, 64 bits each, then the rows, 16 bits each, least byte first."""
     lines = values(EXAMPLE.with_suffix(".txt"))
     problem = dict(lines)
     report = {key: value for key, value in values(EXAMPLE.with_suffix(".out")) if key != "answer"}
-    units = [unit_numbers(numbers_of(value)) for key, value in lines if key == "unit"]
+    units = [unit_numbers(numbers_of(value), layout) for key, value in lines if key == "unit"]
     outputs = [output for key, value in lines if key == "run" for output in numbers_of(value)]
     bound = int(report["bound"])
-    numbers = [MARK, 1, 1, int(report["cost"]), int(report["costwriter"])]
+    numbers = [int.from_bytes(b"DOCKET" + bytes([layout]), "big"), 1]
+    numbers += [1, int(report["cost"]), int(report["costwriter"])]
     numbers += [1 if bound >= 0 else 2, abs(bound), int(report["boundwriter"])]
     numbers += [int(problem["periods"]), int(problem["units"])]
     numbers += padded(numbers_of(problem["demand"]), MOST_PERIODS) + padded(numbers_of(problem["spare"]), MOST_PERIODS)
-    numbers += padded([number for unit in units for number in unit], MOST_UNITS * UNIT_NUMBERS)
+    numbers += padded([number for unit in units for number in unit], MOST_UNITS * UNIT_NUMBERS[layout])
     rows = padded(outputs, MOST_UNITS * MOST_PERIODS)
     return struct.pack(f"<{len(numbers)}Q{len(rows)}H", *numbers, *rows)
 
 
 if __name__ == "__main__":
-    (HERE / "layout-1.state").write_bytes(state())
+    for layout in UNIT_NUMBERS:
+        (HERE / f"layout-{layout}.state").write_bytes(state(layout))

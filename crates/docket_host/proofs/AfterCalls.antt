@@ -63,26 +63,26 @@ module _ (v w : List ℕ) (r : long v w ≡ true) where
   fresh-begins = rw r refl
 
   -- what lies behind a state stays
-  pub rest-stays : (cs : List Lending) → (drop 586 (after-calls (fresh-state v w) cs .numbers) ≡ drop 586 v) × (drop 1536 (after-calls (fresh-state v w) cs .rows) ≡ drop 1536 w)
+  pub rest-stays : (cs : List Lending) → (drop 618 (after-calls (fresh-state v w) cs .numbers) ≡ drop 618 v) × (drop 1536 (after-calls (fresh-state v w) cs .rows) ≡ drop 1536 w)
   unfolding kept-numbers kept-rows
   rest-stays cs =
       let d = after (heard cs) in
       let F = reached-fits (heard cs) in
       let n = numbers-long v w d r F in
       rw (state-is cs) (
-        drop-at (state-numbers d) (drop (length (state-numbers d)) v) 586 n ∙ ap (λ (k : ℕ). drop k v) n,
+        drop-at (state-numbers d) (drop (length (state-numbers d)) v) 618 n ∙ ap (λ (k : ℕ). drop k v) n,
         drop-at (d .rows) (drop (length (d .rows)) w) 1536 (F .rows-long) ∙ ap (λ (k : ℕ). drop k w) (F .rows-long),
       )
 
 -- moved into other slices, a state is the one that the same calls make there
 pub moved : (v w : List ℕ) → long v w ≡ true → (v′ w′ : List ℕ) → long v′ w′ ≡ true → (cs : List Lending)
-    → (over (take 586 (after-calls (fresh-state v w) cs .numbers)) v′ ≡ after-calls (fresh-state v′ w′) cs .numbers)
+    → (over (take 618 (after-calls (fresh-state v w) cs .numbers)) v′ ≡ after-calls (fresh-state v′ w′) cs .numbers)
     × (over (take 1536 (after-calls (fresh-state v w) cs .rows)) w′ ≡ after-calls (fresh-state v′ w′) cs .rows)
 unfolding kept-numbers kept-rows
 moved v w r v′ w′ r′ cs =
     let d = after (heard cs) in
     let F = reached-fits (heard cs) in
     rw (state-is v w r cs, state-is v′ w′ r′ cs) (
-      ap (λ (l : List ℕ). over l v′) (take-at (state-numbers d) (drop (length (state-numbers d)) v) 586 (numbers-long v w d r F)),
+      ap (λ (l : List ℕ). over l v′) (take-at (state-numbers d) (drop (length (state-numbers d)) v) 618 (numbers-long v w d r F)),
       ap (λ (l : List ℕ). over l w′) (take-at (d .rows) (drop (length (d .rows)) w) 1536 (F .rows-long)),
     )

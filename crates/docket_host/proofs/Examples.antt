@@ -7,26 +7,26 @@ use Rattle.docket_host.specs.HostAnswer.{too-small}
 use Rattle.state.specs.Layout.{numbers-count, rows-count}
 use Rattle.docket_host.specs.Calls.{rules, no-docket, lodge-room, outputs-room}
 
-lodge-enough : lodge-room (replicate 586 0) (replicate 1536 0) (replicate 128 0) (replicate 16 0) ≡ true
+lodge-enough : lodge-room (replicate 618 0) (replicate 1536 0) (replicate 128 0) (replicate 16 0) ≡ true
 lodge-enough = refl
 
-line-short : lodge-room (replicate 586 0) (replicate 1536 0) (replicate 127 0) (replicate 16 0) ≡ false
+line-short : lodge-room (replicate 618 0) (replicate 1536 0) (replicate 127 0) (replicate 16 0) ≡ false
 line-short = refl
 
-values-short : lodge-room (replicate 586 0) (replicate 1536 0) (replicate 128 0) (replicate 15 0) ≡ false
+values-short : lodge-room (replicate 618 0) (replicate 1536 0) (replicate 128 0) (replicate 15 0) ≡ false
 values-short = refl
 
-state-short : lodge-room (replicate 585 0) (replicate 1536 0) (replicate 128 0) (replicate 16 0) ≡ false
+state-short : lodge-room (replicate 617 0) (replicate 1536 0) (replicate 128 0) (replicate 16 0) ≡ false
 state-short = refl
 
-outputs-enough : outputs-room (replicate 586 0) (replicate 1536 0) (replicate 1536 0) ≡ true
+outputs-enough : outputs-room (replicate 618 0) (replicate 1536 0) (replicate 1536 0) ≡ true
 outputs-enough = refl
 
-outputs-short : outputs-room (replicate 586 0) (replicate 1536 0) (replicate 1535 0) ≡ false
+outputs-short : outputs-room (replicate 618 0) (replicate 1536 0) (replicate 1535 0) ≡ false
 outputs-short = refl
 
 -- the numbers that are asked for by calls
-the-sizes : (numbers-count ≡ 586) × ((rows-count ≡ 1536) × (rules ≡ 1))
+the-sizes : (numbers-count ≡ 618) × ((rows-count ≡ 1536) × (rules ≡ 2))
 the-sizes = (refl, (refl, refl))
 
 -- SIZE_MAX and SIZE_MAX - 1

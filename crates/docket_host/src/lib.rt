@@ -19,7 +19,7 @@ pub const NO_DOCKET: usize = 18446744073709551614;
 pub extern "C" fn docket_rules() -> usize
     ensures { λ r. ⌜ r ≡ rules ⌝ }
 {
-    1
+    2
 }
 
 // How many numbers the first slice of a state has.
@@ -27,7 +27,7 @@ pub extern "C" fn docket_rules() -> usize
 pub extern "C" fn docket_numbers() -> usize
     ensures { λ r. ⌜ r ≡ numbers-count ⌝ }
 {
-    586
+    618
 }
 
 // How many numbers its second slice has.

@@ -9,7 +9,7 @@ use Rattle.numbers.proofs.Readings.{generators-long}
 use Rattle.numbers.specs.Numbers.{problem-in}
 use Rattle.state.specs.Layout.{docket-in}
 
-module _ (v w : List ℕ) (room : 586 ≤ length v) where
+module _ (v w : List ℕ) (room : 618 ≤ length v) where
   pub demand-long : length (docket-in v w .problem .demand) ≡ 48
   unfolding docket-in problem-in
   demand-long = length-take-le 48 (drop 2 (drop 8 v)) (omega (arith, room, length-drop 8 v, length-drop 2 (drop 8 v)))

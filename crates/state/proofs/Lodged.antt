@@ -29,7 +29,7 @@ over-long : (l b : List ℕ) → length l ≤ length b → length (over l b) ≡
 over-long l b h = omega (arith, h, length-append l (drop (length l) b), length-drop (length l) b)
 
 module _ (v w : List ℕ) (d : Docket) (r : long v w ≡ true) (F : Fits d) where
-  pub numbers-long : length (state-numbers d) ≡ 586
+  pub numbers-long : length (state-numbers d) ≡ 618
   unfolding state-numbers
   numbers-long = omega (arith, eight-long d, laid-long (d .problem) (F .demand-long) (F .spare-long) (F .units-long), length-append (eight d) (laid-out (d .problem)))
 

@@ -14,12 +14,12 @@ pub clash : {A : Type 0} → false ≡ true → A
 clash e = absurd (let z : _≡_ {A = ℕ} 0 1 = cc in omega arith)
 
 module _ (v w : List ℕ) where
-  pub long-room : long v w ≡ true → (586 ≤ length v) × (1536 ≤ length w)
-  long-room e = go (ltb (length v) 586) refl e
+  pub long-room : long v w ≡ true → (618 ≤ length v) × (1536 ≤ length w)
+  long-room e = go (ltb (length v) 618) refl e
     where
-      go : (t : Bool) → ltb (length v) 586 ≡ t → pick t false (leb 1536 (length w)) ≡ true → (586 ≤ length v) × (1536 ≤ length w)
+      go : (t : Bool) → ltb (length v) 618 ≡ t → pick t false (leb 1536 (length w)) ≡ true → (618 ≤ length v) × (1536 ≤ length w)
       go true h k = clash k
-      go false h k = (ltb-false (length v) 586 h, leb-true 1536 (length w) k)
+      go false h k = (ltb-false (length v) 618 h, leb-true 1536 (length w) k)
 
-  pub room-long : 586 ≤ length v → 1536 ≤ length w → long v w ≡ true
-  room-long h k = rw (le-ltb (length v) 586 h, le-leb 1536 (length w) k) refl
+  pub room-long : 618 ≤ length v → 1536 ≤ length w → long v w ≡ true
+  room-long h k = rw (le-ltb (length v) 618 h, le-leb 1536 (length w) k) refl

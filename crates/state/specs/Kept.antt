@@ -22,7 +22,7 @@ use Rattle.state.specs.declared.Opened.{Opened}
 
 -- they have room for a state
 abbrev pub long : List ℕ → List ℕ → Bool
-long v w = pick (ltb (length v) 586) false (leb 1536 (length w))
+long v w = pick (ltb (length v) 618) false (leb 1536 (length w))
 
 -- and they begin with the mark and are a sound docket's
 unfoldable pub holds : List ℕ → List ℕ → Bool

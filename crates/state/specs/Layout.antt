@@ -1,5 +1,5 @@
--- A docket as two lists of numbers. The first has 586: a mark, whether a problem is known, three for the held cost, three for the held bound,
--- and the 578 of the problem. The second has the 1,536 outputs of the held schedule. What a slice holds after them is its owner's.
+-- A docket as two lists of numbers. The first has 618: a mark, whether a problem is known, three for the held cost, three for the held bound,
+-- and the 610 of the problem. The second has the 1,536 outputs of the held schedule. What a slice holds after them is its owner's.
 use mathlib.Core.Bool.{not, cond}
 use mathlib.Core.List.{List, [], _∷_, _++_}
 use Prim.Native.Nat.{ℕ}
@@ -20,14 +20,14 @@ use Rattle.docket.specs.declared.held.HeldBound.the-variants as bound
 use Rattle.docket.specs.Lodging.{pick}
 
 abbrev pub numbers-count : ℕ
-numbers-count = 586
+numbers-count = 618
 
 abbrev pub rows-count : ℕ
 rows-count = 1536
 
--- 'DOCKET' in bytes, and the number of this layout: 1
+-- 'DOCKET' in bytes, and the number of this layout: 2
 abbrev pub mark : ℕ
-mark = 19227448860562433
+mark = 19227448860562434
 
 -- ---- a docket's numbers
 

@@ -1,4 +1,4 @@
-// A docket in two lent slices: 586 numbers, and the 1,536 outputs of its held schedule.
+// A docket in two lent slices: 618 numbers, and the 1,536 outputs of its held schedule.
 ghost use mathlib.Core.Path.{_≡_};
 ghost use mathlib.Core.Bool.{true, cond};
 ghost use Prim.Native.Nat.{_≤_};
@@ -17,7 +17,7 @@ use docket::sound;
 mod held;
 
 // The first number of every state: that it is a docket's, and how it lies.
-const MARK: u64 = 19_227_448_860_562_433;
+const MARK: u64 = 19_227_448_860_562_434;
 
 // The docket of a state's numbers, and whether they hold one.
 pub struct Opened {
@@ -29,7 +29,7 @@ pub struct Opened {
 pub fn is_long(numbers: &[u64], rows: &[u16]) -> bool
     ensures { λ r. ⌜ r ≡ long (now (numbers .entry)) (now (rows .entry)) ⌝ }
 {
-    if numbers.len() < 586 {
+    if numbers.len() < 618 {
         return false;
     }
     1536 <= rows.len()
@@ -37,7 +37,7 @@ pub fn is_long(numbers: &[u64], rows: &[u16]) -> bool
 
 // The docket of a state's numbers, sound or not.
 fn docket_in(numbers: &[u64], rows: &[u16]) -> Docket
-    requires { ⌜ 586 ≤ length (now numbers) ⌝ }
+    requires { ⌜ 618 ≤ length (now numbers) ⌝ }
     requires { ⌜ 1536 ≤ length (now rows) ⌝ }
     ensures { λ r. ⌜ r ≡ docket-in (now (numbers .entry)) (now (rows .entry)) ⌝ }
 {
@@ -56,7 +56,7 @@ fn docket_in(numbers: &[u64], rows: &[u16]) -> Docket
 
 // The docket of a state's numbers, and whether they have the mark and it is sound.
 pub fn opened_in(numbers: &[u64], rows: &[u16]) -> Opened
-    requires { ⌜ 586 ≤ length (now numbers) ⌝ }
+    requires { ⌜ 618 ≤ length (now numbers) ⌝ }
     requires { ⌜ 1536 ≤ length (now rows) ⌝ }
     ensures { λ r. ⌜ r ≡ opened (now (numbers .entry)) (now (rows .entry)) ⌝ }
 {
@@ -80,7 +80,7 @@ fn known_number(known: bool) -> u64
 
 // The slices hold the docket.
 pub fn keep(docket: Docket, numbers: &mut [u64], rows: &mut [u16])
-    requires { ⌜ 586 ≤ length (now numbers) ⌝ }
+    requires { ⌜ 618 ≤ length (now numbers) ⌝ }
     requires { ⌜ 1536 ≤ length (now rows) ⌝ }
     ensures { λ _. ⌜ now (numbers .exit) ≡ kept-numbers docket (now (numbers .entry)) ⌝ }
     ensures { λ _. ⌜ now (rows .exit) ≡ kept-rows docket (now (rows .entry)) ⌝ }
@@ -117,7 +117,7 @@ fn is_held(answer: Answer) -> bool
 
 // The slices hold the docket after a text that is held; after any other they are as they were.
 pub fn keep_held(lodged: Lodged, numbers: &mut [u64], rows: &mut [u16])
-    requires { ⌜ 586 ≤ length (now numbers) ⌝ }
+    requires { ⌜ 618 ≤ length (now numbers) ⌝ }
     requires { ⌜ 1536 ≤ length (now rows) ⌝ }
     ensures { λ _. ⌜ now (numbers .exit) ≡ lodged-numbers lodged (now (numbers .entry)) ⌝ }
     ensures { λ _. ⌜ now (rows .exit) ≡ lodged-rows lodged (now (rows .entry)) ⌝ }

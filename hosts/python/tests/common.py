@@ -47,7 +47,7 @@ def schedule(first: int, second: int, writer: int) -> tuple[bytes, int]:
 def large_problem() -> bytes:
     """A problem of 32 units and 48 periods that no schedule can meet."""
     loads = ",".join(["320000"] * 48)
-    units = "unit=1,1,0,1,10000,1,1,1,10000,10000,0,0,0,0\n" * 32
+    units = "unit=1,1,0,1,10000,1,1,1,10000,10000,0,0,0,0,1\n" * 32
     return f"kind=problem\nperiods=48\nunits=32\ndemand={loads}\nspare={loads}\n{units}end=problem\n".encode("ascii")
 
 

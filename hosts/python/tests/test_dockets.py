@@ -5,10 +5,25 @@ import unittest
 import weakref
 
 import docket
-from common import NOTHING, PROBLEM, SCHEDULE, TREE, schedule
+from common import NOTHING, PROBLEM, ROOT, SCHEDULE, TREE, schedule
 from docket import Docket, Held, Passed, Problem, Refused, Schedule, Tree
 
 COPIES = {"copy": Docket.copy, "copy.copy": copy.copy, "copy.deepcopy": copy.deepcopy}
+
+STATES = ROOT / "tests" / "states"
+
+#: The kept state of the present layout; every other one is no docket.
+PRESENT = "layout-2.state"
+
+
+def opened(state: bytes) -> Docket:
+    """A docket whose state is the bytes of a kept one, as far as there are so many, and zeros after them."""
+    desk = Docket()
+    numbers, rows = bytes(desk._numbers), bytes(desk._rows)
+    whole = state.ljust(len(numbers) + len(rows), b"\0")
+    desk._numbers = type(desk._numbers).from_buffer_copy(whole)
+    desk._rows = type(desk._rows).from_buffer_copy(whole, len(numbers))
+    return desk
 
 
 class Dockets(unittest.TestCase):
@@ -84,6 +99,20 @@ class Dockets(unittest.TestCase):
         desk._numbers[0] -= 1
         self.assertEqual(desk.lodge(SCHEDULE).verdict, Held(Schedule(1980)))
 
+    def test_kept_states(self) -> None:
+        kept = {path.name: path.read_bytes() for path in STATES.glob("*.state")}
+        desk = opened(kept.pop(PRESENT))
+        self.assertEqual(repr(desk), "<Docket cost=1980 costwriter=7 bound=1980 boundwriter=3 gap=0>")
+        self.assertEqual(desk.outputs(), [60, 80, 0, 20])
+        self.assertEqual(desk.lodge(SCHEDULE).verdict, Passed(Schedule(1980)))
+        self.assertIn("layout-1.state", kept)
+        for name, state in kept.items():
+            with self.subTest(name):
+                desk = opened(state)
+                for call in (desk.report, desk.outputs, lambda: desk.lodge(SCHEDULE)):
+                    with self.assertRaisesRegex(RuntimeError, "this is no docket"):
+                        call()
+
     def test_the_number_of_the_rules(self) -> None:
         self.assertIsInstance(docket.rules(), int)
-        self.assertGreaterEqual(docket.rules(), 1)
+        self.assertEqual(docket.rules(), 2)

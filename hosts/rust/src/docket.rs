@@ -28,7 +28,7 @@ pub fn rules() -> u64 {
 /// assert_eq!(docket.lodge(tree).line(), "answer=refused,42,0,0,0");
 ///
 /// let problem = b"kind=problem\nperiods=1\nunits=1\ndemand=10\nspare=0\n\
-///                 unit=100,10,0,1,9,1,1,1,9,9,0,0,0,0\nend=problem\n";
+///                 unit=100,10,0,1,9,1,1,1,9,9,0,0,0,0,9\nend=problem\n";
 /// assert_eq!(docket.lodge(problem).verdict(), Verdict::Held(Figures::Problem));
 ///
 /// match docket.lodge(tree).verdict() {
@@ -82,7 +82,7 @@ impl Docket {
     /// ```
     /// # let mut docket = docket::Docket::new();
     /// # docket.lodge(b"kind=problem\nperiods=2\nunits=2\ndemand=60,100\nspare=10,10\n\
-    /// #                unit=100,10,0,20,80,2,2,3,30,30,50,90,1,5\nunit=40,14,0,10,50,1,1,-2,50,50,20,60,0,0\nend=problem\n");
+    /// #                unit=100,10,0,20,80,2,2,3,30,30,50,90,1,5,60\nunit=40,14,0,10,50,1,1,-2,50,50,20,60,0,0,0\nend=problem\n");
     /// assert!(docket.outputs().is_empty());
     /// docket.lodge(b"kind=schedule\nwriter=7\nrun=60,80\nrun=0,20\nend=schedule\n");
     /// let outputs = docket.outputs();

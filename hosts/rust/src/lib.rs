@@ -9,7 +9,7 @@
 //!
 //! let mut docket = Docket::new();
 //! let problem = b"kind=problem\nperiods=2\nunits=1\ndemand=60,70\nspare=5,5\n\
-//!                 unit=100,10,0,20,80,2,2,3,30,30,50,90,1,5\nend=problem\n";
+//!                 unit=100,10,0,20,80,2,2,3,30,30,50,90,1,5,60\nend=problem\n";
 //! assert_eq!(docket.lodge(problem).line(), "answer=held");
 //! match docket.lodge(b"kind=schedule\nwriter=7\nrun=60,70\nend=schedule\n").verdict() {
 //!     Verdict::Held(Figures::Schedule { cost, .. }) => println!("the cheapest so far: {cost}"),
@@ -26,6 +26,8 @@ mod bound;
 mod docket;
 mod listing;
 mod report;
+#[cfg(test)]
+mod states;
 #[allow(unsafe_code)]
 mod sys;
 
@@ -35,6 +37,6 @@ pub use docket::{rules, Docket, MOST_TEXT};
 pub use listing::{listing, listing_of, Error, MOST_INPUT, OUTPUT_BYTES};
 pub use report::Report;
 
-/// Stack enough for a call: a tree of the greatest depth uses less than 260,000 bytes of it, measured. A thread of the standard
+/// Stack enough for a call: a tree of the greatest depth uses less than 265,000 bytes of it, measured. A thread of the standard
 /// library has twice as much, unless its builder says otherwise; on one with less the process ends at the stack's guard page.
 pub const STACK_BYTES: usize = 1_048_576;

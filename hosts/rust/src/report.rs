@@ -13,7 +13,7 @@ use std::str::FromStr;
 /// assert_eq!(docket.report().cost(), None);
 ///
 /// docket.lodge(b"kind=problem\nperiods=1\nunits=1\ndemand=5\nspare=0\n\
-///                unit=100,10,0,1,9,1,1,1,9,9,0,0,0,0\nend=problem\n");
+///                unit=100,10,0,1,9,1,1,1,9,9,0,0,0,0,5\nend=problem\n");
 /// docket.lodge(b"kind=schedule\nwriter=7\nrun=5\nend=schedule\n");
 /// docket.lodge(b"kind=tree\nwriter=3\nprice=21\nreserve=0\nend=tree\n");
 /// let report = docket.report();
