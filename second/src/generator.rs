@@ -1,10 +1,11 @@
 //! One generator of a problem: its figures, when it may switch, and what that and running cost
-//! (document 01, "Texts" and "Rules for a schedule").
+//! (document 01, "Texts" and "Rules for a schedule"; for p0 the change request "Yesterday's last
+//! output").
 
 use crate::refusal::Refusal;
 use crate::text::Line;
 
-/// The fourteen values of a `unit=` line, in its order.
+/// The fifteen values of a `unit=` line, in its order.
 #[derive(Clone, Debug, PartialEq, Eq)]
 pub struct Generator {
     /// Cost of a period on, whatever the output (a).
@@ -35,12 +36,15 @@ pub struct Generator {
     pub hot_periods: i64,
     /// Cost of a stop (Dc).
     pub stop: i64,
+    /// Output just before period 1, 0 if it was off (p0).
+    pub initial_output: i64,
 }
 
 const MOST_MONEY: i64 = 1_000_000_000;
 
-/// Ranges of the fourteen values ("Ranges"). That Tini is not 0 is looked at apart.
-const RANGES: [(i64, i64); 14] = [
+/// Ranges of the fifteen values ("Ranges"; that of p0 is in "Yesterday's last output"). That Tini
+/// is not 0 is looked at apart.
+const RANGES: [(i64, i64); 15] = [
     (0, MOST_MONEY),
     (0, 10_000_000),
     (0, 10_000),
@@ -55,6 +59,7 @@ const RANGES: [(i64, i64); 14] = [
     (0, MOST_MONEY),
     (0, 48),
     (0, MOST_MONEY),
+    (0, 10_000),
 ];
 
 /// Place of Tini among the values, from 0: the one value that may carry a minus.
@@ -74,6 +79,7 @@ impl Generator {
         let generator = Generator::from_values(&values);
         if generator.least_output > generator.most_output
             || generator.hot_start > generator.cold_start
+            || !generator.initial_output_fits()
         {
             return Err(line.refuse(15));
         }
@@ -96,6 +102,16 @@ impl Generator {
             cold_start: values[11],
             hot_periods: values[12],
             stop: values[13],
+            initial_output: values[14],
+        }
+    }
+
+    /// Whether p0 goes with Tini: within pL to pU for a unit that was on, 0 for one that was off.
+    fn initial_output_fits(&self) -> bool {
+        if self.initially_on() {
+            self.least_output <= self.initial_output && self.initial_output <= self.most_output
+        } else {
+            self.initial_output == 0
         }
     }
 

@@ -1,5 +1,5 @@
-//! A second unit commitment docket, written from document 01 alone so that another one can be
-//! compared with it. It is plain rather than quick.
+//! A second unit commitment docket, written from document 01, the change requests and the decided
+//! points alone so that another one can be compared with it. It is plain rather than quick.
 //!
 //! - `text`: lines and numerals; `refusal`: numbers and places
 //! - `generator`, `problem`: what a problem text gives

@@ -1,4 +1,5 @@
-//! Schedules: reading, the rules and the cost (document 01, "Rules for a schedule").
+//! Schedules: reading, the rules and the cost (document 01, "Rules for a schedule"; for the ramp of
+//! period 1 the change request "Yesterday's last output").
 //!
 //! Units and periods count from 0 here and from 1 in refusals.
 
@@ -101,14 +102,20 @@ fn breaks_up_or_down_time(unit: &Generator, row: &[i64], period: usize) -> bool 
     is_on(row[period]) != on && !unit.may_leave(on, spent)
 }
 
-/// (11), (12): on in two periods running, with too large a rise or fall between them. A unit that
-/// goes on is free, and so is period 1.
+/// (11), (12): on just before this period and in it, with too large a rise or fall between. A unit
+/// that goes on or off is free.
 fn breaks_ramp(unit: &Generator, row: &[i64], period: usize) -> bool {
-    if period == 0 {
-        return false;
-    }
-    let (before, now) = (row[period - 1], row[period]);
+    let (before, now) = (output_before(unit, row, period), row[period]);
     is_on(before) && is_on(now) && (now - before > unit.most_rise || before - now > unit.most_fall)
+}
+
+/// The output just before a period: p0 before period 1, which 15 has made 0 for a unit that was off
+/// and above 0 for one that was on.
+fn output_before(unit: &Generator, row: &[i64], period: usize) -> i64 {
+    match period {
+        0 => unit.initial_output,
+        _ => row[period - 1],
+    }
 }
 
 /// Status just before a period, and the periods spent in it up to there, those before period 1

@@ -20,7 +20,7 @@ end=report
 
 /// A problem that no schedule meets: 5 is needed, the one unit gives 4.
 fn impossible() -> String {
-    one_unit(1, "0,0,0,1,4,1,1,-1,1,1,0,0,0,0").replace("spare=0", "spare=5")
+    one_unit(1, "0,0,0,1,4,1,1,-1,1,1,0,0,0,0,0").replace("spare=0", "spare=5")
 }
 
 #[test]
@@ -46,15 +46,15 @@ fn decision_1_the_first_line_alone_decides_the_kind() {
 #[test]
 fn decision_2_where_a_minus_may_stand() {
     let unit = |values: &str| alone(&one_unit(1, values));
-    assert_eq!(unit("0,0,0,1,1,1,1,-1,1,1,0,0,0,0"), held_problem());
-    assert_eq!(unit("0,0,0,1,1,1,1,0,1,1,0,0,0,0"), at_line(13, 6));
+    assert_eq!(unit("0,0,0,1,1,1,1,-1,1,1,0,0,0,0,0"), held_problem());
+    assert_eq!(unit("0,0,0,1,1,1,1,0,1,1,0,0,0,0,0"), at_line(13, 6));
     for tini in ["-0", "-", "-05", "--1", "- 1", "-+1"] {
-        let answer = unit(&format!("0,0,0,1,1,1,1,{tini},1,1,0,0,0,0"));
+        let answer = unit(&format!("0,0,0,1,1,1,1,{tini},1,1,0,0,0,0,0"));
         assert_eq!(answer, at_line(12, 6), "{tini}");
     }
     let huge = "9".repeat(60);
     for tini in [huge.clone(), format!("-{huge}")] {
-        let answer = unit(&format!("0,0,0,1,1,1,1,{tini},1,1,0,0,0,0"));
+        let answer = unit(&format!("0,0,0,1,1,1,1,{tini},1,1,0,0,0,0,0"));
         assert_eq!(answer, at_line(13, 6));
     }
     // The eighth value, however many there are; no other one.
@@ -62,12 +62,14 @@ fn decision_2_where_a_minus_may_stand() {
     assert_eq!(unit("1,1,1,1,1,1,1,-1,1"), at_line(14, 6));
     assert_eq!(unit("1,1,1,1,1,1,-1,1"), at_line(12, 6));
     assert_eq!(unit("-1"), at_line(12, 6));
-    for place in (0..15).filter(|&place| place != 7) {
-        let mut values = vec!["1"; 15];
-        values[place] = "-1";
-        assert_eq!(unit(&values.join(",")), at_line(12, 6), "{place}");
+    for count in [14, 15, 16] {
+        for place in (0..count).filter(|&place| place != 7) {
+            let mut values = vec!["1"; count];
+            values[place] = "-1";
+            assert_eq!(unit(&values.join(",")), at_line(12, 6), "{count} {place}");
+        }
     }
-    let eight = one_unit(8, "0,0,0,1,1,1,1,-1,1,1,0,0,0,0");
+    let eight = one_unit(8, "0,0,0,1,1,1,1,-1,1,1,0,0,0,0,0");
     let run = "0,0,0,0,0,0,0,-1";
     assert_eq!(under(&eight, &schedule(1, &[run])), at_line(12, 3));
     assert_eq!(
@@ -109,9 +111,9 @@ fn decision_4_one_line_is_judged_whole() {
 
 #[test]
 fn decision_5_31_comes_before_32() {
-    let problem = one_unit(48, "0,0,0,1,1,1,1,1,1,1,0,0,0,0")
+    let problem = one_unit(48, "0,0,0,1,1,1,1,1,1,1,0,0,0,0,1")
         .replace("units=1", "units=2")
-        .replace("end=", "unit=0,0,0,1,1,1,1,1,1,1,0,0,0,0\nend=");
+        .replace("end=", "unit=0,0,0,1,1,1,1,1,1,1,0,0,0,0,1\nend=");
     let mut chain = String::new();
     for depth in 0..64 {
         chain += &format!("split={},{} ", depth / 48 + 1, depth % 48 + 1);
@@ -169,6 +171,11 @@ fn decision_8_counts_of_values() {
     assert_eq!(nodes("split="), at_line(12, 3));
     assert_eq!(nodes("price="), at_line(12, 3));
     assert_eq!(nodes("split"), at_line(12, 3));
+    for count in (1..=20).filter(|&count| count != 15) {
+        let values = vec!["1"; count].join(",");
+        assert_eq!(alone(&one_unit(1, &values)), at_line(14, 6), "{count}");
+    }
+    assert_eq!(alone(&one_unit(1, &["1"; 15].join(","))), held_problem());
     assert_eq!(
         alone(&PROBLEM.replace("end=problem", "end=problem,")),
         at_line(12, 8)
@@ -180,6 +187,7 @@ fn decision_9_the_period_of_a_breach() {
     assert_eq!(runs("60,80", "0,51"), refused(21, 0, 2, 2));
     assert_eq!(runs("59,80", "0,20"), refused(22, 0, 0, 1));
     assert_eq!(runs("40,80", "20,20"), refused(25, 0, 1, 2));
+    assert_eq!(runs("29,59", "50,50"), refused(25, 0, 1, 1));
     let needy = PROBLEM.replace("spare=10,10", "spare=21,10");
     assert_eq!(under(&needy, SCHEDULE), refused(23, 0, 0, 1));
 }
@@ -243,7 +251,7 @@ fn decision_12_never_and_a_minus_are_printed() {
          costwriter=none\nbound=never\nboundwriter=8\ngap=none\nend=report\n"
     );
     // One unit, pU 30, and a reserve multiplier of 1 without need: -30.
-    let minus = one_unit(1, "0,0,0,30,30,1,1,-1,1,1,0,0,0,0") + &tree(2, "price=0 reserve=1");
+    let minus = one_unit(1, "0,0,0,30,30,1,1,-1,1,1,0,0,0,0,0") + &tree(2, "price=0 reserve=1");
     assert_eq!(
         listed(&minus),
         "answer=held\nanswer=held,-30,0,1\nkind=report\ncost=none\n\
@@ -321,4 +329,180 @@ fn decision_14_the_most_pieces_an_input_has() {
     assert_eq!(output.matches("answer=refused,12,1,0,0\n").count(), 13_108);
     assert!(output.ends_with(EMPTY_REPORT));
     assert!(output.len() <= 1_048_576);
+}
+
+/// One unit with these pL, pU, Tini and p0, whose other figures are 0 or 1.
+fn with_p0(limits: &str, initial: &str, p0: &str) -> String {
+    one_unit(1, &format!("0,0,0,{limits},1,1,{initial},1,1,0,0,0,0,{p0}"))
+}
+
+#[test]
+fn decision_65_range_and_place_of_p0() {
+    // 0 and 10,000 are in range, 10,001 is not, whatever pL, pU and Tini say of it.
+    assert_eq!(alone(&with_p0("1,10000", "1", "10000")), held_problem());
+    assert_eq!(alone(&with_p0("10000,10000", "1", "10000")), held_problem());
+    assert_eq!(alone(&with_p0("1,10000", "1", "10001")), at_line(13, 6));
+    assert_eq!(alone(&with_p0("1,9999", "1", "10000")), at_line(15, 6));
+    assert_eq!(alone(&with_p0("1,9999", "1", "10001")), at_line(13, 6));
+    assert_eq!(alone(&with_p0("1,10000", "-1", "0")), held_problem());
+    assert_eq!(alone(&with_p0("1,10000", "-1", "10000")), at_line(15, 6));
+    assert_eq!(alone(&with_p0("1,10000", "-1", "10001")), at_line(13, 6));
+    assert_eq!(alone(&with_p0("9,8", "1", "10001")), at_line(13, 6));
+    // Both limits are allowed; for pL above pU no p0 of a unit that was on fits.
+    for (p0, answer) in [
+        ("6", at_line(15, 6)),
+        ("7", held_problem()),
+        ("8", held_problem()),
+        ("9", held_problem()),
+        ("10", at_line(15, 6)),
+    ] {
+        assert_eq!(alone(&with_p0("7,9", "5", p0)), answer, "{p0}");
+        assert_eq!(alone(&with_p0("9,7", "5", p0)), at_line(15, 6), "{p0}");
+    }
+}
+
+#[test]
+fn decision_65_a_malformed_p0_is_12() {
+    for p0 in ["-1", "-0", "-", "-50", "00", "01", "050", "", " 50", "50 "] {
+        for initial in ["3", "-3"] {
+            let text = with_p0("1,90", initial, p0);
+            assert_eq!(alone(&text), at_line(12, 6), "{initial} {p0:?}");
+        }
+    }
+}
+
+#[test]
+fn decision_65_fourteen_or_sixteen_values_are_14_first() {
+    let unit = |values: &str| alone(&one_unit(1, values));
+    // Nothing else wrong; one value out of range; p0 and Tini at odds; both.
+    for (fourteen, p0) in [
+        ("0,0,0,1,90,1,1,3,1,1,0,0,0,0", "50"),
+        ("0,0,0,1,90,1,1,3,1,1,0,0,49,0", "50"),
+        ("0,0,0,1,90,1,1,3,1,1,0,0,0,0", "10001"),
+        ("0,0,0,1,90,1,1,3,1,1,0,0,0,0", "91"),
+        ("0,0,0,1,90,1,1,-3,1,1,0,0,0,0", "1"),
+        ("0,0,0,90,1,1,1,-3,1,1,1,0,0,0", "10001"),
+    ] {
+        assert_eq!(unit(fourteen), at_line(14, 6), "{fourteen}");
+        for sixteenth in ["0", "50", "10001"] {
+            let sixteen = format!("{fourteen},{p0},{sixteenth}");
+            assert_eq!(unit(&sixteen), at_line(14, 6), "{sixteen}");
+        }
+    }
+    assert_eq!(unit("0,0,0,1,90,1,1,3,1,1,0,0,0,0,50"), held_problem());
+    // 12 of the last value comes first.
+    assert_eq!(unit("0,0,0,1,90,1,1,3,1,1,0,0,0,00"), at_line(12, 6));
+    assert_eq!(unit("0,0,0,1,90,1,1,3,1,1,0,0,0,0,50,"), at_line(12, 6));
+}
+
+/// The answer to a run of one unit with pL 10, pU 90, DR 20, UR 30 and these Tini and p0.
+fn ramped(initial: &str, p0: i64, run: &str) -> second::Answer {
+    let periods = run.split(',').count();
+    let unit = format!("0,0,0,10,90,1,1,{initial},20,30,0,0,0,0,{p0}");
+    under(&one_unit(periods, &unit), &schedule(1, &[run]))
+}
+
+#[test]
+fn decision_66_the_ramp_of_period_1() {
+    for p0 in 10..=90 {
+        for output in 10..=90 {
+            let answer = if p0 - 20 <= output && output <= p0 + 30 {
+                held_schedule(0)
+            } else {
+                refused(25, 0, 1, 1)
+            };
+            // With T = 1 there is this ramp and no other.
+            let one = ramped("1", p0, &output.to_string());
+            assert_eq!(one, answer, "{p0} {output}");
+            let two = ramped("1000", p0, &format!("{output},{output}"));
+            assert_eq!(two, answer, "{p0} {output}");
+        }
+        // Off in period 1 there is none, nor when the unit goes on after that.
+        for run in ["0", "0,0", "0,10", "0,90"] {
+            assert_eq!(ramped("1", p0, run), held_schedule(0), "{p0} {run}");
+        }
+    }
+    // A unit that was off begins anywhere.
+    for output in 10..=90 {
+        let answer = ramped("-1", 0, &output.to_string());
+        assert_eq!(answer, held_schedule(0), "{output}");
+    }
+}
+
+#[test]
+fn decision_66_a_unit_off_before_begins_at_its_most_output() {
+    let off = one_unit(2, "0,0,0,1,10000,1,1,-1,1,1,0,0,0,0,0");
+    let on = one_unit(2, "0,0,0,1,10000,1,1,1,1,1,0,0,0,0,1");
+    let run = schedule(1, &["10000,10000"]);
+    assert_eq!(under(&off, &run), held_schedule(0));
+    assert_eq!(under(&on, &run), refused(25, 0, 1, 1));
+    assert_eq!(under(&on, &schedule(1, &["2,3"])), held_schedule(0));
+    assert_eq!(under(&on, &schedule(1, &["2,4"])), refused(25, 0, 1, 2));
+    // The widest step that p0 can make, up and down, and one that a ramp of 9,998 stops.
+    let widest = "0,0,0,1,10000,1,1,1,9999,9999,0,0,0,0";
+    for (p0, output) in [(1, "10000"), (10_000, "1")] {
+        let free = one_unit(1, &format!("{widest},{p0}"));
+        assert_eq!(under(&free, &schedule(1, &[output])), held_schedule(0));
+        let bound = free.replace("9999", "9998");
+        let answer = under(&bound, &schedule(1, &[output]));
+        assert_eq!(answer, refused(25, 0, 1, 1));
+    }
+}
+
+#[test]
+fn decision_67_costs_do_not_read_p0() {
+    // Going off costs Dc, 7, and staying on a + b·p + c·p·p, from whatever p0.
+    for p0 in 10..=90 {
+        let unit = format!("5,3,2,10,90,1,1,4,90,90,50,90,1,7,{p0}");
+        let problem = one_unit(3, &unit);
+        for (run, cost) in [
+            ("0,0,0", 7),
+            ("20,20,0", 2 * (5 + 60 + 800) + 7),
+            ("0,20,20", 7 + 50 + 2 * (5 + 60 + 800)),
+        ] {
+            let answer = under(&problem, &schedule(1, &[run]));
+            assert_eq!(answer, held_schedule(cost), "{p0} {run}");
+        }
+    }
+}
+
+#[test]
+fn decision_67_a_tree_gets_the_same_answer_whatever_p0_is() {
+    for p0 in [20, 21, 47, 79, 80] {
+        let problem = PROBLEM.replace("1,5,60", &format!("1,5,{p0}"));
+        for (nodes, answer) in [
+            (
+                "split=2,2 short=2 price=10,14 reserve=0,0",
+                held_tree(1980, 1, 2),
+            ),
+            ("price=10,14 reserve=0,2", held_tree(1940, 0, 1)),
+            ("price=0,0 reserve=0,0", held_tree(5, 0, 1)),
+            ("short=2", at_line(33, 3)),
+            ("stuck=1", at_line(34, 3)),
+            (
+                "split=1,1 split=1,2 price=0,0 reserve=0,0 stuck=1 price=0,0 reserve=0,0",
+                held_tree(5, 2, 3),
+            ),
+            (
+                "split=1,1 split=1,2 short=1 price=0,0 reserve=0,0",
+                at_line(35, 7),
+            ),
+        ] {
+            assert_eq!(under(&problem, &tree(1, nodes)), answer, "{p0} {nodes}");
+        }
+    }
+}
+
+/// The bound of a lone price leaf, where the ramp from p0 lets no schedule reach it.
+#[test]
+fn decision_67_a_price_leaf_leaves_the_ramp_from_p0_out() {
+    let problem = one_unit(1, "0,1,0,1,90,1,2,1,5,5,0,0,0,1000,50");
+    let mut docket = holding(&problem);
+    // On at 1 without a price: 1. The least that the ramp allows is 45.
+    let leaf = tree(2, "price=0 reserve=0");
+    assert_eq!(lodge(&mut docket, leaf.as_bytes()), held_tree(1, 0, 1));
+    let low = schedule(3, &["1"]);
+    assert_eq!(lodge(&mut docket, low.as_bytes()), refused(25, 0, 1, 1));
+    let least = schedule(4, &["45"]);
+    assert_eq!(lodge(&mut docket, least.as_bytes()), held_schedule(45));
 }

@@ -3,8 +3,9 @@
 mod common;
 
 use common::*;
-use second::inputs::input;
+use second::inputs::problems::{planted, text, with_initial_output};
 use second::inputs::random::Random;
+use second::inputs::{input, schedules, trees};
 use second::{fresh, lodge, report, Answer, Bound, Docket, Figures};
 
 fn reported(docket: &Docket) -> String {
@@ -40,6 +41,7 @@ fn a_problem_is_held_as_its_text_gives_it() {
         (unit.hot_start, unit.cold_start, unit.hot_periods, unit.stop),
         (20, 60, 0, 0)
     );
+    assert_eq!(unit.initial_output, 0);
     let first = &problem.units[0];
     assert_eq!((first.least_up, first.least_down, first.initial), (2, 2, 3));
     assert_eq!(
@@ -51,12 +53,13 @@ fn a_problem_is_held_as_its_text_gives_it() {
         ),
         (50, 90, 1, 5)
     );
+    assert_eq!(first.initial_output, 60);
 }
 
 /// DR stands before UR in a unit line.
 #[test]
 fn falls_are_limited_by_the_ninth_value_and_rises_by_the_tenth() {
-    let problem = one_unit(2, "0,0,0,1,100,1,1,-1,5,50,0,0,0,0");
+    let problem = one_unit(2, "0,0,0,1,100,1,1,-1,5,50,0,0,0,0,0");
     assert_eq!(under(&problem, &schedule(1, &["1,51"])), held_schedule(0));
     assert_eq!(
         under(&problem, &schedule(1, &["1,52"])),
@@ -90,9 +93,9 @@ fn the_cheapest_schedule_and_the_first_of_its_cost_are_held() {
 /// Two like units: their rows exchanged cost the same, and the first rows stay.
 #[test]
 fn other_rows_of_the_same_cost_are_passed() {
-    let problem = one_unit(1, "0,1,0,1,5,1,1,-1,1,1,0,0,0,0")
+    let problem = one_unit(1, "0,1,0,1,5,1,1,-1,1,1,0,0,0,0,0")
         .replace("units=1", "units=2")
-        .replace("end=", "unit=0,1,0,1,5,1,1,-1,1,1,0,0,0,0\nend=");
+        .replace("end=", "unit=0,1,0,1,5,1,1,-1,1,1,0,0,0,0,0\nend=");
     let mut docket = holding(&problem);
     lodge(&mut docket, schedule(1, &["2", "3"]).as_bytes());
     let before = docket.clone();
@@ -168,7 +171,7 @@ fn the_report_shows_what_is_held() {
 
 #[test]
 fn a_negative_bound_makes_the_gap_larger_than_the_cost() {
-    let mut docket = holding(&one_unit(1, "0,0,0,30,30,1,1,-1,1,1,4,4,0,0"));
+    let mut docket = holding(&one_unit(1, "0,0,0,30,30,1,1,-1,1,1,4,4,0,0,0"));
     lodge(&mut docket, tree(3, "price=0 reserve=1").as_bytes());
     lodge(&mut docket, schedule(4, &["30"]).as_bytes());
     assert_eq!(
@@ -180,7 +183,7 @@ fn a_negative_bound_makes_the_gap_larger_than_the_cost() {
 /// s·R belongs to a leaf's value, s·pU only to a unit that is on.
 #[test]
 fn reserve_multipliers_pay_for_demand_and_spare() {
-    let problem = one_unit(1, "0,0,0,1,7,1,1,-1,1,1,1000,1000,0,0")
+    let problem = one_unit(1, "0,0,0,1,7,1,1,-1,1,1,1000,1000,0,0,0")
         .replace("demand=0", "demand=3")
         .replace("spare=0", "spare=4");
     assert_eq!(
@@ -203,7 +206,7 @@ fn reserve_multipliers_pay_for_demand_and_spare() {
 fn the_largest_figures_fit() {
     let money = 1_000_000_000;
     let unit =
-        format!("{money},10000000,10000,10000,10000,1,1,-1000,1,1,{money},{money},48,{money}");
+        format!("{money},10000000,10000,10000,10000,1,1,-1000,1,1,{money},{money},48,{money},0");
     let most = vec!["320000"; 48].join(",");
     let mut problem = format!("kind=problem\nperiods=48\nunits=32\ndemand={most}\nspare={most}\n");
     for _ in 0..32 {
@@ -260,6 +263,45 @@ fn lists_of_texts_keep_the_docket_in_order() {
             assert!(bound.bound <= Bound::Number(cost.cost), "input {index}");
         }
     }
+}
+
+/// Trees and the rows that are accepted get the same figures whatever p0 is.
+#[test]
+fn no_figure_depends_on_the_initial_outputs() {
+    let mut random = Random::new(78);
+    let (mut accepted, mut refused) = (0, 0);
+    for _ in 0..300 {
+        let mut made = planted(&mut random, 4, 3);
+        let first = holding(&text(&made.problem));
+        let before = made.problem.clone();
+        for unit in &mut made.problem.units {
+            *unit = with_initial_output(&mut random, unit.clone());
+        }
+        let other = holding(&text(&made.problem));
+        if made.problem == before {
+            continue;
+        }
+        for _ in 0..10 {
+            let tree = trees::text(&mut random, &before, 1);
+            let answer = lodge(&mut first.clone(), tree.as_bytes());
+            assert_eq!(lodge(&mut other.clone(), tree.as_bytes()), answer, "{tree}");
+            match answer {
+                Answer::Refused(_) => refused += 1,
+                _ => accepted += 1,
+            }
+        }
+        for rows in &made.schedules {
+            let schedule = schedules::text(1, rows);
+            let answer = lodge(&mut first.clone(), schedule.as_bytes());
+            match lodge(&mut other.clone(), schedule.as_bytes()) {
+                Answer::Refused(refusal) => {
+                    assert_eq!((refusal.number, refusal.period), (25, 1));
+                }
+                again => assert_eq!(again, answer),
+            }
+        }
+    }
+    assert!(accepted > 1_000 && refused > 30, "{accepted} {refused}");
 }
 
 /// Texts cut at random places, ends of lines or not.

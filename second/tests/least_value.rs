@@ -3,7 +3,7 @@
 //! stretches of a status are measured.
 
 use second::generator::Generator;
-use second::inputs::problems::{planted, small_unit, text};
+use second::inputs::problems::{planted, small_unit, text, with_initial_output};
 use second::inputs::random::Random;
 use second::inputs::trees;
 use second::minimum::{best_output_value, is_stuck, least_value};
@@ -107,7 +107,7 @@ fn tiny_unit(random: &mut Random) -> Generator {
     if random.chance(10) {
         unit.initial = random.pick(&[1_000, -1_000]);
     }
-    unit
+    with_initial_output(random, unit)
 }
 
 fn fixed_statuses(random: &mut Random, periods: usize) -> Vec<Option<bool>> {
@@ -212,8 +212,10 @@ fn try_units(problem: &Problem, rows: &mut Vec<Vec<i64>>, paid: i64, least: &mut
     }
 }
 
+/// Of two outputs in turn, p0 and the first among them, none above 0 is too far from the other.
 fn obeys_ramps(unit: &Generator, row: &[i64]) -> bool {
-    row.windows(2).all(|pair| {
+    let outputs = [&[unit.initial_output], row].concat();
+    outputs.windows(2).all(|pair| {
         let step = pair[1] - pair[0];
         pair.contains(&0) || (step <= unit.most_rise && -step <= unit.most_fall)
     })

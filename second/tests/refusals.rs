@@ -12,11 +12,19 @@ fn with_line(number: usize, line: &str) -> String {
     lines.join("\n") + "\n"
 }
 
-/// The example's first unit line with the value at a place (from 1) replaced.
-fn with_unit_value(place: usize, value: &str) -> String {
-    let mut values: Vec<&str> = "100,10,0,20,80,2,2,3,30,30,50,90,1,5".split(',').collect();
-    values[place - 1] = value;
+/// The example's first unit line with the values at some places (from 1) replaced.
+fn with_unit_values(changes: &[(usize, &str)]) -> String {
+    let line = PROBLEM.lines().nth(5).unwrap();
+    let mut values: Vec<&str> = line["unit=".len()..].split(',').collect();
+    for &(place, value) in changes {
+        values[place - 1] = value;
+    }
     with_line(6, &format!("unit={}", values.join(",")))
+}
+
+/// The same with one value replaced.
+fn with_unit_value(place: usize, value: &str) -> String {
+    with_unit_values(&[(place, value)])
 }
 
 #[test]
@@ -60,7 +68,7 @@ fn wrong_keys_are_12() {
         (3, "unit=2"),
         (4, "demands=60,100"),
         (5, "demand=10,10"),
-        (6, "units=100,10,0,20,80,2,2,3,30,30,50,90,1,5"),
+        (6, "units=100,10,0,20,80,2,2,3,30,30,50,90,1,5,60"),
         (8, "end=tree"),
         (8, "end=problem "),
         (8, "end="),
@@ -149,7 +157,10 @@ fn wrong_counts_are_14() {
         (5, "spare=10"),
         (6, "unit=1"),
         (6, "unit=100,10,0,20,80,2,2,3,30,30,50,90,1"),
-        (6, "unit=100,10,0,20,80,2,2,3,30,30,50,90,1,5,5"),
+        (6, "unit=100,10,0,20,80,2,2,3,30,30,50,90,1,5"),
+        (6, "unit=100,10,0,20,80,2,2,3,30,30,50,90,1,5,60,60"),
+        (7, "unit=40,14,0,10,50,1,1,-2,50,50,20,60,0,0"),
+        (7, "unit=40,14,0,10,50,1,1,-2,50,50,20,60,0,0,0,0"),
     ] {
         assert_eq!(
             alone(&with_line(number, line)),
@@ -212,18 +223,18 @@ fn ranges_of_a_unit_line() {
         (1, "0", money),
         (2, "0", "10000000"),
         (3, "0", "10000"),
-        (4, "1", "80"),
-        (5, "20", "10000"),
+        (4, "1", "60"),
+        (5, "60", "10000"),
         (6, "1", "48"),
         (7, "1", "48"),
-        (8, "-1000", "1000"),
-        (8, "-1", "1"),
+        (8, "1", "1000"),
         (9, "1", "10000"),
         (10, "1", "10000"),
         (11, "0", "90"),
         (12, "50", money),
         (13, "0", "48"),
         (14, "0", money),
+        (15, "20", "80"),
     ] {
         for value in [low, high] {
             assert_eq!(
@@ -232,6 +243,17 @@ fn ranges_of_a_unit_line() {
                 "{place} {value}"
             );
         }
+    }
+    // Ends of pL, pU and Tini that go with another p0 than the example's.
+    for changes in [
+        [(4, "80"), (15, "80")],
+        [(5, "20"), (15, "20")],
+        [(5, "10000"), (15, "10000")],
+        [(8, "-1000"), (15, "0")],
+        [(8, "-1"), (15, "0")],
+    ] {
+        let answer = alone(&with_unit_values(&changes));
+        assert_eq!(answer, held_problem(), "{changes:?}");
     }
     for (place, above) in [
         (1, "1000000001"),
@@ -256,6 +278,7 @@ fn ranges_of_a_unit_line() {
         (12, "1000000001"),
         (13, "49"),
         (14, "1000000001"),
+        (15, "10001"),
     ] {
         assert_eq!(
             alone(&with_unit_value(place, above)),
@@ -269,7 +292,7 @@ fn ranges_of_a_unit_line() {
 fn a_numeral_too_large_for_any_number_is_13() {
     for length in [10, 19, 20, 39, 40, 1_000, 100_000] {
         let huge = "9".repeat(length);
-        for place in 1..=14 {
+        for place in 1..=15 {
             assert_eq!(alone(&with_unit_value(place, &huge)), at_line(13, 6));
         }
         assert_eq!(
@@ -326,25 +349,66 @@ fn ranges_of_writers_outputs_and_multipliers() {
 
 #[test]
 fn crossed_limits_are_15() {
-    assert_eq!(alone(&with_unit_value(4, "81")), at_line(15, 6));
-    assert_eq!(alone(&with_unit_value(5, "19")), at_line(15, 6));
+    // The unit was off, so that p0 has nothing to do with its limits.
+    let off = |place, value| alone(&with_unit_values(&[(8, "-3"), (15, "0"), (place, value)]));
+    assert_eq!(off(4, "81"), at_line(15, 6));
+    assert_eq!(off(5, "19"), at_line(15, 6));
+    assert_eq!(off(4, "80"), held_problem());
+    assert_eq!(off(5, "20"), held_problem());
     assert_eq!(alone(&with_unit_value(11, "91")), at_line(15, 6));
     assert_eq!(alone(&with_unit_value(12, "49")), at_line(15, 6));
-    assert_eq!(alone(&with_unit_value(4, "80")), held_problem());
     assert_eq!(alone(&with_unit_value(11, "90")), held_problem());
+}
+
+#[test]
+fn an_initial_output_against_its_rule_is_15() {
+    for (initial, output, answer) in [
+        ("3", "19", at_line(15, 6)),
+        ("3", "20", held_problem()),
+        ("3", "21", held_problem()),
+        ("3", "79", held_problem()),
+        ("3", "80", held_problem()),
+        ("3", "81", at_line(15, 6)),
+        ("3", "0", at_line(15, 6)),
+        ("3", "1", at_line(15, 6)),
+        ("3", "10000", at_line(15, 6)),
+        ("1", "0", at_line(15, 6)),
+        ("1000", "0", at_line(15, 6)),
+        ("-3", "0", held_problem()),
+        ("-3", "1", at_line(15, 6)),
+        ("-1", "1", at_line(15, 6)),
+        ("-1000", "1", at_line(15, 6)),
+        ("-3", "20", at_line(15, 6)),
+        ("-3", "60", at_line(15, 6)),
+        ("-3", "80", at_line(15, 6)),
+        ("-3", "10000", at_line(15, 6)),
+    ] {
+        let text = with_unit_values(&[(8, initial), (15, output)]);
+        assert_eq!(alone(&text), answer, "{initial} {output}");
+    }
+    // It stands at the line of the unit.
+    let second = with_line(7, "unit=40,14,0,10,50,1,1,-2,50,50,20,60,0,0,1");
+    assert_eq!(alone(&second), at_line(15, 7));
 }
 
 #[test]
 fn one_line_goes_by_12_14_13_15() {
     // Crossed limits (15) and then, one by one, a worse fault of the same line.
     for (line, number) in [
-        ("unit=1,1,1,9,8,1,1,1,1,1,0,0,0,0", 15),
-        ("unit=1,1,1,9,8,1,1,0,1,1,0,0,0,0", 13),
-        ("unit=1,1,1,9,8,1,1,0,1,1,0,0,0", 14),
-        ("unit=1,1,1,9,8,1,1,0,1,1,0,0,00", 12),
+        ("unit=1,1,1,9,8,1,1,-1,1,1,0,0,0,0,0", 15),
+        ("unit=1,1,1,9,8,1,1,0,1,1,0,0,0,0,0", 13),
+        ("unit=1,1,1,9,8,1,1,0,1,1,0,0,0,0", 14),
+        ("unit=1,1,1,9,8,1,1,0,1,1,0,0,0,00", 12),
         ("unit=1000000001,1,1,9,8,1,1,0,1,1,0,0,0,0,0,-0", 12),
-        ("unit=1000000001,1,1,9,8,1,1,0,1,1,0,0,0,0,0", 14),
-        ("unit=1,1,1,1,8,1,1,1,1,1,5,4,0,1000000001", 13),
+        ("unit=1000000001,1,1,9,8,1,1,0,1,1,0,0,0,0,0,0", 14),
+        ("unit=1,1,1,1,8,1,1,1,1,1,5,4,0,1000000001,1", 13),
+        // The same with p0 at fault, first by Tini.
+        ("unit=1,1,1,5,8,1,1,-1,1,1,0,0,0,0,5", 15),
+        ("unit=1,1,1,5,8,1,1,-1,1,1,0,0,0,0,10001", 13),
+        ("unit=1,1,1,5,8,1,1,-1,1,1,0,0,0,0,10001,0", 14),
+        ("unit=1,1,1,5,8,1,1,-1,1,1,0,0,0,0,10001,", 12),
+        // A line in range but for Tini, whose p0 would fit no Tini.
+        ("unit=1,1,1,5,8,1,1,0,1,1,0,0,0,0,9", 13),
     ] {
         assert_eq!(alone(&with_line(6, line)), at_line(number, 6), "{line}");
     }
@@ -413,16 +477,17 @@ fn rule_24_names_the_first_period_not_permitted() {
         under(&young, &schedule(1, &["0,0", "0,0"])),
         refused(24, 0, 1, 1)
     );
+    // From a p0 of 60 it may fall to 30.
     assert_eq!(
-        under(&young, &schedule(1, &["20,0", "0,0"])),
-        held_schedule(305)
+        under(&young, &schedule(1, &["30,0", "0,0"])),
+        held_schedule(405)
     );
 }
 
 #[test]
 fn rule_24_names_the_lowest_unit_of_the_lowest_period() {
-    let unit = "unit=0,0,0,1,1,2,2,1,1,1,0,0,0,0\n";
-    let late = "unit=0,0,0,1,1,2,2,5,1,1,0,0,0,0\n";
+    let unit = "unit=0,0,0,1,1,2,2,1,1,1,0,0,0,0,1\n";
+    let late = "unit=0,0,0,1,1,2,2,5,1,1,0,0,0,0,1\n";
     let head = "kind=problem\nperiods=3\nunits=3\ndemand=0,0,0\nspare=0,0,0\n";
     let problem = format!("{head}{late}{unit}{unit}end=problem\n");
     // Unit 1 goes off and on again in period 2; units 2 and 3 go off in period 1.
@@ -442,7 +507,7 @@ fn rule_24_names_the_lowest_unit_of_the_lowest_period() {
 
 #[test]
 fn rule_25_names_the_later_period() {
-    let unit = "0,0,0,10,90,1,1,-1,20,30,0,0,0,0";
+    let unit = "0,0,0,10,90,1,1,-1,20,30,0,0,0,0,0";
     let problem = one_unit(4, unit);
     for (run, answer) in [
         ("10,40,70,90", held_schedule(0)),
@@ -456,9 +521,51 @@ fn rule_25_names_the_later_period() {
     ] {
         assert_eq!(under(&problem, &schedule(1, &[run])), answer, "{run}");
     }
-    // Period 1 is free, also for a unit that was on.
-    let on = one_unit(1, "0,0,0,10,90,1,1,5,1,1,0,0,0,0");
-    assert_eq!(under(&on, &schedule(1, &["90"])), held_schedule(0));
+}
+
+/// (11) and (12) from p0 to the first output, DR being 20 and UR 30.
+#[test]
+fn rule_25_names_period_1_for_a_ramp_from_the_initial_output() {
+    let problem = one_unit(3, "0,0,0,10,90,1,1,1,20,30,0,0,0,0,50");
+    for (run, answer) in [
+        ("50,50,50", held_schedule(0)),
+        ("80,80,80", held_schedule(0)),
+        ("81,81,81", refused(25, 0, 1, 1)),
+        ("90,90,90", refused(25, 0, 1, 1)),
+        ("30,30,30", held_schedule(0)),
+        ("29,29,29", refused(25, 0, 1, 1)),
+        ("10,10,10", refused(25, 0, 1, 1)),
+        // Period 1 comes before the others.
+        ("81,60,81", refused(25, 0, 1, 1)),
+        ("80,59,80", refused(25, 0, 1, 2)),
+        ("80,60,91", refused(21, 0, 1, 3)),
+        // Off in period 1: neither there nor when it goes on again.
+        ("0,0,0", held_schedule(0)),
+        ("0,90,70", held_schedule(0)),
+        ("0,10,40", held_schedule(0)),
+    ] {
+        assert_eq!(under(&problem, &schedule(1, &[run])), answer, "{run}");
+    }
+}
+
+/// In period 1 the lowest unit is named, and period 1 before a lower unit of period 2.
+#[test]
+fn rule_25_names_the_lowest_unit_of_the_lowest_period() {
+    let unit = "unit=0,0,0,1,100,1,1,4,10,10,0,0,0,0,50\n";
+    let off = "unit=0,0,0,1,100,1,1,-4,10,10,0,0,0,0,0\n";
+    let head = "kind=problem\nperiods=2\nunits=3\ndemand=0,0\nspare=0,0\n";
+    let problem = format!("{head}{off}{unit}{unit}end=problem\n");
+    for (rows, answer) in [
+        (["100,90", "60,70", "40,30"], held_schedule(0)),
+        (["100,90", "61,70", "39,30"], refused(25, 0, 2, 1)),
+        (["100,90", "39,30", "61,70"], refused(25, 0, 2, 1)),
+        (["100,90", "60,70", "39,30"], refused(25, 0, 3, 1)),
+        (["100,89", "60,70", "39,30"], refused(25, 0, 3, 1)),
+        (["100,89", "60,71", "40,30"], refused(25, 0, 1, 2)),
+        (["100,90", "0,0", "61,70"], refused(25, 0, 3, 1)),
+    ] {
+        assert_eq!(under(&problem, &schedule(1, &rows)), answer, "{rows:?}");
+    }
 }
 
 #[test]
@@ -484,6 +591,22 @@ fn a_schedule_goes_by_its_lowest_number() {
         under(&slow, &schedule(1, &["49,80", "11,20"])),
         refused(24, 0, 2, 1)
     );
+    // 24 in period 2 before 25 in period 1, from a p0 of 20; 23 before it too.
+    let low = PROBLEM.replace("1,5,60", "1,5,20");
+    assert_eq!(
+        under(&low, &schedule(1, &["60,80", "0,20"])),
+        refused(25, 0, 1, 1)
+    );
+    let low = slow.replace("1,5,60", "1,5,20");
+    assert_eq!(
+        under(&low, &schedule(1, &["60,80", "0,20"])),
+        refused(24, 0, 2, 2)
+    );
+    let low = tight.replace("1,5,60", "1,5,20");
+    assert_eq!(
+        under(&low, &schedule(1, &["60,80", "0,20"])),
+        refused(23, 0, 0, 1)
+    );
 }
 
 #[test]
@@ -507,9 +630,9 @@ fn a_status_is_fixed_only_below_its_split() {
 
 #[test]
 fn a_split_at_depth_64_is_32() {
-    let problem = one_unit(48, "0,0,0,1,1,1,1,1,1,1,0,0,0,0")
+    let problem = one_unit(48, "0,0,0,1,1,1,1,1,1,1,0,0,0,0,1")
         .replace("units=1", "units=2")
-        .replace("end=", "unit=0,0,0,1,1,1,1,1,1,1,0,0,0,0\nend=");
+        .replace("end=", "unit=0,0,0,1,1,1,1,1,1,1,0,0,0,0,1\nend=");
     let zeros = vec!["0"; 48].join(",");
     let leaf = format!("price={zeros} reserve={zeros} ");
     let chain = |splits: usize| -> String {

@@ -96,7 +96,7 @@ fn hot_start_and_cold_start() {
         (-2, 2, 90),
         (-1000, 1, 90),
     ] {
-        let problem = one_unit(3, &format!("0,0,0,1,1,1,1,{initial},1,1,50,90,1,0"));
+        let problem = one_unit(3, &format!("0,0,0,1,1,1,1,{initial},1,1,50,90,1,0,0"));
         let outputs: Vec<&str> = (1..=3)
             .map(|period| if period < first_on { "0" } else { "1" })
             .collect();
@@ -108,7 +108,7 @@ fn hot_start_and_cold_start() {
 /// The same after a stop inside the horizon.
 #[test]
 fn hot_start_and_cold_start_after_a_stop() {
-    let problem = one_unit(5, "0,0,0,1,1,1,1,4,1,1,50,90,1,7");
+    let problem = one_unit(5, "0,0,0,1,1,1,1,4,1,1,50,90,1,7,1");
     for (run, cost) in [
         ("1,0,1,1,1", 57),
         ("1,0,0,1,1", 57),
@@ -123,7 +123,7 @@ fn hot_start_and_cold_start_after_a_stop() {
 
 #[test]
 fn first_on_in_period_2_is_too_soon_and_in_3_is_not() {
-    let problem = one_unit(3, "0,0,0,1,1,1,3,-1,1,1,0,0,0,0");
+    let problem = one_unit(3, "0,0,0,1,1,1,3,-1,1,1,0,0,0,0,0");
     assert_eq!(
         under(&problem, &schedule(1, &["0,1,1"])),
         refused(24, 0, 1, 2)

@@ -13,8 +13,24 @@ use second::{inputs, listing};
 const ENOUGH_INPUTS: u64 = 500;
 const LEAST_OF_EACH: u64 = 5;
 
-const REFUSALS: [&str; 16] = [
-    "12", "13", "14", "15", "21", "22", "23", "24", "25", "31", "32", "33", "34", "35", "41", "42",
+const REFUSALS: [&str; 17] = [
+    "12",
+    "13",
+    "14",
+    "15",
+    "21",
+    "22",
+    "23",
+    "24",
+    "25 in period 1",
+    "25 later",
+    "31",
+    "32",
+    "33",
+    "34",
+    "35",
+    "41",
+    "42",
 ];
 
 const ACCEPTED: [&str; 7] = [
@@ -51,7 +67,7 @@ impl Table {
     fn add_answer(&mut self, answer: &str) {
         let words: Vec<&str> = answer.split(',').collect();
         if words[0] == "refused" {
-            self.add(&format!("refused {}", words[1]));
+            self.add(&format!("refused {}", refusal_kind(words[1], words[4])));
             return;
         }
         let text = ["problem", "schedule", "", "tree"][words.len() - 1];
@@ -78,6 +94,15 @@ impl Table {
         for (kind, count) in &self.0 {
             println!("{count:8} {kind}");
         }
+    }
+}
+
+/// The number of a refusal, and for 25 whether the ramp from p0 is broken or a later one.
+fn refusal_kind<'a>(number: &'a str, period: &str) -> &'a str {
+    match (number, period) {
+        ("25", "1") => "25 in period 1",
+        ("25", _) => "25 later",
+        _ => number,
     }
 }
 

@@ -1,5 +1,6 @@
 //! Damage to a text: one line, value or byte is changed.
 
+use crate::inputs::problems::joined;
 use crate::inputs::random::Random;
 
 const NUMERALS: [&str; 34] = [
@@ -142,21 +143,48 @@ fn nudged(random: &mut Random, value: &str) -> String {
 
 /// A problem text with pL and pU, or Hsc and Csc, of one unit exchanged or one apart.
 pub fn crossed_limits(random: &mut Random, text: &str) -> Vec<u8> {
+    change_unit_line(random, text, |random, values| {
+        let (low, high) = random.pick(&[(3, 4), (10, 11)]);
+        match random.chance(50) {
+            true => values.swap(low, high),
+            false => values[low] = values[high] + 1,
+        }
+    })
+}
+
+/// A problem text in which the p0 of one unit misses its limits by one, does not go with Tini, is
+/// out of range or missing, or has another value after it.
+pub fn wrong_initial_output(random: &mut Random, text: &str) -> Vec<u8> {
+    change_unit_line(random, text, |random, values| {
+        let (least, most, was_on) = (values[3], values[4], values[7] > 0);
+        match random.below(8) {
+            0 => values[14] = 10_001,
+            1 => {
+                values.pop();
+            }
+            2 => values.push(random.pick(&[0, most])),
+            _ if was_on => values[14] = random.pick(&[least - 1, most + 1, 0]),
+            _ => values[14] = random.pick(&[1, least, most]),
+        }
+    })
+}
+
+/// A problem text with the values of one of its unit lines changed.
+fn change_unit_line(
+    random: &mut Random,
+    text: &str,
+    change: fn(&mut Random, &mut Vec<i64>),
+) -> Vec<u8> {
     let mut lines: Vec<String> = text.lines().map(str::to_string).collect();
     let units: Vec<usize> = (0..lines.len())
         .filter(|&at| lines[at].starts_with("unit="))
         .collect();
     let at = random.pick(&units);
-    let mut values: Vec<String> = lines[at]["unit=".len()..]
+    let mut values: Vec<i64> = lines[at]["unit=".len()..]
         .split(',')
-        .map(str::to_string)
+        .map(|numeral| numeral.parse().expect("a problem text before any damage"))
         .collect();
-    let (low, high) = random.pick(&[(3, 4), (10, 11)]);
-    let above = values[high].parse::<i64>().unwrap_or(0) + 1;
-    match random.chance(50) {
-        true => values.swap(low, high),
-        false => values[low] = above.to_string(),
-    }
-    lines[at] = format!("unit={}", values.join(","));
+    change(random, &mut values);
+    lines[at] = format!("unit={}", joined(&values));
     (lines.join("\n") + "\n").into_bytes()
 }

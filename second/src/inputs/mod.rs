@@ -90,6 +90,7 @@ fn before_the_problem(random: &mut Random, planted: &Planted) -> Vec<u8> {
         1 | 2 => damage::damaged(random, &text),
         3 => schedule(random, planted),
         4 => tree(random, planted),
+        5 => damage::wrong_initial_output(random, &text),
         _ => Vec::new(),
     }
 }

@@ -117,6 +117,7 @@ fn make_impossible(random: &mut Random, planted: &mut Planted) {
     if random.chance(70) {
         unit.least_down = (period as i64 + random.between(2, 4)).min(48);
         unit.initial = -random.between(1, 2).min(unit.least_down - 1).max(1);
+        unit.initial_output = 0;
         needed -= unit.most_output;
     }
     problem.spare[period] = (needed + 1 - problem.demand[period]).clamp(0, 320_000);
@@ -131,10 +132,22 @@ pub fn unit(random: &mut Random, figures: Figures) -> Generator {
     }
 }
 
+/// The generator with a p0 that goes with its Tini, pL and pU.
+pub fn with_initial_output(random: &mut Random, unit: Generator) -> Generator {
+    let initial_output = match unit.initially_on() {
+        true => random.edgy(unit.least_output, unit.most_output),
+        false => 0,
+    };
+    Generator {
+        initial_output,
+        ..unit
+    }
+}
+
 pub fn small_unit(random: &mut Random) -> Generator {
     let least_output = random.between(1, 6);
     let hot_start = random.between(0, 30);
-    Generator {
+    let unit = Generator {
         fixed_cost: random.between(0, 30),
         linear_cost: random.between(0, 12),
         square_cost: random.pick(&[0, 0, 1, 2, 3]),
@@ -149,7 +162,9 @@ pub fn small_unit(random: &mut Random) -> Generator {
         cold_start: hot_start + random.between(0, 30),
         hot_periods: random.between(0, 3),
         stop: random.between(0, 10),
-    }
+        initial_output: 0,
+    };
+    with_initial_output(random, unit)
 }
 
 fn usual_unit(random: &mut Random) -> Generator {
@@ -157,7 +172,7 @@ fn usual_unit(random: &mut Random) -> Generator {
     let most_output = least_output + random.between(0, 400);
     let hot_start = random.between(0, 50_000_000);
     let ramp = random.pick(&[20, 50, 200, 10_000]);
-    Generator {
+    let unit = Generator {
         fixed_cost: random.between(0, 100_000_000),
         linear_cost: random.between(0, 3_000_000),
         square_cost: random.pick(&[0, 1, 48, 211, 712, 3_001]),
@@ -172,7 +187,9 @@ fn usual_unit(random: &mut Random) -> Generator {
         cold_start: hot_start * 2,
         hot_periods: random.between(0, 5),
         stop: random.pick(&[0, 1_000, 9_000_000]),
-    }
+        initial_output: 0,
+    };
+    with_initial_output(random, unit)
 }
 
 /// Every value at or near an end of its range, more often than not.
@@ -180,7 +197,7 @@ fn edge_unit(random: &mut Random) -> Generator {
     let outputs = [random.edgy(1, 10_000), random.edgy(1, 10_000)];
     let starts = [random.edgy(0, 1_000_000_000), random.edgy(0, 1_000_000_000)];
     let same = random.chance(25);
-    Generator {
+    let unit = Generator {
         fixed_cost: random.edgy(0, 1_000_000_000),
         linear_cost: random.edgy(0, 10_000_000),
         square_cost: random.edgy(0, 10_000),
@@ -199,7 +216,9 @@ fn edge_unit(random: &mut Random) -> Generator {
         cold_start: starts[0].max(starts[1]),
         hot_periods: random.edgy(0, 48),
         stop: random.edgy(0, 1_000_000_000),
-    }
+        initial_output: 0,
+    };
+    with_initial_output(random, unit)
 }
 
 fn edgy_initial(random: &mut Random) -> i64 {
@@ -243,6 +262,7 @@ fn unit_line(unit: &Generator) -> String {
         unit.cold_start,
         unit.hot_periods,
         unit.stop,
+        unit.initial_output,
     ];
     format!("unit={}", joined(&values))
 }

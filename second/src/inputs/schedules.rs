@@ -8,7 +8,8 @@ use crate::schedule::check_rules;
 
 type Rows = Vec<Vec<i64>>;
 
-/// For each unit a run that obeys its up and down times, with outputs inside its limits and ramps.
+/// For each unit a run that obeys its up and down times, with outputs inside its limits and ramps,
+/// the ramp from p0 among them.
 pub fn planted_rows(random: &mut Random, units: &[Generator], periods: usize) -> Rows {
     let liveliness = random.pick(&[10, 40, 80]);
     units
@@ -32,7 +33,7 @@ fn planted_row(
             spent = 0;
         }
         spent += 1;
-        let before = row.last().copied().unwrap_or(0);
+        let before = row.last().copied().unwrap_or(unit.initial_output);
         row.push(if on {
             next_output(random, unit, before)
         } else {
@@ -82,7 +83,7 @@ pub fn spoil(random: &mut Random, problem: &Problem, rows: &mut Rows) {
     let period = random.below(problem.periods());
     let generator = &problem.units[unit];
     let row = &mut rows[unit];
-    match random.below(10) {
+    match random.below(14) {
         0 => row[period] = generator.least_output - 1,
         1 => row[period] = (generator.most_output + 1).min(10_000),
         2 => row[period] = (row[period] - 1).max(0),
@@ -91,7 +92,29 @@ pub fn spoil(random: &mut Random, problem: &Problem, rows: &mut Rows) {
         5 => row[period] = generator.least_output,
         6 => start_too_soon(random, generator, row),
         7 => row[period..].fill(0),
-        _ => break_ramp(random, generator, row),
+        8..=10 => break_ramp(random, generator, row),
+        _ => break_first_ramp(random, problem, rows),
+    }
+}
+
+/// Puts the first output of a unit that stays on one beyond what the ramp from p0 reaches.
+fn break_first_ramp(random: &mut Random, problem: &Problem, rows: &mut Rows) {
+    let mut beyond = Vec::new();
+    for (unit, generator) in problem.units.iter().enumerate() {
+        let before = generator.initial_output;
+        let rise = before + generator.most_rise + 1;
+        let fall = before - generator.most_fall - 1;
+        let stays_on = before > 0 && rows[unit][0] > 0;
+        if stays_on && rise <= generator.most_output {
+            beyond.push((unit, rise));
+        }
+        if stays_on && fall >= generator.least_output {
+            beyond.push((unit, fall));
+        }
+    }
+    if !beyond.is_empty() {
+        let (unit, output) = random.pick(&beyond);
+        rows[unit][0] = output;
     }
 }
 
@@ -129,7 +152,7 @@ fn start_too_soon(random: &mut Random, unit: &Generator, row: &mut [i64]) {
 }
 
 /// The text of a schedule.
-pub fn text(writer: i64, rows: &Rows) -> String {
+pub fn text(writer: i64, rows: &[Vec<i64>]) -> String {
     let mut lines = vec!["kind=schedule".to_string(), format!("writer={writer}")];
     lines.extend(rows.iter().map(|row| format!("run={}", joined(row))));
     lines.push("end=schedule\n".to_string());

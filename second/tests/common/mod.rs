@@ -3,14 +3,14 @@
 
 use second::{fresh, lodge, Answer, Bound, Docket, Figures, Refusal};
 
-/// The problem of document 01's listing example.
+/// The problem of document 01's listing example, its units having 60 and 0 for p0.
 pub const PROBLEM: &str = "kind=problem
 periods=2
 units=2
 demand=60,100
 spare=10,10
-unit=100,10,0,20,80,2,2,3,30,30,50,90,1,5
-unit=40,14,0,10,50,1,1,-2,50,50,20,60,0,0
+unit=100,10,0,20,80,2,2,3,30,30,50,90,1,5,60
+unit=40,14,0,10,50,1,1,-2,50,50,20,60,0,0,0
 end=problem
 ";
 
