@@ -9,7 +9,7 @@
 #include <string.h>
 #include <time.h>
 
-#define NUMBERS ((size_t)586)
+#define NUMBERS ((size_t)618)
 #define ROWS ((size_t)1536)
 
 /* A row is timed for so long, and so often at least. */

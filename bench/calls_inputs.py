@@ -44,7 +44,7 @@ def line(key: str, values: Iterable[int]) -> str:
 
 
 def problem(random: Iterator[int]) -> str:
-    """A problem of 32 units and 48 periods; the units were on for 100 periods and more, and reach 1,001 at least."""
+    """A problem of 32 units and 48 periods; the units were on for 100 periods and more, gave 1,000 at last and reach 1,001."""
     text = line("demand", [20_000] * PERIODS) + line("spare", [2_000] * PERIODS)
     for _ in range(UNITS):
         low = 1 + next(random) % 1_000
@@ -53,7 +53,7 @@ def problem(random: Iterator[int]) -> str:
         since = 100 + next(random) % 900
         hot, stop = (next(random) % 1_000_000 for _ in range(2))
         costs = [fixed, by_output, by_square]
-        text += line("unit", [*costs, low, high, 5, 5, since, 10_000, 10_000, hot, 10 * hot, 4, stop])
+        text += line("unit", [*costs, low, high, 5, 5, since, 10_000, 10_000, hot, 10 * hot, 4, stop, 1_000])
     return f"kind=problem\nperiods={PERIODS}\nunits={UNITS}\n{text}end=problem\n"
 
 

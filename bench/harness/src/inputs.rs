@@ -59,7 +59,8 @@ pub fn row(key: &str, values: impl Iterator<Item = u64>) -> String {
     format!("{key}={}\n", values.join(","))
 }
 
-/// A problem with the loads given, whose units have been on, or off where `off` says so, for 100 periods and more.
+/// A problem with the loads given, whose units have been on, or off where `off` says so, for 100 periods and more; on, they gave
+/// 1,000 at midnight.
 pub fn problem(r: &mut Random, times: Times, demand: u64, spare: u64, off: bool) -> String {
     let mut text = format!("kind=problem\nperiods={PERIODS}\nunits={UNITS}\n");
     text += &row("demand", (0..PERIODS).map(|_| demand));
@@ -77,10 +78,10 @@ pub fn problem(r: &mut Random, times: Times, demand: u64, spare: u64, off: bool)
             down,
             cold_after,
         } = times;
-        let sign = if off { "-" } else { "" };
+        let (sign, midnight) = if off { ("-", 0) } else { ("", 1_000) };
         let since = r.within(100, 1_000);
         let (hot, stop) = (r.within(0, 1_000_000), r.within(0, 1_000_000_000));
-        text += &format!("unit={a},{b},{c},{low},{high},{up},{down},{sign}{since},10000,10000,{hot},1000000000,{cold_after},{stop}\n");
+        text += &format!("unit={a},{b},{c},{low},{high},{up},{down},{sign}{since},10000,10000,{hot},1000000000,{cold_after},{stop},{midnight}\n");
     }
     text + "end=problem\n"
 }
@@ -91,6 +92,7 @@ pub fn with_first_unit_stuck(problem: String) -> String {
     let end = at + problem[at..].find('\n').unwrap();
     let mut values: Vec<&str> = problem[at..end].split(',').collect();
     values[7] = "-1";
+    values[14] = "0";
     format!("{}{}{}", &problem[..at], values.join(","), &problem[end..])
 }
 

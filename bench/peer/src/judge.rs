@@ -67,7 +67,7 @@ fn judge_row(
     let mut cost = 0;
     let mut was_on = g.on;
     let mut spent = g.since;
-    let mut before = 0u64;
+    let mut before = g.midnight;
     for t in 0..row.len() {
         let p = row[t] as u64;
         let on = p != 0;

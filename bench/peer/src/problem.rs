@@ -22,6 +22,22 @@ pub struct Unit {
     pub cold: u64,
     pub cold_after: usize,
     pub stop: u64,
+    pub midnight: u64,
+}
+
+impl Unit {
+    /// Whether the numbers are ordered: low and high, hot and cold, and the output at midnight by the status then.
+    fn is_ordered(&self) -> bool {
+        let (least, most) = if self.on {
+            (self.low, self.high)
+        } else {
+            (0, 0)
+        };
+        self.low <= self.high
+            && self.hot <= self.cold
+            && least <= self.midnight
+            && self.midnight <= most
+    }
 }
 
 pub struct Problem {
@@ -37,7 +53,7 @@ const OUTPUT: (u64, u64) = (1, 10_000);
 const TIME: (u64, u64) = (1, 48);
 const MOST_LOAD: u64 = 320_000;
 
-const UNIT_LINE: [(u64, u64); 14] = [
+const UNIT_LINE: [(u64, u64); 15] = [
     COST,
     (0, 10_000_000),
     (0, 10_000),
@@ -52,6 +68,7 @@ const UNIT_LINE: [(u64, u64); 14] = [
     COST,
     (0, 48),
     COST,
+    (0, 10_000),
 ];
 
 impl Problem {
@@ -84,7 +101,7 @@ impl Problem {
         for u in 0..self.units {
             lines.take_ranges(b"unit=", 8, &UNIT_LINE)?;
             let unit = unit_of(&lines.values, lines.minus);
-            if unit.low > unit.high || unit.hot > unit.cold {
+            if !unit.is_ordered() {
                 lines.line -= 1;
                 return Err(15);
             }
@@ -114,5 +131,6 @@ fn unit_of(v: &[u64; 48], minus: bool) -> Unit {
         cold: v[11],
         cold_after: v[12] as usize,
         stop: v[13],
+        midnight: v[14],
     }
 }
