@@ -1,5 +1,6 @@
 -- What document 02 asks, request by request and clause by clause, each proved in a line; then a witness. The words used are defined in specs/; what
--- the texts of a list are is `Is` and `Are` (specs/Texts.antt). What a request changes in problems, rules and refusals is in the definitions of which Promises.antt speaks.
+-- the texts of a list are is `Is` and `Are` (specs/Texts.antt). What a request changes in problems, rules and refusals is in the definitions of which
+-- Promises.antt speaks.
 use mathlib.Core.Path.{_≡_, refl}
 use mathlib.Core.Bool.{Bool, false}
 use mathlib.Core.List.{List, [], _∷_, map}
@@ -92,9 +93,9 @@ pub fifteen-exactly : (more : ℕ) (so-far : Instance) (g : Generator) → InRan
     → First 15 (tests (unit-due more so-far) (ended (unit-line g))) ↔ (Ordered g → ⊥)
 fifteen-exactly = order-refused
 
--- Trees, costs and the printed rules do not read p0. Of two problems alike but for it, a text that begins with kind=tree is the same to both: accepted with the same bound, splits and
--- leaves, or refused by the same number at the same line; and every schedule has one cost, and keeps the rules as printed, their ramps from period 2 on, in
--- both or in neither
+-- Trees, costs and the printed rules do not read p0. Of two problems alike but for it, a text that begins with kind=tree is the same to both: accepted with
+-- the same bound, splits and leaves, or refused by the same number at the same line; and every schedule has one cost, and keeps the rules as printed, their
+-- ramps from period 2 on, in both or in neither
 pub p0-unread : (P P′ : Instance) → AlikeButMidnight P P′
     → (WellFormed P → WellFormed P′ → (text : List ℕ) → Begins text kindTree → (v : Verdict) → Is (some P) text v ↔ Is (some P′) text v)
     × ((s : Schedule) → (cost P s ≡ cost P′ s) × (MeetsPrinted P s ↔ MeetsPrinted P′ s))
