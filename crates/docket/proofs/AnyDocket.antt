@@ -1,37 +1,98 @@
--- Of every value of the struct, sound or not (demand 1): what is refused gets the number and place that document 01 gives it under the problem that the
+-- Of every value of the struct, sound or not (demand 1): what is refused gets document 01's number and place under the problem that the
 -- value judges by; what is refused or passed leaves it; and a report leaves it and writes what it shows at the place, or is 43.
 use mathlib.Core.Path.{_≡_, refl, sym, ap, subst, _∙_}
-use mathlib.Core.Bool.{Bool, true, false}
+use mathlib.Core.Bool.{Bool, true, false, _&&_}
 use mathlib.Core.List.{List}
 use mathlib.Core.Logic.{_↔_}
-use Prim.Native.Nat.{ℕ}
+use mathlib.Core.Option.{Option, none, some}
+use Prim.Native.Nat.{ℕ, _<_}
 use native.Mathlib.Omega.{arith}
-use lib.Dec.{ltb}
+use lib.Dec.{T, ltb}
 use lib.ListN.{length}
+use borrow.Author.Tests.{ltb-true, lt-ltb}
 use Rattle.model.specs.Instance.{Instance}
-use Rattle.model.specs.Held.{view, blank-problem}
+use Rattle.model.specs.Held.{view, blank-problem, Valid, valid-problem}
+use Rattle.model.proofs.Tests.{T-true}
 use Rattle.model.proofs.Valid.{valid-is}
 use Rattle.refusal.specs.declared.Refusal.{Refusal}
 use Rattle.report.specs.Report.{has-room}
 use Rattle.report.specs.Answers as report-answers
 use Rattle.text.specs.Lines.{lineAt, kindOf}
+use Rattle.text.proofs.Cuts.{and-both}
 use Rattle.text.specs.declared.Kind.{Kind}
 use Rattle.text.specs.declared.Kind.the-variants as kind
 use Rattle.answer.specs.declared.Answer.the-variants.{ScheduleHeld, SchedulePassed, TreeHeld, TreePassed}
 use Rattle.answer.specs.Answers as answers
 use Rattle.answer.specs.Answers.{stated}
 use Rattle.docket.specs.declared.Docket.{Docket}
-use Rattle.docket.specs.Docket.{fresh-docket, sound}
+use Rattle.docket.specs.declared.held.CostBy.{CostBy}
+use Rattle.docket.specs.declared.held.BoundBy.{BoundBy}
+use Rattle.docket.specs.declared.held.HeldCost.{HeldCost}
+use Rattle.docket.specs.declared.held.HeldCost.the-variants as cost
+use Rattle.docket.specs.declared.held.HeldBound.{HeldBound}
+use Rattle.docket.specs.declared.held.HeldBound.the-variants as bound
+use Rattle.docket.specs.Docket.{fresh-docket, size-limit, small-number, small-cost, small-bound, sound}
 use Rattle.docket.specs.Verdicts as verdict
 use Rattle.docket.specs.Verdicts.{Verdict}
 use Rattle.docket.specs.Texts.{Is}
 use Rattle.docket.specs.Lodging.{pick, lodged, hold, judged, admit, admit-kind, refuse-whole, by-lines, trusted, lodge-of, is-less, is-higher, with-schedule, with-bound, given-figures}
 use Rattle.docket.specs.Report.{text-shown, report-of, buffer-of}
 use Rattle.docket.specs.ReportDue.{Outcome}
-use Rattle.docket.specs.Promised.{Long, if-known, judged-under}
+use Rattle.docket.specs.Promised.{Long, KnownSound, JudgesBy, its-own, no-problem}
 use Rattle.docket.proofs.OneVerdict.{Fine, verdict-of, verdict-is, is-verdict}
 use Rattle.docket.proofs.Following.{sound-valid}
 use Rattle.docket.proofs.ReportDue.{written-or-refused}
+
+-- ---- the problem that it judges by
+
+abbrev if-known : Bool → Instance → Option Instance
+if-known true P = some P
+if-known false P = none
+
+-- as lodging finds it
+abbrev judged-under : Docket → Option Instance
+judged-under d = if-known (trusted d .known) (view (trusted d .problem))
+
+small-so : (c : HeldCost) → ((by : CostBy) → c ≡ cost.Number by → by .cost < size-limit) → small-cost c ≡ true
+small-so cost.Nothing h = refl
+small-so (cost.Number n) h = lt-ltb (n .cost) size-limit (h n refl)
+
+so-small : (c : HeldCost) → small-cost c ≡ true → (by : CostBy) → c ≡ cost.Number by → by .cost < size-limit
+so-small cost.Nothing s by e = absurd (let z : _≡_ {A = ℕ} 0 1 = cc in omega arith)
+so-small (cost.Number n) s by e = let k : n ≡ by = cc in subst (λ (x : CostBy). x .cost < size-limit) k (ltb-true (n .cost) size-limit s)
+
+bounded-so : (b : HeldBound) → ((by : BoundBy) → b ≡ bound.Number by → T (small-number (by .value))) → small-bound b ≡ true
+bounded-so bound.Nothing h = refl
+bounded-so (bound.Number n) h = T-true (small-number (n .value)) (h n refl)
+bounded-so (bound.Never n) h = refl
+
+so-bounded : (b : HeldBound) → small-bound b ≡ true → (by : BoundBy) → b ≡ bound.Number by → T (small-number (by .value))
+so-bounded bound.Nothing s by e = absurd (let z : _≡_ {A = ℕ} 0 1 = cc in omega arith)
+so-bounded (bound.Number n) s by e = let k : n ≡ by = cc in subst (λ (x : BoundBy). T (small-number (x .value))) k (subst T (sym s) tt)
+so-bounded (bound.Never n) s by e = absurd (let z : _≡_ {A = ℕ} 0 1 = cc in omega arith)
+
+module _ (d : Docket) (long : Long d) where
+  valid-here : (valid-problem (d .problem) ≡ true) ↔ Valid (d .problem)
+  valid-here = valid-is (d .problem) (long .0) (long .1) (long .2)
+
+  known-sound-is : d .known ≡ true → (sound d ≡ true) ↔ KnownSound d
+  unfolding sound
+  known-sound-is k = (
+    λ e.
+        let a = and-both (valid-problem (d .problem)) (small-cost (d .held .cost) && small-bound (d .held .bound)) (rw k at e) in
+        let b = and-both (small-cost (d .held .cost)) (small-bound (d .held .bound)) (a .1) in
+        record { known = k; valid = valid-here .0 (a .0); cost-small = so-small (d .held .cost) (b .0); bound-small = so-bounded (d .held .bound) (b .1) },
+    λ s. rw (k, valid-here .1 (s .valid), small-so (d .held .cost) (s .cost-small), bounded-so (d .held .bound) (s .bound-small)) refl,
+  )
+
+  -- is its own, where it knows one and is sound, and else none
+  pub judges : JudgesBy d (judged-under d)
+  judges = go (sound d) (d .known) refl refl
+    where
+      go : (s k : Bool) → sound d ≡ s → d .known ≡ k → JudgesBy d (if-known (pick s d fresh-docket .known) (view (pick s d fresh-docket .problem)))
+      go true true e k = subst (λ (c : Bool). JudgesBy d (if-known c (view (d .problem)))) (sym k) (its-own (known-sound-is k .0 e))
+      go true false e k = subst (λ (c : Bool). JudgesBy d (if-known c (view (d .problem)))) (sym k) (no-problem (λ s. let q = s .known in let z : _≡_ {A = ℕ} 0 1 = cc in omega arith))
+      go false k e q = no-problem (λ s. let t = known-sound-is (s .known) .1 s in let z : _≡_ {A = ℕ} 0 1 = cc in omega arith)
 
 -- ---- what is refused
 
@@ -50,8 +111,7 @@ same-verdict : (c : Bool) (P : Instance) (text : List ℕ) → verdict-of (if-kn
 same-verdict true P text = refl
 same-verdict false P text = judged-free (view blank-problem) P text
 
--- the problem that it judges by is well-formed
-pub fine-under : (d : Docket) → Long d → Fine (judged-under d)
+fine-under : (d : Docket) → Long d → Fine (judged-under d)
 fine-under d long = go (sound d) refl
   where
     known : (c : Bool) → d .known ≡ c → sound d ≡ true → Fine (if-known c (view (d .problem)))
@@ -87,9 +147,9 @@ unfolding lodge-of
 lodge-holds d text = ap (hold d (trusted d)) (sym (same-verdict (trusted d .known) (view (trusted d .problem)) text))
 
 -- a refused text gets the number and the place that document 01 gives it
-pub refused-everywhere : (d : Docket) → Long d → (text : List ℕ) (r : Refusal)
+refused-under : (d : Docket) → Long d → (text : List ℕ) (r : Refusal)
     → (stated (lodge-of d text .answer) ≡ answers.refused (r .number) (r .line) (r .unit) (r .period)) ↔ Is (judged-under d) text (verdict.refused r)
-refused-everywhere d long text r = (
+refused-under d long text r = (
   λ h.
       let v = refused-hold d (trusted d) (verdict-of (judged-under d) text) r (ap (λ l. stated (l .answer)) (sym (lodge-holds d text)) ∙ h) in
       subst (Is (judged-under d) text) v (verdict-is (judged-under d) (fine-under d long) text),
@@ -97,6 +157,21 @@ refused-everywhere d long text r = (
       ap (λ l. stated (l .answer)) (lodge-holds d text)
       ∙ ap (λ (v : Verdict). stated (hold d (trusted d) v .answer)) (is-verdict (judged-under d) text (verdict.refused r) (fine-under d long) i),
 )
+
+judges-once : (d : Docket) (o o′ : Option Instance) → JudgesBy d o → JudgesBy d o′ → o ≡ o′
+judges-once d o o′ (its-own s) (its-own t) = refl
+judges-once d o o′ (its-own s) (no-problem t) = absurd (t s)
+judges-once d o o′ (no-problem s) (its-own t) = absurd (s t)
+judges-once d o o′ (no-problem s) (no-problem t) = refl
+
+pub refused-everywhere : (d : Docket) → Long d → (o : Option Instance) × JudgesBy d o
+    × ((text : List ℕ) (r : Refusal)
+    → (stated (lodge-of d text .answer) ≡ answers.refused (r .number) (r .line) (r .unit) (r .period)) ↔ Is o text (verdict.refused r))
+refused-everywhere d long = (judged-under d, judges d long, refused-under d long)
+
+-- the problem that it judges by is well-formed
+pub fine-by : (d : Docket) → Long d → (o : Option Instance) → JudgesBy d o → Fine o
+fine-by d long o j = subst Fine (judges-once d (judged-under d) o (judges d long) j) (fine-under d long)
 
 -- ---- a report
 

@@ -141,20 +141,10 @@ of-some P past text x v (no-kind h p q t) c = absurd c
 of-some P past text x v (second-problem h b) c = absurd c
 of-some P past text x v (schedule-refused r h b q) c = absurd c
 of-some P past text x v (a-schedule w s h e ok rows meets) c =
-    inl (w, s, e, ok, rows, meets, sym (carries-if (less-than past (cost P s)) (its-cost (cost P s)) x c))
+    inl (h, (w, s, (e, ok, rows), meets, sym (carries-if (less-than past (cost P s)) (its-cost (cost P s)) x c)))
 of-some P past text x v (tree-refused n l h b r) c = absurd c
 of-some P past text x v (a-tree w t h e ok within holds) c =
-    inr (w, t, e, ok, within, holds, sym (carries-if (higher-than past (bound P root t)) (its-bound (bound P root t) (splits t) (leaves t)) x c))
-
--- what is accepted is short
-of-short : (P : Instance) (past : List Verdict) (text : List ℕ) (x : Values) (v : Verdict) → Is (some P) text v → Carries (answer-due past v) x → Short text
-of-short P past text x v (too-long h) c = absurd c
-of-short P past text x v (no-kind h p q t) c = h
-of-short P past text x v (second-problem h b) c = h
-of-short P past text x v (schedule-refused r h b q) c = h
-of-short P past text x v (a-schedule w s h e ok rows meets) c = h
-of-short P past text x v (tree-refused n l h b r) c = h
-of-short P past text x v (a-tree w t h e ok within holds) c = h
+    inr (h, (w, t, (e, ok, within), holds, sym (carries-if (higher-than past (bound P root t)) (its-bound (bound P root t) (splits t) (leaves t)) x c)))
 
 -- ---- after a list with these verdicts
 
@@ -277,12 +267,6 @@ module _ (texts : List (List ℕ)) (vs : List Verdict) (are : Are none texts vs)
     pub only-formed : (text : List ℕ) (x : Values) → Carries (answer texts text) x → schedule-lines.WellFormed P text ⊎ tree-lines.WellFormed P text
     only-formed text x c = go (nothing-else text x c)
       where
-        h : Short text
-        h =
-            let i = verdict-is (given vs) fine text in
-            of-short P vs text x (verdict-of (given vs) text) (under text (verdict-of (given vs) text) i)
-            (subst (λ (a : Stated). Carries a x) (due text (verdict-of (given vs) text) i) c)
-
         go : OfSchedule P text x ⊎ OfTree P text x → schedule-lines.WellFormed P text ⊎ tree-lines.WellFormed P text
-        go (inl (w, s, e, ok, rows, m, v)) = inl (schedule-formed-is text .1 (h, (w, s, (e, ok, rows))))
-        go (inr (w, t, e, ok, within, m, v)) = inr (tree-formed-is text .1 (h, (w, t, (e, ok, within))))
+        go (inl (h, (w, s, of, m, v))) = inl (schedule-formed-is text .1 (h, (w, s, of)))
+        go (inr (h, (w, t, of, m, v))) = inr (tree-formed-is text .1 (h, (w, t, of)))

@@ -88,7 +88,7 @@ module _ (texts : List (List ℕ)) (vs : List Verdict) (are : Are none texts vs)
   pub nothing-yet : given vs ≡ none → after texts ≡ fresh-docket
   nothing-yet e = subst (λ (o : Option Instance). Holding o vs (after texts)) e holding
 
-  -- a schedule is held exactly when one was accepted, a bound exactly when a tree was
+  -- no schedule is held exactly where none was accepted, no bound exactly where no tree was
   pub no-cost-is : (after texts .held .cost ≡ cost.Nothing) ↔ (schedules vs ≡ [])
   no-cost-is = go (given vs) holding proper
     where

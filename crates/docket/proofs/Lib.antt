@@ -27,6 +27,7 @@ pub mod Midnight
 pub mod Requested
 pub mod Interleaved
 pub mod Specimens
+pub mod FirstNumbers
 pub mod SpecimenTexts
 pub mod Shown
 pub mod SpecimenList

@@ -19,27 +19,27 @@ use Rattle.model.specs.Broken.{Of, OffRamp, Broken, limits, demand, spare, updo
 use Rattle.model.specs.Unread.{AlikeButMidnight}
 use Rattle.model.proofs.Lowest.{breach-is}
 use Rattle.refusal.specs.declared.Refusal.{Refusal}
+use Rattle.refusal.specs.Refusals.{line-refusal}
 use Rattle.text.specs.Lines.{Line, ended, lineAt, kindOf, kindSchedule, kindTree}
-use Rattle.text.specs.Tests.{First}
+use Rattle.text.specs.LineRefused.{Renders}
 use Rattle.text.specs.declared.Kind.the-variants as kind
-use Rattle.text.proofs.Partition.{Renders}
 use Rattle.text.proofs.FirstLine as first-line
 use Rattle.problem.specs.Units.{unit-line, unit-form}
-use Rattle.problem.specs.Course.{unit-due, tests}
-use Rattle.problem.proofs.UnitRefusals.{count-refused, range-refused, order-refused}
+use Rattle.problem.specs.Refusals.{Breaks, RefusedAt}
+use Rattle.problem.proofs.UnitRefusals.{count-refused, range-refused, order-refused, line-refused, fifteen-is}
 use Rattle.schedule.specs.Answers.{rule-refusal, BreaksFirst, by-line, by-rule}
 use Rattle.schedule.proofs.Wholes.{render-is-schedule}
 use Rattle.tree.proofs.Unread.{judged-unread}
 use Rattle.answer.specs.Answers.{Values, refused as answered-refused, Carries}
 use Rattle.docket.specs.Verdicts.{Verdict, refused, problem, schedule, tree}
-use Rattle.docket.specs.Texts.{Short, Begins, at-line, Is, Are, too-long, no-kind, second-problem, problem-refused, schedule-refused, tree-refused, a-schedule, a-tree}
+use Rattle.docket.specs.Texts.{Short, Begins, at-line, Is, Are, too-long, no-kind, second-problem, schedule-early, tree-early, problem-refused, a-problem, schedule-refused, tree-refused, a-schedule, a-tree}
 use Rattle.docket.specs.declared.Docket.{Docket}
 use Rattle.docket.specs.declared.admission.Admission.the-variants as admission
 use Rattle.docket.specs.Lodging.{pick, refuse-whole, admit, by-tree, by-lines, judged}
-use Rattle.docket.specs.Promised.{answer, given, ScheduleText, Long, judged-under}
+use Rattle.docket.specs.Promised.{answer, given, ScheduleText, Long, JudgesBy}
 use Rattle.docket.specs.Requested.{Midnight, in-period-1, UnitLineDue}
 use Rattle.docket.proofs.OneVerdict.{Fine, verdict-of, is-verdict, verdict-is}
-use Rattle.docket.proofs.AnyDocket.{fine-under}
+use Rattle.docket.proofs.AnyDocket.{fine-by}
 use Rattle.docket.proofs.EachText as each
 
 -- ---- the problem by which a docket judges
@@ -51,8 +51,8 @@ p0-within (g ∷ gs) a = (
   p0-within gs (a .1),
 )
 
-pub p0-anywhere : (d : Docket) → Long d → (P : Instance) → judged-under d ≡ some P → All Midnight (P .units)
-p0-anywhere d long P e = p0-within (P .units) (subst Fine e (fine-under d long) .units-good)
+pub p0-anywhere : (d : Docket) → Long d → (P : Instance) → JudgesBy d (some P) → All Midnight (P .units)
+p0-anywhere d long P j = p0-within (P .units) (fine-by d long (some P) j .units-good)
 
 -- ---- the broken rule is that ramp
 
@@ -86,37 +86,52 @@ breaks-first P text u v (a-schedule w s h e′ ok rows meets) e = absurd (omega 
 breaks-first P text u v (tree-refused n l h b r) e = absurd (omega (arith, ap (part (λ r. r .period)) e))
 breaks-first P text u v (a-tree w t h e′ ok within holds) e = absurd (omega (arith, ap (part (λ r. r .period)) e))
 
+-- a text that 15 refuses where no problem is held is a problem's, refused so at that line
+refused-fifteen : (text : List ℕ) (m : ℕ) (v : Verdict) → Is none text v → v ≡ at-line 15 m → RefusedAt text 15 m
+refused-fifteen text m v (too-long h) e = absurd (omega (arith, ap (part (λ r. r .number)) e))
+refused-fifteen text m v (no-kind h p s t) e = absurd (omega (arith, ap (part (λ r. r .number)) e))
+refused-fifteen text m v (schedule-early h b) e = absurd (omega (arith, ap (part (λ r. r .number)) e))
+refused-fifteen text m v (tree-early h b) e = absurd (omega (arith, ap (part (λ r. r .number)) e))
+refused-fifteen text m v (problem-refused n l h b r) e =
+    let p : n ≡ 15 = ap (part (λ r. r .number)) e in
+    let q : l ≡ m = ap (part (λ r. r .line)) e in
+    subst (λ (k : ℕ). RefusedAt text 15 k) q (subst (λ (k : ℕ). RefusedAt text k l) p r)
+refused-fifteen text m v (a-problem P h x W) e = absurd (omega (arith, ap (part (λ r. r .number)) e))
+
 module _ (texts : List (List ℕ)) (vs : List Verdict) (are : Are none texts vs) where
   -- ---- a unit line that is refused
 
   module _ (unknown : given vs ≡ none) (text : List ℕ) (before : List Line) where
-    line-refused : (n : ℕ) (x : Line) (d : UnitLineDue text before x) → First n (tests (unit-due (d .more) (d .so-far)) x)
+    breaks-there : (n : ℕ) (x : Line) (d : UnitLineDue text before x) → Breaks (d .some-problem) (length before) x n
         → answer texts text ≡ answered-refused n (2 + length before) 0 0
-    line-refused n x d f =
+    breaks-there n x d h =
         each.due texts vs are text (at-line n (2 + length before)) (subst (λ (o : Option Instance). Is o text (at-line n (2 + length before))) (sym unknown)
-        (problem-refused n (2 + length before) (d .short) (d .begins) (record {
-          before = before;
-          rest = x ∷ d .rest;
-          stands = unit-due (d .more) (d .so-far);
-          parts = d .lines;
-          passed = d .passed;
-          place = refl;
-          first = f;
-        })))
+        (problem-refused n (2 + length before) (d .short) (d .begins) (line-refused text before (d .rest) x (d .lines) (d .some-problem) (d .beginning) n h)))
 
     pub count-gets-14 : (x : Line) (neg : Bool) (ns : List ℕ) → UnitLineDue text before x → Renders unit-form x neg ns → (length ns ≡ 15 → ⊥)
         → answer texts text ≡ answered-refused 14 (2 + length before) 0 0
-    count-gets-14 x neg ns d r n = line-refused 14 x d (count-refused (d .more) (d .so-far) x neg ns r n)
+    count-gets-14 x neg ns d r n = breaks-there 14 x d (count-refused (d .some-problem) (length before) (d .place) x neg ns r n)
 
     pub p0-gets-13 : (x : Line) (neg : Bool) (ns : List ℕ) → UnitLineDue text before x → Renders unit-form x neg ns → length ns ≡ 15
         → 10000 < ns at 14 → answer texts text ≡ answered-refused 13 (2 + length before) 0 0
-    p0-gets-13 x neg ns d r c h = line-refused 13 x d (range-refused (d .more) (d .so-far) x neg ns r c (λ R. omega (arith, h, R .p0-in .1)))
+    p0-gets-13 x neg ns d r c h = breaks-there 13 x d (range-refused (d .some-problem) (length before) (d .place) x neg ns r c (λ R. omega (arith, h, R .p0-in .1)))
+
+    -- 15 exactly where the numbers are not ordered
+    pub disorder-gets-15 : (g : Generator) → UnitLineDue text before (ended (unit-line g)) → InRange g
+        → (answer texts text ≡ answered-refused 15 (2 + length before) 0 0) ↔ (Ordered g → ⊥)
+    disorder-gets-15 g d R = (
+      λ e. fifteen .0 (refused-fifteen text (2 + length before) _ (subst (λ (o : Option Instance). Is o text (at-line 15 (2 + length before))) unknown
+          (each.refused-as texts vs are text (line-refusal 15 (2 + length before)) .0 e)) refl),
+      λ n. breaks-there 15 (ended (unit-line g)) d (order-refused (d .some-problem) (length before) (d .place) g R .1 n),
+    )
+      where
+        fifteen : RefusedAt text 15 (2 + length before) ↔ (Ordered g → ⊥)
+        fifteen = fifteen-is text before (d .rest) (ended (unit-line g)) (d .lines) (d .some-problem) (d .beginning) g refl R (d .place)
 
     pub p0-gets-15 : (g : Generator) → UnitLineDue text before (ended (unit-line g)) → InRange g → (Midnight g → ⊥)
         → answer texts text ≡ answered-refused 15 (2 + length before) 0 0
     p0-gets-15 g d R n =
-        line-refused 15 (ended (unit-line g)) d (order-refused (d .more) (d .so-far) g R .1
-        (λ O. n (record { in-range = R .p0-in; on-before = O .midnight .0; off-before = O .midnight .1 })))
+        disorder-gets-15 g d R .1 (λ O. n (record { in-range = R .p0-in; on-before = O .midnight .0; off-before = O .midnight .1 }))
 
   module _ (P : Instance) (known : given vs ≡ some P) where
     pub formed : WellFormed P

@@ -116,7 +116,7 @@ is-verdict (some P) text v W (a-schedule w s h e ok rows meets) =
     ∙ ap by-schedule (schedules.accepted-is P W text k w _ s .1 (record { renders = e; writer-in = ok; rows-in = rows; meets = meets; cost-is = refl }))
 is-verdict (some P) text v W (tree-refused n l h b r) =
     judged-kind true P text kind.Tree h (first-line.tree-is (lineAt text 0) .1 b)
-    ∙ ap by-tree (trees-answered.refused-is-first P text n l .1 r)
+    ∙ ap by-tree (trees-answered.refused-is-first P (W .periods-in .0) text n l .1 r)
     ∙ ap refused (trees-read.refused-carries P text n l r)
 is-verdict (some P) text v W (a-tree w t h e ok within holds) =
     let b : Begins text kindTree = rw e (tree-begins w t) in
@@ -165,7 +165,7 @@ module _ (text : List ℕ) (h : Short text) where
 
     of-tree : (j : Judged Figures) → kindOf (lineAt text 0) ≡ kind.Tree → trees.judged P text ≡ j → Is (some P) text (by-tree j)
     of-tree (refused-at n l) k e =
-        let r = trees-answered.refused-is-first P text n l .0 e in
+        let r = trees-answered.refused-is-first P (W .periods-in .0) text n l .0 e in
         subst (Is (some P) text) (ap refused (sym (trees-read.refused-carries P text n l r))) (tree-refused n l h (first-line.tree-is (lineAt text 0) .0 k) r)
     of-tree (accepted F) k e =
         let a = trees-answered.accepted-is P text k F W .0 e in

@@ -1,16 +1,16 @@
 -- The page of promises: demands 1, 2 and 3, clause by clause, each proved in a line. The words used are defined in specs/, here and in the crates below;
--- what the texts of a list are is `Is` and `Are` (specs/Texts.antt), by renderings, limits, rules and the tests of lines alone.
+-- what the texts of a list are is `Is` and `Are` (specs/Texts.antt), by renderings, limits and rules alone.
 use mathlib.Core.Path.{_≡_}
 use mathlib.Core.Bool.{true, not}
-use mathlib.Core.List.{List, [], _∷_, List·Memᴰ}
+use mathlib.Core.List.{List, [], _∷_, _++_, List·Memᴰ}
 use mathlib.Core.Logic.{_↔_, _⊎_}
-use mathlib.Core.Option.{none, some}
+use mathlib.Core.Option.{Option, none, some}
 use Prim.Native.Nat.{ℕ, _≤_}
 use lib.Dec.{T}
 use lib.IntN.{pos}
 use lib.Signed.{_≤ℤ_}
 use Rattle.model.specs.Instance.{Instance, Schedule}
-use Rattle.model.specs.Ranges.{All, GoodUnit}
+use Rattle.model.specs.Ranges.{All, GoodUnit, WellFormed}
 use Rattle.model.specs.Rules.{Meets}
 use Rattle.model.specs.Cost as model
 use Rattle.model.specs.Held.{view}
@@ -25,6 +25,16 @@ use Rattle.model.proofs.EveryLeaf as leaf
 use Rattle.model.proofs.UnitLeasts as least
 use Rattle.judge.specs.Rows.{schedule-of}
 use Rattle.refusal.specs.declared.Refusal.{Refusal}
+use Rattle.text.specs.Lines.{Line, later, linesOf}
+use Rattle.text.specs.LineRefused.{Beginning}
+use Rattle.problem.specs.Rendering as problem-text
+use Rattle.problem.specs.Refusals as of-problem
+use Rattle.problem.proofs.WhichLine as problem-lines
+use Rattle.schedule.specs.Course.{Written}
+use Rattle.schedule.specs.Refusals as of-schedule
+use Rattle.schedule.proofs.WhichLine as schedule-lines-refused
+use Rattle.tree.specs.Refusals as of-tree
+use Rattle.tree.proofs.WhichLine as tree-lines-refused
 use Rattle.schedule.specs.WellFormed as schedule-lines
 use Rattle.tree.specs.WellFormed as tree-lines
 use Rattle.tree.specs.Due.{Figures}
@@ -44,7 +54,7 @@ use Rattle.docket.specs.Lodging.{lodge-of}
 use Rattle.docket.specs.Report.{text-shown, report-of, buffer-of}
 use Rattle.docket.specs.ReportDue.{Outcome, Reports}
 use Rattle.docket.specs.Demand3.{answer-due, Unheld}
-use Rattle.docket.specs.Promised.{after, answer, given, ProblemText, ScheduleText, TreeText, OfSchedule, OfTree, Long, judged-under}
+use Rattle.docket.specs.Promised.{after, answer, given, ProblemText, ScheduleText, TreeText, OfSchedule, OfTree, Long, JudgesBy}
 use Rattle.docket.specs.Specimens.{listed-texts, specimens, Answered}
 use Rattle.docket.proofs.OneVerdict.{accepted-is}
 use Rattle.docket.proofs.ListVerdicts.{verdicts-of, verdicts-are, one-list}
@@ -63,7 +73,7 @@ use Rattle.docket.proofs.Docket.lodge.Met as lodge-met
 use Rattle.docket.proofs.Docket.report.Statement as report
 use Rattle.docket.proofs.Docket.report.Met as report-met
 
--- ---- Demand 1. Every call comes to its end and does nothing undefined, whatever bytes, docket value and place it is given
+-- ---- Demand 1. Every call ends, and none does anything undefined, whatever bytes, docket value and place it is given
 
 pub calls-end : {M : Type 1} → fresh.statement M × lodge.statement M × report.statement M
 calls-end = (fresh-met.met, lodge-met.met, report-met.met)
@@ -71,9 +81,9 @@ calls-end = (fresh-met.met, lodge-met.met, report-met.met)
 -- Those theorems ask nothing of the caller, and fix all that comes back: fresh-says, lodge-says, report-says of Contracts.antt. So `lodge-of`, `report-of`
 -- and `buffer-of` below are what the functions do. The listing has a page of its own: crates/list/proofs/ListingPromises.antt
 
--- A refused text gets the number and place that document 01, with the requests of document 02 built, gives it, and no other text does: of every docket value, under the problem it judges by
-pub refused-gets : (d : Docket) → Long d → (text : List ℕ) (r : Refusal)
-    → (stated (lodge-of d text .answer) ≡ refused (r .number) (r .line) (r .unit) (r .period)) ↔ Is (judged-under d) text (verdict.refused r)
+-- The texts refused, with number and place, are those of document 01 and of what is built of document 02, and no others: of every docket value, under the problem it judges by
+pub refused-gets : (d : Docket) → Long d → (o : Option Instance) × JudgesBy d o
+    × ((text : List ℕ) (r : Refusal) → (stated (lodge-of d text .answer) ≡ refused (r .number) (r .line) (r .unit) (r .period)) ↔ Is o text (verdict.refused r))
 refused-gets = any.refused-everywhere
 
 -- and the docket stays unchanged, as it does where the text is passed
@@ -85,13 +95,28 @@ pub reports-always : (d : Docket) (b : List ℕ) (k : ℕ) → (report-of d b k 
     × Outcome (text-shown d) b k (told (report-of d b k .answer)) (buffer-of d b k)
 reports-always = any.reports-always
 
+-- Where a refusal stands: by `LineRefused` (text/specs), out of which `Is` is made, the lines before a refused line begin the text of some value within the
+-- limits (`begins` there); a tree's so that the leaves which end among them meet their rules. With the refused line they begin none: so it is the first such line
+pub problem-line : (text : List ℕ) (n m : ℕ) (r : of-problem.RefusedAt text n m) (x : Line) (rest : List Line) → r .left ≡ x ∷ rest
+    → (P : Instance) → Beginning problem-text.lines-after of-problem.InLimits (r .before ++ (x ∷ [])) P → ⊥
+problem-line text n m = problem-lines.with-it-none n m text
+
+module _ (P : Instance) (W : WellFormed P) where
+  pub schedule-line : (text : List ℕ) (n m : ℕ) (r : of-schedule.RefusedAt P text n m) (x : Line) (rest : List Line) → r .left ≡ x ∷ rest
+      → (v : Written) → Beginning of-schedule.written-lines (of-schedule.InLimits P) (r .before ++ (x ∷ [])) v → ⊥
+  schedule-line text n m = schedule-lines-refused.with-it-none P (W .periods-in .0) n m (later (linesOf text))
+
+  pub tree-line : (text : List ℕ) (n m : ℕ) (r : of-tree.Refused P text n m) (x : Line) (rest : List Line) → r .left ≡ x ∷ rest
+      → (v : of-tree.WrittenTree) → Beginning of-tree.written-lines (of-tree.HoldsSoFar P) (r .before ++ (x ∷ [])) v → ⊥
+  tree-line text n m = tree-lines-refused.with-it-none P (W .periods-in .0) n m text
+
 -- ---- Demand 2, of a tree's bound: it is the smallest value of its leaves (one without prices has never, which is above every number)
 
 pub bound-smallest : (P : Instance) (t : Tree) → ((l : LeafOf t) × (tree.bound P root t ≡ tree.bound P (above root t l) (leaf-at t l)))
     × ((l : LeafOf t) → T (not (higher (tree.bound P root t) (tree.bound P (above root t l) (leaf-at t l)))))
 bound-smallest P t = (leaf.bound-attained P root t, leaf.bound-lowest P root t)
 
--- found by true minima over each unit's runs and outputs: no row of whole outputs that obeys and agrees has a lower value, and one has this
+-- and the minima in it are true ones: of a unit's rows of whole outputs that obey and agree, none has a lower value, and one has this
 pub minima-true : (n : ℕ) (q s : ℕ → ℕ) (g : Generator) (m : ℕ → Mark) → GoodUnit g → T (not (is-stuck n g m))
     → ((r : List ℕ) → Candidate n g m r → unit-least n q s g m ≤ℤ value n q s g r)
     × ((r : List ℕ) × Candidate n g m r × (value n q s g r ≡ unit-least n q s g m))
@@ -104,7 +129,7 @@ texts-decide texts = (verdicts-of none texts, verdicts-are none tt texts, λ us 
 
 -- so let vs be what they are; `given vs` is the problem that they gave, `after texts` the docket after them, `answer texts text` the answer to one text more
 module _ (texts : List (List ℕ)) (vs : List Verdict) (are : Are none texts vs) where
-  -- A text is accepted exactly when no refusal number meets it at its place, and every text gets the answer due to it, held or passed
+  -- The accepted texts are exactly those that nothing refuses at their place, and every text gets the answer due to it, held or passed
   pub accepted-when : (text : List ℕ) → Accepted (given vs) text ↔ ((r : Refusal) → Is (given vs) text (verdict.refused r) → ⊥)
   accepted-when = accepted-is (given vs) (each.fine texts vs are)
 
@@ -123,7 +148,7 @@ module _ (texts : List (List ℕ)) (vs : List Verdict) (are : Are none texts vs)
       → (lodge-of (after texts) text .docket .known ≡ true) × (view (lodge-of (after texts) text .docket .problem) ≡ P)
   problem-held = each.problem-held texts vs are
 
-  -- 3. While no problem is held nothing is. A schedule is held exactly when one was accepted, a bound exactly when a tree was
+  -- 3. While no problem is held nothing is. No schedule is held exactly where none was accepted, no bound exactly where no tree was
   pub nothing-yet : given vs ≡ none → after texts ≡ fresh-docket
   nothing-yet = holdings.nothing-yet texts vs are
 
@@ -155,12 +180,12 @@ module _ (texts : List (List ℕ)) (vs : List Verdict) (are : Are none texts vs)
     pub one-tree : (text : List ℕ) (w w′ : ℕ) (t t′ : Tree) → TreeText P text w t → TreeText P text w′ t′ → (w ≡ w′) × (t ≡ t′)
     one-tree = each.one-tree texts vs are P known
 
-    -- Under a held problem a well-formed schedule is accepted exactly when it meets the rules, and its cost is that of (1)
+    -- Under a held problem, the well-formed schedules that are accepted are those that meet the rules, each at the cost of (1)
     pub schedule-accepted : (text : List ℕ) → schedule-lines.WellFormed P text
         → (w : ℕ) × (s : Schedule) × ScheduleText P text w s × ((x : Values) → Carries (answer texts text) x ↔ (Meets P s × (x ≡ its-cost (model.cost P s))))
     schedule-accepted = each.schedule-by-lines texts vs are P known
 
-    -- A well-formed tree is accepted exactly when every leaf meets its rule, with its bound and its counts of split lines and leaves
+    -- and the well-formed trees are those whose leaves all meet their rules, each with its bound and its counts of split lines and leaves
     pub tree-accepted : (text : List ℕ) → tree-lines.WellFormed P text
         → (w : ℕ) × (t : Tree) × TreeText P text w t
         × ((x : Values) → Carries (answer texts text) x ↔ (Holds P root t × (x ≡ its-bound (tree.bound P root t) (splits t) (leaves t))))
@@ -175,7 +200,7 @@ module _ (texts : List (List ℕ)) (vs : List Verdict) (are : Are none texts vs)
     only-well-formed = each.only-formed texts vs are P known
 
     module _ (by : CostBy) (e : after texts .held .cost ≡ cost.Number by) where
-      -- 3. The held schedule and its writer are those of the first accepted schedule with the least cost; it meets the rules, at the cost of (1)
+      -- 3. Of the accepted schedules with the least cost the first is held, with its writer; it meets the rules, at the cost of (1)
       pub held-schedule : (s : Costed) × FirstLeast (λ x. x .cost) s (schedules vs) × (by .cost ≡ s .cost) × (by .writer ≡ s .writer)
           × (schedule-of (after texts .problem) (after texts .rows) ≡ s .rows) × Meets P (s .rows) × (s .cost ≡ model.cost P (s .rows))
       held-schedule = holdings.held-schedule texts vs are P known by e
@@ -184,14 +209,14 @@ module _ (texts : List (List ℕ)) (vs : List Verdict) (are : Are none texts vs)
       least-cost = holdings.least-of-all texts vs are P known by e
 
     module _ (by : BoundBy) (e : after texts .held .bound ≡ bound.Number by) where
-      -- The held bound and its writer are those of the first accepted tree with the highest bound
+      -- Of the accepted trees with the highest bound the first gives the held bound and its writer
       pub held-number : (F : Figures) × FirstHighest (λ x. x .bound) F (trees vs) × (number (by .value) ≡ F .bound) × (by .writer ≡ F .writer)
       held-number = holdings.held-number texts vs are P known by e
 
       pub highest-bound : (x : Figures) → List·Memᴰ x (trees vs) → T (not (higher (x .bound) (number (by .value))))
       highest-bound = holdings.highest-of-all texts vs are P known by e
 
-      -- Every schedule of whole outputs that meets the rules, lodged or not, costs at least the held bound
+      -- No schedule of whole outputs that meets the rules costs less than the held bound, whether it was lodged or not
       pub never-undercut : (s : Schedule) → Meets P s → by .value ≤ℤ pos (model.cost P s)
       never-undercut = holdings.its-number texts vs are P known by e .1
 
@@ -199,7 +224,7 @@ module _ (texts : List (List ℕ)) (vs : List Verdict) (are : Are none texts vs)
       pub held-never : (F : Figures) × FirstHighest (λ x. x .bound) F (trees vs) × (never ≡ F .bound) × (by .writer ≡ F .writer)
       held-never = holdings.held-never texts vs are P known by e
 
-      -- never is held only if no such schedule exists
+      -- where never is held there is no such schedule
       pub none-exists : (s : Schedule) → Meets P s → ⊥
       none-exists = holdings.its-never texts vs are P known by e .1
 

@@ -3,7 +3,7 @@
 -- Promises.antt speaks.
 use mathlib.Core.Path.{_≡_, refl}
 use mathlib.Core.Bool.{Bool, false}
-use mathlib.Core.List.{List, [], _∷_, map}
+use mathlib.Core.List.{List, [], _∷_, _++_, map}
 use mathlib.Core.Logic.{_↔_}
 use mathlib.Core.Option.{none, some}
 use Prim.Native.Nat.{ℕ, suc, _+_, _<_}
@@ -22,13 +22,12 @@ use Rattle.model.specs.Breach.{Breach}
 use Rattle.model.specs.Broken.{Of, OffRamp, Broken, Lower}
 use Rattle.model.specs.Unread.{AlikeButMidnight}
 use Rattle.model.proofs.Unread as unread
-use Rattle.text.specs.Lines.{Line, ended, kindTree}
-use Rattle.text.specs.Forms.{malformed, wrongCount, outOfRange}
-use Rattle.text.specs.Tests.{First, None, Passed, none-yet, one-more}
-use Rattle.text.proofs.Partition.{Renders}
+use Rattle.text.specs.Lines.{Line, ended, kindTree, endProblem}
+use Rattle.text.specs.LineRefused.{Renders}
 use Rattle.problem.specs.Units.{unit-line, unit-form}
-use Rattle.problem.specs.Course.{Due, periods-due, units-due, demand-due, spare-due, unit-due, tests, next-due}
-use Rattle.problem.proofs.UnitRefusals.{order-refused}
+use Rattle.problem.specs.Rendering.{lines-after}
+use Rattle.problem.specs.Refusals.{unit}
+use Rattle.problem.proofs.Examples.{example, example-formed}
 use Rattle.answer.specs.Answers.{Values, refused, Carries}
 use Rattle.docket.specs.declared.Docket.{Docket}
 use Rattle.docket.specs.declared.held.BoundBy.{BoundBy}
@@ -36,7 +35,7 @@ use Rattle.docket.specs.declared.held.HeldBound.the-variants as bound
 use Rattle.docket.specs.Verdicts.{Verdict}
 use Rattle.docket.specs.Texts.{Short, Begins, Is, Are, no-more}
 use Rattle.docket.specs.Lodging.{lodge-of}
-use Rattle.docket.specs.Promised.{after, answer, given, ScheduleText, Long, judged-under}
+use Rattle.docket.specs.Promised.{after, answer, given, ScheduleText, Long, JudgesBy}
 use Rattle.docket.specs.Specimens.{bytes, problem-of, specimens, Answered}
 use Rattle.docket.specs.Requested.{Midnight, in-period-1, UnitLineDue}
 use Rattle.docket.proofs.SpecimenList.{specimens-answered}
@@ -58,7 +57,12 @@ module _ (texts : List (List ℕ)) (vs : List Verdict) (are : Are none texts vs)
       → UnitLineDue text before x → Renders unit-form x neg ns → length ns ≡ 15 → 10000 < ns at 14 → answer texts text ≡ refused 13 (2 + length before) 0 0
   p0-too-large = midnight.p0-gets-13 texts vs are
 
-  -- One in range whose p0 is not as Tini has it is 15
+  -- One in range is 15 exactly where pL is above pU, Hsc above Csc, or p0 not as Tini has it
+  pub fifteen-exactly : given vs ≡ none → (text : List ℕ) (before : List Line) (g : Generator)
+      → UnitLineDue text before (ended (unit-line g)) → InRange g → (answer texts text ≡ refused 15 (2 + length before) 0 0) ↔ (Ordered g → ⊥)
+  fifteen-exactly = midnight.disorder-gets-15 texts vs are
+
+  -- So one in range whose p0 is not as Tini has it
   pub p0-refused : given vs ≡ none → (text : List ℕ) (before : List Line) (g : Generator)
       → UnitLineDue text before (ended (unit-line g)) → InRange g → (Midnight g → ⊥) → answer texts text ≡ refused 15 (2 + length before) 0 0
   p0-refused = midnight.p0-gets-15 texts vs are
@@ -85,13 +89,8 @@ module _ (texts : List (List ℕ)) (vs : List Verdict) (are : Are none texts vs)
     bounds-below = promises.never-undercut texts vs are P known
 
 -- Of every docket value too: the problem by which it judges has each p0 as it should be
-pub p0-anywhere : (d : Docket) → Long d → (P : Instance) → judged-under d ≡ some P → All Midnight (P .units)
+pub p0-anywhere : (d : Docket) → Long d → (P : Instance) → JudgesBy d (some P) → All Midnight (P .units)
 p0-anywhere = midnight.p0-anywhere
-
--- Of a line of numbers in range: 15 exactly where pL is above pU, Hsc above Csc, or p0 not as Tini has it
-pub fifteen-exactly : (more : ℕ) (so-far : Instance) (g : Generator) → InRange g
-    → First 15 (tests (unit-due more so-far) (ended (unit-line g))) ↔ (Ordered g → ⊥)
-fifteen-exactly = order-refused
 
 -- Trees, costs and the printed rules do not read p0. Of two problems alike but for it, a text that begins with kind=tree is the same to both: accepted with
 -- the same bound, splits and leaves, or refused by the same number at the same line; and every schedule has one cost, and keeps the rules as printed, their
@@ -101,7 +100,8 @@ pub p0-unread : (P P′ : Instance) → AlikeButMidnight P P′
     × ((s : Schedule) → (cost P s ≡ cost P′ s) × (MeetsPrinted P s ↔ MeetsPrinted P′ s))
 p0-unread P P′ a = (midnight.tree-unread P P′ a, λ s. (unread.cost-unread P P′ a s, unread.printed-unread P P′ a s))
 
--- The specimens, with 60 and 0 at midnight for document 01's units and 0 for the others, have document 01's answers; and those of p0 theirs
+-- ---- Witnesses: the specimens, with 60 and 0 at midnight for document 01's units and 0 for the others, have document 01's answers; and those of p0 theirs
+
 pub specimens-stand : All (Answered lodge-of) specimens
 specimens-stand = specimens-answered
 
@@ -116,22 +116,17 @@ old-problem = problem-of "unit=100,10,0,20,80,2,2,3,30,30,50,90,1,5" "unit=40,14
 abbrev lines-before : List Line
 lines-before = map ended (bytes "periods=2" ∷ bytes "units=2" ∷ bytes "demand=60,100" ∷ bytes "spare=10,10" ∷ [])
 
-passes : (s : Due) (b : List ℕ) {ls : List Line} {s′ : Due} → None (tests s (ended b)) → Passed tests next-due (next-due s (ended b)) ls s′
-    → Passed tests next-due s (ended b ∷ ls) s′
-passes s b n p = one-more n refl p
-
+-- its first five lines are those of the same problem with fifteen numbers a unit
 old-due : UnitLineDue old-problem lines-before (ended old-line)
-unfolding problem-of malformed wrongCount outOfRange
+unfolding problem-of lines-after digits digitsBy
 old-due = record {
   short = lit≤ tt;
   begins = refl;
-  so-far = record { periods = 2; demand = 60 ∷ 100 ∷ []; spare = 10 ∷ 10 ∷ []; units = [] };
-  more = 1;
   rest = map ended (bytes "unit=40,14,0,10,50,1,1,-2,50,50,20,60,0,0" ∷ bytes "end=problem" ∷ []);
   lines = refl;
-  passed =
-      passes periods-due (bytes "periods=2") (refl, (refl, (refl, tt))) (passes (units-due 2) (bytes "units=2") (refl, (refl, (refl, tt)))
-      (passes (demand-due 2 2) (bytes "demand=60,100") (refl, (refl, (refl, tt))) (passes (spare-due 2 2 (60 ∷ 100 ∷ [])) (bytes "spare=10,10") (refl, (refl, (refl, tt))) none-yet)));
+  some-problem = example;
+  beginning = record { more = map ended (map unit-line (example .units) ++ (endProblem ∷ [])); whole = refl; within = example-formed };
+  place = unit 0 (lit< tt);
 }
 
 old-renders : Renders unit-form (ended old-line) false (100 ∷ 10 ∷ 0 ∷ 20 ∷ 80 ∷ 2 ∷ 2 ∷ 3 ∷ 30 ∷ 30 ∷ 50 ∷ 90 ∷ 1 ∷ 5 ∷ [])

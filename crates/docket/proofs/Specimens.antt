@@ -81,7 +81,7 @@ is-dear = judged-as (some example) example-formed _ _ (rows-judged .2)
 abbrev pub one-split : Tree
 one-split = example-tree
 
--- a lone price leaf 10,14 with reserve 0,2
+-- one price leaf alone: 10,14, and 0,2 on its reserve line
 abbrev pub lone-price : Tree
 lone-price = lone-leaf
 

@@ -93,7 +93,7 @@ pub record HoldsSchedule (P : Instance) (accepted : List Costed) (by : CostBy) (
   pub meets : Meets P (best .rows)
   pub cost-is : best .cost ≡ model.cost P (best .rows)
 
--- a schedule is held exactly when one was accepted
+-- no schedule is held, and none was accepted; or one is
 abbrev pub CostHeld : Instance → List Costed → HeldCost → List ℕ → Type 0
 CostHeld P accepted cost.Nothing rows = (accepted ≡ []) × (rows ≡ replicate 1536 0)
 CostHeld P accepted (cost.Number by) rows = HoldsSchedule P accepted by rows
@@ -105,8 +105,8 @@ pub record HoldsBound (accepted : List Figures) (b : Bound) (w : ℕ) : Type 0 w
   pub held-bound : b ≡ best .bound
   pub held-writer : w ≡ best .writer
 
--- a bound is held exactly when a tree was accepted. Every schedule of whole outputs that meets the rules, lodged or not, costs at
--- least a held number, and none meets them where never is held
+-- no bound is held, and no tree was accepted; or one is. No schedule of whole outputs that meets the rules costs less than a held
+-- number, whether it was lodged or not, and none meets them where never is held
 abbrev pub BoundHeld : Instance → List Figures → HeldBound → Type 0
 BoundHeld P accepted bound.Nothing = accepted ≡ []
 BoundHeld P accepted (bound.Number by) =

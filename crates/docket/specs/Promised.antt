@@ -1,26 +1,33 @@
 -- The words of the page of promises: what stands after a list of texts, and what a text can be there.
 use mathlib.Core.Path.{_≡_}
-use mathlib.Core.Bool.{Bool, true, false}
+use mathlib.Core.Bool.{true}
 use mathlib.Core.List.{List, [], _∷_, _++_}
 use mathlib.Core.Option.{Option, none, some}
-use Prim.Native.Nat.{ℕ}
+use Prim.Native.Nat.{ℕ, _<_}
+use lib.Dec.{T}
 use lib.ListN.{length}
 use Rattle.model.specs.Instance.{Instance, Schedule}
 use Rattle.model.specs.Ranges.{WellFormed, GoodWriter, GoodRows}
 use Rattle.model.specs.Rules.{Meets}
-use Rattle.model.specs.Cost.{cost}
-use Rattle.model.specs.Held.{view}
+use Rattle.model.specs.Cost as model
+use Rattle.model.specs.Held.{view, Valid}
 use Rattle.model.specs.Above.{root}
-use Rattle.model.specs.Tree.{Tree, Limits, Holds, bound, splits, leaves}
+use Rattle.model.specs.Tree.{Tree, Limits, Holds, splits, leaves}
+use Rattle.model.specs.Tree as tree
 use Rattle.problem.specs.Rendering as problem-text
 use Rattle.schedule.specs.Rendering as schedule-text
 use Rattle.tree.specs.Rendering as tree-text
 use Rattle.answer.specs.Answers.{Values, its-cost, its-bound, Stated, stated}
 use Rattle.answer.specs.AnswerLines.{answer-line}
 use Rattle.docket.specs.declared.Docket.{Docket}
+use Rattle.docket.specs.declared.held.CostBy.{CostBy}
+use Rattle.docket.specs.declared.held.BoundBy.{BoundBy}
+use Rattle.docket.specs.declared.held.HeldCost.the-variants as cost
+use Rattle.docket.specs.declared.held.HeldBound.the-variants as bound
+use Rattle.docket.specs.Docket.{size-limit, small-number}
 use Rattle.docket.specs.Verdicts.{Verdict, known-at-end}
 use Rattle.docket.specs.Texts.{Short}
-use Rattle.docket.specs.Lodging.{trusted, lodge-of}
+use Rattle.docket.specs.Lodging.{lodge-of}
 use Rattle.docket.specs.Demand3.{reached}
 
 -- ---- after a list of texts, lodged in turn in a fresh docket
@@ -49,15 +56,13 @@ ScheduleText P text w s = (text ≡ schedule-text.render w s) × GoodWriter w ×
 abbrev pub TreeText : Instance → List ℕ → ℕ → Tree → Type 0
 TreeText P text w t = (text ≡ tree-text.render w t) × GoodWriter w × Limits P root 0 t
 
--- the text of a schedule that meets the rules, with its cost
+-- a short text of a schedule that meets the rules, with its cost
 abbrev pub OfSchedule : Instance → List ℕ → Values → Type 0
-OfSchedule P text x = (w : ℕ) × (s : Schedule) × (text ≡ schedule-text.render w s) × GoodWriter w × GoodRows P s × Meets P s
-    × (x ≡ its-cost (cost P s))
+OfSchedule P text x = Short text × ((w : ℕ) × (s : Schedule) × ScheduleText P text w s × Meets P s × (x ≡ its-cost (model.cost P s)))
 
--- the text of a tree within the limits whose leaves meet their rules, with its bound and counts
+-- a short text of a tree within the limits whose leaves meet their rules, with its bound and counts
 abbrev pub OfTree : Instance → List ℕ → Values → Type 0
-OfTree P text x = (w : ℕ) × (t : Tree) × (text ≡ tree-text.render w t) × GoodWriter w × Limits P root 0 t × Holds P root t
-    × (x ≡ its-bound (bound P root t) (splits t) (leaves t))
+OfTree P text x = Short text × ((w : ℕ) × (t : Tree) × TreeText P text w t × Holds P root t × (x ≡ its-bound (tree.bound P root t) (splits t) (leaves t)))
 
 -- ---- any value of the struct
 
@@ -65,13 +70,17 @@ OfTree P text x = (w : ℕ) × (t : Tree) × (text ≡ tree-text.render w t) × 
 abbrev pub Long : Docket → Type 0
 Long d = (length (d .problem .demand) ≡ 48) × (length (d .problem .spare) ≡ 48) × (length (d .problem .generators) ≡ 32)
 
-abbrev pub if-known : Bool → Instance → Option Instance
-if-known true P = some P
-if-known false P = none
+-- it knows a problem, its arrays hold a well-formed one, and its figures are less than 2^61 from 0
+pub record KnownSound (d : Docket) : Type 0 where
+  pub known : d .known ≡ true
+  pub valid : Valid (d .problem)
+  pub cost-small : (by : CostBy) → d .held .cost ≡ cost.Number by → by .cost < size-limit
+  pub bound-small : (by : BoundBy) → d .held .bound ≡ bound.Number by → T (small-number (by .value))
 
--- the problem under which it judges a text: none, where it is not sound
-abbrev pub judged-under : Docket → Option Instance
-judged-under d = if-known (trusted d .known) (view (trusted d .problem))
+-- the problem under which it judges a text: its own where that holds, and else none
+pub data JudgesBy (d : Docket) : Option Instance → Type 0 where
+  its-own : KnownSound d → JudgesBy d (some (view (d .problem)))
+  no-problem : (KnownSound d → ⊥) → JudgesBy d none
 
 -- ---- the listing
 

@@ -4,13 +4,16 @@ use mathlib.Core.Bool.{not}
 use mathlib.Core.List.{List, _∷_, _++_}
 use Prim.Native.Nat.{ℕ, suc}
 use lib.Dec.{T}
+use lib.ListN.{length}
 use Rattle.model.specs.declared.generator.Generator.{Generator}
 use Rattle.model.specs.Instance.{Instance}
 use Rattle.model.specs.Ranges.{Between}
 use Rattle.model.specs.Breach.{Breach}
 use Rattle.text.specs.Lines.{Line, later, linesOf, kindProblem}
-use Rattle.text.specs.Tests.{Passed}
-use Rattle.problem.specs.Course.{periods-due, unit-due, tests, next-due}
+use Rattle.text.specs.LineRefused.{Beginning}
+use Rattle.problem.specs.Units.{unit-form}
+use Rattle.problem.specs.Rendering.{lines-after}
+use Rattle.problem.specs.Refusals.{FormAt, InLimits}
 use Rattle.docket.specs.Texts.{Short, Begins}
 
 -- ---- [3] Yesterday's last output
@@ -25,12 +28,13 @@ pub record Midnight (g : Generator) : Type 0 where
 abbrev pub in-period-1 : ℕ → Breach
 in-period-1 u = record { number = 25; unit = suc u; period = 1 }
 
--- the line x of a problem's text stands where a unit line is due: the lines between the first and it pass
+-- the line x of a problem's text stands where a unit line is due: the lines between the first and it begin the text of some well-formed problem, in which a unit
+-- line comes next
 pub record UnitLineDue (text : List ℕ) (before : List Line) (x : Line) : Type 0 where
   pub short : Short text
   pub begins : Begins text kindProblem
-  pub so-far : Instance
-  pub more : ℕ
   pub rest : List Line
   pub lines : later (linesOf text) ≡ before ++ (x ∷ rest)
-  pub passed : Passed tests next-due periods-due before (unit-due more so-far)
+  pub some-problem : Instance
+  pub beginning : Beginning lines-after InLimits before some-problem
+  pub place : FormAt some-problem (length before) unit-form

@@ -111,7 +111,7 @@ specimens =
     ∷ (listed-problem ∷ listed-tree ∷ lone-leaf ∷ [], passed (its-bound (number (pos 1940)) 0 1))
     -- a lone short=2: 33, line 3
     ∷ (listed-problem ∷ lone-short ∷ [], refused 33 3 0 0)
-    -- TD + Tcold is 2: on after two periods off costs Hsc, after three Csc
+    -- TD + Tcold is 2: a start after two periods off costs Hsc, one after three Csc
     ∷ (off-two ∷ schedule-text ("run=10" ∷ []) ∷ [], held (its-cost 20))
     ∷ (off-three ∷ schedule-text ("run=10" ∷ []) ∷ [], held (its-cost 60))
     -- TD is 3, off for one period before: first on in period 2 breaks 24, in period 3 nothing

@@ -18,7 +18,8 @@ use Rattle.problem.specs.Refusals.{RefusedAt}
 use Rattle.schedule.specs.Rendering as schedules
 use Rattle.schedule.specs.Answers.{RefusedFor}
 use Rattle.tree.specs.Rendering as trees
-use Rattle.tree.specs.Answers.{figures-of, Refused}
+use Rattle.tree.specs.Answers.{figures-of}
+use Rattle.tree.specs.Refusals.{Refused}
 use Rattle.docket.specs.Verdicts.{Verdict, refused, problem, schedule, tree, known-after}
 
 -- at most 1,048,576 bytes
@@ -47,7 +48,7 @@ pub data Is : Option Instance → List ℕ → Verdict → Type 0 where
   schedule-early : {text : List ℕ} → Short text → Begins text kindSchedule → Is none text (at-line 42 0)
   tree-early : {text : List ℕ} → Short text → Begins text kindTree → Is none text (at-line 42 0)
   -- a problem: 12 to 15 at a line; else the text is that of a well-formed problem
-  problem-refused : {text : List ℕ} (n l : ℕ) → Short text → Begins text kindProblem → RefusedAt n l text → Is none text (at-line n l)
+  problem-refused : {text : List ℕ} (n l : ℕ) → Short text → Begins text kindProblem → RefusedAt text n l → Is none text (at-line n l)
   a-problem : {text : List ℕ} (P : Instance) → Short text → text ≡ problems.render P → WellFormed P → Is none text (problem P)
   -- a schedule: 12 to 14 at a line, or 21 to 25; else the text is that of rows in range that meet the rules
   schedule-refused : {P : Instance} {text : List ℕ} (r : Refusal) → Short text → Begins text kindSchedule → RefusedFor P text r

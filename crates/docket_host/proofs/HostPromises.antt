@@ -59,7 +59,7 @@ use Rattle.docket_host.proofs.docket_outputs.Met as outputs-met
 use Rattle.docket_host.proofs.docket_listing.Statement as listing
 use Rattle.docket_host.proofs.docket_listing.Met as listing-met
 
--- ---- Every call comes to its end and does nothing undefined, whatever slices it is lent. The theorems ask nothing of the caller and fix all that comes
+-- ---- Every call ends, and none does anything undefined, whatever slices it is lent. The theorems ask nothing of the caller and fix all that comes
 -- back (Contracts.antt), so that the definitions named below (specs/Calls.antt) are what the calls do
 
 pub calls-end : {M : Type 1} → rules.statement M × numbers-asked.statement M × rows-asked.statement M × fresh.statement M × lodge.statement M × report.statement M

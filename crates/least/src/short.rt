@@ -22,7 +22,7 @@ fn available_of(mark: u8, high: u64) -> u64
     high
 }
 
-// The pU of the units not fixed off in period t.
+// The sum of the pU of all units that are free or fixed on in period t.
 fn sum_available(numbers: &[u64], t: usize, fixed: &[u8]) -> u64
     requires { ⌜ Laid (now numbers) ⌝ }
     requires { ⌜ t < instance-in (now numbers) .periods ⌝ }

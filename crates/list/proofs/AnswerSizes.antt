@@ -110,7 +110,7 @@ module _ (P : Instance) (W : WellFormed P) (s : Schedule) where
 
 module _ (text : List ℕ) where
   schedule-small : length text ≤ 1048576 → (P : Instance) → WellFormed P → (r : Refusal) → RefusedFor P text r → SmallVerdict (refused r)
-  schedule-small short P W r (by-line n l a) = line-small text short n l (a .before) (a .rest) (carried n l (length (a .before)) (a .place) (schedules.refused-carries P text n l a)) (a .place) (a .parts)
+  schedule-small short P W r (by-line n l a) = line-small text short n l (a .before) (a .left) (carried n l (length (a .before)) (a .place) (schedules.refused-carries P (W .periods-in .0) text n l a)) (a .place) (a .parts)
   schedule-small short P W r (by-rule b a) = rule-small P W (a .rows) b (a .broken)
 
   pub verdict-small : (o : Option Instance) → Fine o → (v : Verdict) → Is o text v → SmallVerdict v
@@ -120,12 +120,12 @@ module _ (text : List ℕ) where
   verdict-small o W v (schedule-early h b) = at-line-small 42 0 (omega arith) (omega arith)
   verdict-small o W v (tree-early h b) = at-line-small 42 0 (omega arith) (omega arith)
   verdict-small o W v (problem-refused n l h b r) =
-      line-small text h n l (r .before) (r .rest) (carried n l (length (r .before)) (r .place) (problems.refused-carries n l text r)) (r .place) (r .parts)
+      line-small text h n l (r .before) (r .left) (carried n l (length (r .before)) (r .place) (problems.refused-carries n l text r)) (r .place) (r .parts)
   verdict-small o W v (a-problem P h e G) = tt
   verdict-small (some P) W v (schedule-refused r h b f) = schedule-small h P W r f
   verdict-small (some P) W v (a-schedule w s h e ok rows meets) = omega (arith, cost-fits P W s (meets-small P W s (meets .printed)))
   verdict-small (some P) W v (tree-refused n l h b r) =
-      line-small text h n l (r .before) (r .rest) (carried n l (length (r .before)) (r .place) (trees-read.refused-carries P text n l r)) (r .place) (r .parts)
+      line-small text h n l (r .before) (r .left) (carried n l (length (r .before)) (r .place) (trees-read.refused-carries P text n l r)) (r .place) (r .parts)
   verdict-small (some P) W v (a-tree w t h e ok within holds) =
       let k = tree-count w t in
       let m : length text ≡ length (trees.render w t) = ap length e in

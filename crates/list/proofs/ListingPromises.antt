@@ -1,5 +1,5 @@
 -- The promises of the listing: what it writes into a lent output for every input, and what it answers. The pieces of the input are the one cut after
--- each ended line that begins end= (crates/pieces); they are a list of texts, so all of crates/docket/proofs/Promises.antt holds of them.
+-- each ended line that begins end= (`Cut`, crates/pieces); they are a list of texts, so all of crates/docket/proofs/Promises.antt holds of them.
 use mathlib.Core.Path.{_≡_, refl, sym, ap, subst, _∙_}
 use mathlib.Core.List.{List, [], _++_}
 use mathlib.Core.Option.{none}
@@ -7,7 +7,7 @@ use Prim.Native.Nat.{ℕ, _≤_, _<_}
 use lib.ListN.{length}
 use Rattle.pieces.specs.Pieces.{pieces}
 use Rattle.pieces.specs.Cut.{Cut, joined}
-use Rattle.pieces.proofs.TheCut.{joined-pieces, pieces-cut}
+use Rattle.pieces.proofs.TheCut.{joined-pieces, pieces-cut, the-cut}
 use Rattle.writer.specs.Written.{over}
 use Rattle.answer.specs.Answers.{refused}
 use Rattle.answer.specs.AnswerLines.{answer-line}
@@ -47,16 +47,18 @@ shown-due texts vs are =
     (subst (ReportDue (verdicts-of none texts)) (ap text-shown (sym (r .docket-is)) ∙ shown-reached texts)
     (lines-due (given (verdicts-of none texts)) (verdicts-of none texts) (r .proper)))
 
--- the pieces joined are the input, and they are cut as document 01 says
-pub cut-is : (input : List ℕ) → Cut (pieces input) × (joined (pieces input) ≡ input)
-cut-is input = (pieces-cut input, joined-pieces input)
+-- an input has one list of pieces: they are cut as document 01 says, and joined they are the input
+pub one-cut : (input : List ℕ) → (texts : List (List ℕ)) × (Cut texts × (joined texts ≡ input)) × ((ps : List (List ℕ)) → Cut ps → joined ps ≡ input → ps ≡ texts)
+one-cut input = (pieces input, (pieces-cut input, joined-pieces input), the-cut input)
 
 -- of at most 65,536 bytes: a line for the answer due to each piece, then the report due after them; the bytes behind stay
-pub lists : (input output : List ℕ) (vs : List Verdict) → Are none (pieces input) vs → length input ≤ 65536 → 1048576 ≤ length output
+pub lists : (input output : List ℕ) (texts : List (List ℕ)) → Cut texts → joined texts ≡ input → (vs : List Verdict) → Are none texts vs
+    → length input ≤ 65536 → 1048576 ≤ length output
     → (lines : List ℕ) × ReportDue vs lines × (output-of input output ≡ over (stated-lines (answers-due [] vs) ++ lines) output)
     × (listed-of input output ≡ Written (length (stated-lines (answers-due [] vs) ++ lines)))
-lists input output vs are few room =
+lists input output ps cut whole vs of few room =
     let texts = pieces input in
+    let are = subst (λ (ts : List (List ℕ)). Are none ts vs) (the-cut input ps cut whole) of in
     let lines = report-text (after texts .held) in
     let l = stated-lines (answers-due [] vs) ++ lines in
     let is : listing-text input ≡ l =
@@ -77,6 +79,7 @@ lists-eleven input output many room =
 pub lists-nothing : (input output : List ℕ) → length output < 1048576 → (listed-of input output ≡ TooSmall) × (output-of input output ≡ output)
 lists-nothing input output small = (sym (small-answer input output small), sym (small-output input output small))
 
--- document 01's example, byte for byte
+-- ---- A witness: document 01's example, byte for byte
+
 pub lists-example : (output : List ℕ) → 1048576 ≤ length output → output-of listed-input output ≡ over listed-output output
 lists-example output room = sym (large-output listed-input output room listed-output example.input-listed)

@@ -84,27 +84,30 @@ three D R gs = record { periods = 3; demand = 0 ∷ 0 ∷ D ∷ []; spare = 0 �
 signs : map Tini (unit1 ∷ unit2 ∷ []) ≡ pos 3 ∷ negℤ (pos 2) ∷ []
 signs = refl
 
--- every number at its least, every number at its most
-range-ends : map in-range (
-    line 0 0 0 1 1 1 1 true 1 1 1 0 0 0 0 0
-    ∷ line 1000000000 10000000 10000 10000 10000 48 48 false 1000 10000 10000 1000000000 1000000000 48 1000000000 10000 ∷ [])
-    ≡ replicate 2 true
-unfolding in-range costs-in-range outputs-in-range times-in-range
-range-ends = refl
+-- every number at its least, every number at its most; Tini 1 and -1,000
+abbrev pub at-ends : List Generator
+at-ends =
+    line 0 0 0 1 1 1 1 false 1 1 1 0 0 0 0 0
+    ∷ line 1000000000 10000000 10000 10000 10000 48 48 true 1000 10000 10000 1000000000 1000000000 48 1000000000 10000
+    ∷ line 0 0 0 1 1 1 1 true 1 1 1 0 0 0 0 1 ∷ line 0 0 0 1 1 1 1 false 1000 1 1 0 0 0 0 0 ∷ []
 
--- one below its least, in the line's order: pL, pU, TU, TD, Tini, DR, UR; then each of the fifteen one above its most
-out-of-range : map in-range (
+-- one below its least, in the line's order: pL, pU, TU, TD, Tini, DR, UR; then each of the fifteen one above its most, Tini with either sign
+abbrev pub beyond-ends : List Generator
+beyond-ends =
     line 0 0 0 0 1 1 1 true 1 1 1 0 0 0 0 0 ∷ line 0 0 0 1 0 1 1 true 1 1 1 0 0 0 0 1 ∷ line 0 0 0 1 1 0 1 true 1 1 1 0 0 0 0 1
     ∷ line 0 0 0 1 1 1 0 true 1 1 1 0 0 0 0 1 ∷ line 0 0 0 1 1 1 1 true 0 1 1 0 0 0 0 1 ∷ line 0 0 0 1 1 1 1 true 1 0 1 0 0 0 0 1
     ∷ line 0 0 0 1 1 1 1 true 1 1 0 0 0 0 0 1
     ∷ line 1000000001 0 0 1 1 1 1 true 1 1 1 0 0 0 0 1 ∷ line 0 10000001 0 1 1 1 1 true 1 1 1 0 0 0 0 1
     ∷ line 0 0 10001 1 1 1 1 true 1 1 1 0 0 0 0 1 ∷ line 0 0 0 10001 1 1 1 true 1 1 1 0 0 0 0 1 ∷ line 0 0 0 1 10001 1 1 true 1 1 1 0 0 0 0 1
     ∷ line 0 0 0 1 1 49 1 true 1 1 1 0 0 0 0 1 ∷ line 0 0 0 1 1 1 49 true 1 1 1 0 0 0 0 1 ∷ line 0 0 0 1 1 1 1 true 1001 1 1 0 0 0 0 1
+    ∷ line 0 0 0 1 1 1 1 false 1001 1 1 0 0 0 0 0
     ∷ line 0 0 0 1 1 1 1 true 1 10001 1 0 0 0 0 1 ∷ line 0 0 0 1 1 1 1 true 1 1 10001 0 0 0 0 1 ∷ line 0 0 0 1 1 1 1 true 1 1 1 1000000001 0 0 0 1
     ∷ line 0 0 0 1 1 1 1 true 1 1 1 0 1000000001 0 0 1 ∷ line 0 0 0 1 1 1 1 true 1 1 1 0 0 49 0 1
-    ∷ line 0 0 0 1 1 1 1 true 1 1 1 0 0 0 1000000001 1 ∷ line 0 0 0 1 1 1 1 true 1 1 1 0 0 0 0 10001 ∷ []) ≡ replicate 22 false
+    ∷ line 0 0 0 1 1 1 1 true 1 1 1 0 0 0 1000000001 1 ∷ line 0 0 0 1 1 1 1 true 1 1 1 0 0 0 0 10001 ∷ []
+
+range-ends : (map in-range at-ends ≡ replicate 4 true) × (map in-range beyond-ends ≡ replicate 23 false)
 unfolding in-range costs-in-range outputs-in-range times-in-range
-out-of-range = refl
+range-ends = (refl, refl)
 
 -- pL = pU and Hsc = Csc; pL above pU; Hsc above Csc
 order-ties : map ordered (
@@ -209,7 +212,7 @@ specimen-costs = refl
 fuel : map (fuel-cost (line 1 2 3 1 9 1 1 true 1 9 9 0 0 0 0 1)) (4 ∷ 0 ∷ []) ≡ 57 ∷ 0 ∷ []
 fuel = refl
 
--- document 01, Specimens: TD + Tcold = 2, going on after two periods off and after three, some of them before period 1
+-- document 01, Specimens: TD + Tcold is 2, and a start comes after two periods off and after three, some of them before period 1
 hot-cold-before : map (row-cost 3 (timed 1 1 1 false 1)) ((0 ∷ 5 ∷ 5 ∷ []) ∷ (0 ∷ 0 ∷ 5 ∷ []) ∷ []) ≡ 20 ∷ 60 ∷ []
 unfolding row-cost
 hot-cold-before = refl

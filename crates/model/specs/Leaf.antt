@@ -17,7 +17,7 @@ unless-off free x = x
 unless-off (fixed true) x = x
 unless-off (fixed false) x = 0
 
--- the pU of the units not fixed off in period t
+-- the sum of the pU of all units that are free or fixed on in period t
 unfoldable pub available : List Generator → Marks → ℕ → ℕ
 available [] m t = 0
 available (g ∷ gs) m t = unless-off (m 0 t) (g .pU) + available gs (rest m) t

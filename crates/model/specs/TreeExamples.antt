@@ -92,6 +92,27 @@ three-periods : (leaf-value by-hand (root .marks) (λ t. (11 ∷ 0 ∷ 14 ∷ []
 unfolding leaf-value units-least unit-least value revenue requirement rows-of row-cost
 three-periods = (refl, refl)
 
+-- Cold and hot starts by hand, at the prices 8, 1, 11 and the reserve prices 1, 1, 2; D is 3, 2, 5 and R is 2, 1, 1.
+-- Unit 1 was off for two periods, TD + Tcold being 1: its first start is cold, 9, and one after a single period off is hot, 2. A stop costs 1. A period on at p
+-- gives 6 + 2·p + p·p - q·p - s·4, so for p = 1, 2, 3, 4 in period 1: -3, -6, -7, -6; in period 2: 4, 8, 14, 22; in period 3: -10, -16, -20, -22. On, off, on is least:
+-- 9 - 7 + 1 + 2 - 22 = -17. (Never off: 9 - 7 + 4 - 22 = -16. Off, off, on: 9 - 22 = -13. Off, on, on: 9 + 4 - 22 = -9. On, off, off: 9 - 7 + 1 = 3.)
+-- Unit 2 was on, TD + Tcold being 2: a start after two periods off is hot, 3; a cold one would be 7. A stop costs 1. A period on at p gives
+-- 10 + 3·p + 2·p·p - q·p - s·3, so for p = 2, 3 in period 1: 5, 10; in period 2: 19, 31; in period 3: -4, -2. Off, off, on is least: 1 + 3 - 4 = 0. (Always off: 1. On,
+-- off, on: 5 + 1 + 3 - 4 = 5. On, off, off: 5 + 1 = 6. Off, on, on: 1 + 3 + 19 - 4 = 19. Never off: 5 + 19 - 4 = 20.)
+-- The periods give 8·3 + 1·2 + 11·5 = 81 and 1·5 + 1·3 + 2·6 = 20. So the value is 81 + 20 - 17 + 0 = 84
+abbrev cold-and-hot : Instance
+cold-and-hot = record {
+  periods = 3;
+  demand = 3 ∷ 2 ∷ 5 ∷ [];
+  spare = 2 ∷ 1 ∷ 1 ∷ [];
+  units = line 6 2 1 1 4 1 1 false 2 9 9 2 9 0 1 0 ∷ line 10 3 2 2 3 1 1 true 1 9 9 3 7 1 1 2 ∷ [];
+}
+
+starts-by-hand : (leaf-value cold-and-hot (root .marks) (λ t. (8 ∷ 1 ∷ 11 ∷ []) at t) (λ t. (1 ∷ 1 ∷ 2 ∷ []) at t) ≡ pos 84)
+    × (map (λ g. unit-least 3 (λ t. (8 ∷ 1 ∷ 11 ∷ []) at t) (λ t. (1 ∷ 1 ∷ 2 ∷ []) at t) g (λ t. free)) (cold-and-hot .units) ≡ negℤ (pos 17) ∷ pos 0 ∷ [])
+unfolding leaf-value units-least unit-least value revenue requirement rows-of row-cost
+starts-by-hand = (refl, refl)
+
 -- ---- Tree
 
 -- document 01, Specimens: the tree of the listing, and a lone price leaf

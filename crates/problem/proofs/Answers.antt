@@ -45,7 +45,7 @@ answer-accepted text k = go (problem-judged text) refl
 -- ---- refused
 
 -- a text with a breach is read as its refusal and a blank problem
-pub refused-read : (n m : ℕ) (text : List ℕ) → RefusedAt n m text → problem-read text ≡ record { answer = Refused (line-refusal n m); problem = blank-problem }
+pub refused-read : (n m : ℕ) (text : List ℕ) → RefusedAt text n m → problem-read text ≡ record { answer = Refused (line-refusal n m); problem = blank-problem }
 unfolding problem-read read-as
 refused-read n m text r =
     ap read-as (problem-refused n m text .1 r)
@@ -55,7 +55,7 @@ refused-read n m text r =
 pub record IsRefused (x : Refusal) (text : List ℕ) : Type 0 where
   pub number : ℕ
   pub line : ℕ
-  pub breach : RefusedAt number line text
+  pub breach : RefusedAt text number line
   pub refusal : x ≡ line-refusal number line
 
 pub answer-refused : (x : Refusal) (text : List ℕ) → problem-read text .answer ≡ Refused x → IsRefused x text

@@ -3,14 +3,17 @@ use Prim.Native.Nat.{ℕ}
 use mathlib.Core.Path.{_≡_, refl}
 use mathlib.Core.Bool.{Bool, true, false}
 use mathlib.Core.List.{List, [], _∷_, _++_, map}
+use lib.ListN.{replicate}
 use Rattle.decimal.specs.Decimal.{digits, digitsBy}
 use Rattle.model.specs.declared.generator.Generator.{Generator}
 use Rattle.model.specs.Instance.{Instance}
 use Rattle.model.specs.Ranges.{WellFormed, midnight-ordered, ordered}
+use Rattle.model.specs.Examples.{at-ends, beyond-ends}
 use Rattle.text.specs.Lines.{kindOf}
 use Rattle.text.specs.Forms.{malformed, wrongCount, outOfRange}
 use Rattle.text.specs.Rendering.{rendered, plain-line, text-of}
 use Rattle.text.specs.Course.{refused-at, accepted, judged-from}
+use Rattle.text.proofs.Examples.{lines}
 use Rattle.problem.specs.Units.{unit-key, Tini-place, unit-line, unit-of}
 use Rattle.problem.specs.Rendering.{periods-key, units-key, demand-key, spare-key, lines-after, render}
 use Rattle.problem.specs.Course.{judge, problem-judged}
@@ -111,7 +114,7 @@ one-byte-over : problem-judged (text-of (kind-line ∷ periods-line ∷ units-li
 unfolding problem-judged judged-from judge malformed wrongCount outOfRange unit-of ordered midnight-ordered
 one-byte-over = refl
 
--- ---- the ends of the ranges, and the order of the numbers of a line
+-- ---- the ends of the ranges
 
 abbrev periods : ℕ → List ℕ
 periods T = plain-line periods-key (T ∷ [])
@@ -123,21 +126,17 @@ units I = plain-line units-key (I ∷ [])
 abbrev outputs-from : Bool → ℕ → ℕ → ℕ → List ℕ
 outputs-from minus pL pU p0 = rendered unit-key Tini-place minus (0 ∷ 0 ∷ 0 ∷ pL ∷ pU ∷ 1 ∷ 1 ∷ 1 ∷ 1 ∷ 1 ∷ 0 ∷ 0 ∷ 0 ∷ 0 ∷ p0 ∷ [])
 
--- Each text ends after the line in question: where that is good, the next one is missing, 12. T 1, 48, 0, 49; I 1, 32, 0, 33; D 0 and 320,000, 320,001; R the
--- same. Then lines that break two numbers: demand=060 (12, 14), demand=320001 (14, 13), pL 10,001 above pU 10,000 (13, 15)
+-- Each text ends after the line in question: where that is good, the next one is missing, 12. T 1, 48, 0, 49; I 1, 32, 0, 33; D 0 and 320,000, 320,001; R the same
 pub range-ends : map (λ ls. problem-judged (text-of (kind-line ∷ ls))) (
     (periods 1 ∷ []) ∷ (periods 48 ∷ []) ∷ (periods 0 ∷ []) ∷ (periods 49 ∷ [])
     ∷ (periods 2 ∷ units 1 ∷ []) ∷ (periods 2 ∷ units 32 ∷ []) ∷ (periods 2 ∷ units 0 ∷ []) ∷ (periods 2 ∷ units 33 ∷ [])
     ∷ (periods 2 ∷ units 1 ∷ plain-line demand-key (0 ∷ 320000 ∷ []) ∷ []) ∷ (periods 2 ∷ units 1 ∷ plain-line demand-key (0 ∷ 320001 ∷ []) ∷ [])
     ∷ (periods 2 ∷ units 1 ∷ demand-line ∷ plain-line spare-key (0 ∷ 320000 ∷ []) ∷ [])
-    ∷ (periods 2 ∷ units 1 ∷ demand-line ∷ plain-line spare-key (0 ∷ 320001 ∷ []) ∷ [])
-    ∷ (periods 2 ∷ units 1 ∷ (demand-key ++ (48 ∷ 54 ∷ 48 ∷ [])) ∷ []) ∷ (periods 2 ∷ units 1 ∷ plain-line demand-key (320001 ∷ []) ∷ [])
-    ∷ (periods 2 ∷ units 1 ∷ demand-line ∷ spare-line ∷ outputs-from false 10001 10000 1 ∷ []) ∷ [])
+    ∷ (periods 2 ∷ units 1 ∷ demand-line ∷ plain-line spare-key (0 ∷ 320001 ∷ []) ∷ []) ∷ [])
     ≡ refused-at 12 3 ∷ refused-at 12 3 ∷ refused-at 13 2 ∷ refused-at 13 2
     ∷ refused-at 12 4 ∷ refused-at 12 4 ∷ refused-at 13 3 ∷ refused-at 13 3
-    ∷ refused-at 12 5 ∷ refused-at 13 4 ∷ refused-at 12 6 ∷ refused-at 13 5
-    ∷ refused-at 12 4 ∷ refused-at 14 4 ∷ refused-at 13 6 ∷ []
-unfolding problem-judged judged-from judge malformed wrongCount outOfRange unit-of ordered midnight-ordered digits digitsBy
+    ∷ refused-at 12 5 ∷ refused-at 13 4 ∷ refused-at 12 6 ∷ refused-at 13 5 ∷ []
+unfolding problem-judged judged-from judge malformed wrongCount outOfRange digits digitsBy
 range-ends = refl
 
 -- document 02, [3], on the line of the only unit; where it is good, the end line is missing, 12. On before, pL 2 and pU 9: p0 2, 9, 1, 10, 0; off before: p0 0, 1; p0
@@ -163,3 +162,45 @@ pub midnight-malformed : map (λ l. problem-judged (text-of (kind-line ∷ perio
     ≡ refused-at 14 6 ∷ refused-at 12 6 ∷ refused-at 12 6 ∷ refused-at 12 6 ∷ []
 unfolding problem-judged judged-from judge malformed wrongCount outOfRange unit-of ordered midnight-ordered digits digitsBy
 midnight-malformed = refl
+
+-- the fifteen numbers on the line of the only unit, at their ends and one beyond; where the line is good, the end line is missing, 12
+pub unit-ends : (map (λ g. problem-judged (text-of (kind-line ∷ periods 2 ∷ units 1 ∷ demand-line ∷ spare-line ∷ unit-line g ∷ []))) at-ends ≡ replicate 4 (refused-at 12 7))
+    × (map (λ g. problem-judged (text-of (kind-line ∷ periods 2 ∷ units 1 ∷ demand-line ∷ spare-line ∷ unit-line g ∷ []))) beyond-ends ≡ replicate 23 (refused-at 13 6))
+unfolding problem-judged judged-from judge malformed wrongCount outOfRange unit-of unit-line ordered midnight-ordered digits digitsBy
+unit-ends = (refl, refl)
+
+-- ---- the order of the numbers on a line: each breaks two, and the first of 12, 14, 13, 15 refuses it
+
+-- of 12 and 14, 12 and 13, 14 and 13: the lines periods, units, demand and spare, after good ones; the line after it, missing, is 12 too and comes later
+pub plain-order : map (λ ls. problem-judged (lines ("kind=problem" ∷ ls))) (
+    ("periods=01,1" ∷ []) ∷ ("periods=049" ∷ []) ∷ ("periods=49,1" ∷ [])
+    ∷ ("periods=2" ∷ "units=01,1" ∷ []) ∷ ("periods=2" ∷ "units=033" ∷ []) ∷ ("periods=2" ∷ "units=33,1" ∷ [])
+    ∷ ("periods=2" ∷ "units=1" ∷ "demand=01" ∷ []) ∷ ("periods=2" ∷ "units=1" ∷ "demand=01,320001" ∷ []) ∷ ("periods=2" ∷ "units=1" ∷ "demand=320001" ∷ [])
+    ∷ ("periods=2" ∷ "units=1" ∷ "demand=1,1" ∷ "spare=01" ∷ []) ∷ ("periods=2" ∷ "units=1" ∷ "demand=1,1" ∷ "spare=01,320001" ∷ [])
+    ∷ ("periods=2" ∷ "units=1" ∷ "demand=1,1" ∷ "spare=320001" ∷ []) ∷ [])
+    ≡ refused-at 12 2 ∷ refused-at 12 2 ∷ refused-at 14 2 ∷ refused-at 12 3 ∷ refused-at 12 3 ∷ refused-at 14 3
+    ∷ refused-at 12 4 ∷ refused-at 12 4 ∷ refused-at 14 4 ∷ refused-at 12 5 ∷ refused-at 12 5 ∷ refused-at 14 5 ∷ []
+unfolding problem-judged judged-from judge malformed wrongCount outOfRange
+plain-order = refl
+
+-- the line of the only unit. 12 and 14: a leading zero and fourteen numbers; 12 and 13: a leading zero and c 10,001, and Tini -0; 12 and 15: a leading zero and pL above
+-- pU. 14 and 13: fourteen, and sixteen, with c 10,001; 14 and 15: fourteen with pL above pU, sixteen with Hsc above Csc. 13 and 15: pL 10,001 above pU, Hsc 1,000,000,001
+-- above Csc, and c 10,001 with a p0 below pL, and with one that is not 0 after periods off
+pub unit-order : map (λ l. problem-judged (lines ("kind=problem" ∷ "periods=2" ∷ "units=1" ∷ "demand=1,1" ∷ "spare=1,1" ∷ l ∷ []))) (
+    "unit=00,0,0,1,1,1,1,1,1,1,0,0,0,0" ∷ "unit=00,0,10001,1,1,1,1,1,1,1,0,0,0,0,1" ∷ "unit=0,0,0,1,1,1,1,-0,1,1,0,0,0,0,0" ∷ "unit=00,0,0,2,1,1,1,1,1,1,0,0,0,0,1"
+    ∷ "unit=0,0,10001,1,1,1,1,1,1,1,0,0,0,0" ∷ "unit=0,0,10001,1,1,1,1,1,1,1,0,0,0,0,1,1"
+    ∷ "unit=0,0,0,2,1,1,1,1,1,1,0,0,0,0" ∷ "unit=0,0,0,1,1,1,1,1,1,1,1,0,0,0,1,1"
+    ∷ "unit=0,0,0,10001,10000,1,1,1,1,1,0,0,0,0,1" ∷ "unit=0,0,0,1,1,1,1,1,1,1,1000000001,1000000000,0,0,1"
+    ∷ "unit=0,0,10001,2,2,1,1,1,1,1,0,0,0,0,1" ∷ "unit=0,0,10001,1,1,1,1,-1,1,1,0,0,0,0,1" ∷ [])
+    ≡ replicate 4 (refused-at 12 6) ++ (replicate 4 (refused-at 14 6) ++ replicate 4 (refused-at 13 6))
+unfolding problem-judged judged-from judge malformed wrongCount outOfRange unit-of ordered midnight-ordered
+unit-order = refl
+
+-- an earlier line comes first, whatever the numbers: 14 or 13 at line 2, 13 at line 5 and 15 at line 6, each before a line that is not the one due
+pub earlier-line : map (λ ls. problem-judged (lines ("kind=problem" ∷ ls))) (
+    ("periods=2,2" ∷ "unit=1" ∷ []) ∷ ("periods=0" ∷ "unit=1" ∷ [])
+    ∷ ("periods=1" ∷ "units=2" ∷ "demand=1" ∷ "spare=320001" ∷ "end=problem" ∷ [])
+    ∷ ("periods=1" ∷ "units=2" ∷ "demand=1" ∷ "spare=1" ∷ "unit=0,0,0,2,1,1,1,1,1,1,0,0,0,0,1" ∷ "end=problem" ∷ []) ∷ [])
+    ≡ refused-at 14 2 ∷ refused-at 13 2 ∷ refused-at 13 5 ∷ refused-at 15 6 ∷ []
+unfolding problem-judged judged-from judge malformed wrongCount outOfRange unit-of ordered midnight-ordered
+earlier-line = refl

@@ -11,8 +11,11 @@ pub mod Signs
 pub mod PlainLines
 pub mod Rendered
 pub mod WasRendered
+pub mod Completed
+pub mod Beginnings
 pub mod WhichLine
 pub mod Acceptance
 pub mod Answers
 pub mod Sizes
 pub mod Examples
+pub mod WrongTests

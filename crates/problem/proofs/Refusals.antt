@@ -1,5 +1,5 @@
--- A problem's text is refused by a number at a line exactly where every line before passes and that number is the first of 12, 14, 13, 15
--- whose test holds of the line: the law of courses. Each of these numbers carries its line.
+-- A problem's text is refused by a number at a line exactly where the lines before it begin the text of a well-formed problem and that number refuses it there:
+-- the law of courses, and WhichLine.antt. Each of these numbers carries its line.
 use Prim.Native.Nat.{ℕ}
 use mathlib.Core.Path.{_≡_, refl}
 use mathlib.Core.Bool.{true}
@@ -14,6 +14,7 @@ use Rattle.text.proofs.Tests.{Every}
 use Rattle.text.proofs.Courses.{refused-is, number-every}
 use Rattle.problem.specs.Course.{Due, periods-due, units-due, demand-due, spare-due, unit-due, end-due, nothing-due, next-due, tests, judge, end, problem-judged}
 use Rattle.problem.specs.Refusals.{RefusedAt}
+use Rattle.problem.proofs.WhichLine.{refused-line-is}
 
 -- a line that is missing is 12, whatever is due
 pub judge-missing : (s : Due) → judge s missing ≡ refused 12
@@ -27,9 +28,12 @@ judge-missing (end-due P) = refl
 judge-missing (nothing-due P) = refl
 
 -- refused by n at line m
-pub problem-refused : (n m : ℕ) (text : List ℕ) → (problem-judged text ≡ refused-at n m) ↔ RefusedAt n m text
+pub problem-refused : (n m : ℕ) (text : List ℕ) → (problem-judged text ≡ refused-at n m) ↔ RefusedAt text n m
 unfolding problem-judged judge
-problem-refused n m text = refused-is tests next-due end n m 2 periods-due (later (linesOf text))
+problem-refused n m text =
+    let c = refused-is tests next-due end n m 2 periods-due (later (linesOf text)) in
+    let w = refused-line-is n m text in
+    (λ e. w .0 (c .0 e), λ r. c .1 (w .1 r))
 
 all-lined : (s : Due) (l : Line) → Every (λ n. carriesLine n ≡ true) (tests s l)
 unfolding carriesLine
@@ -41,6 +45,7 @@ all-lined (unit-due n P) l = (refl, (refl, (refl, (refl, tt))))
 all-lined (end-due P) l = (refl, tt)
 all-lined (nothing-due P) l = (refl, tt)
 
-pub refused-carries : (n m : ℕ) (text : List ℕ) → RefusedAt n m text → refusalOf n m 0 0 ≡ line-refusal n m
+pub refused-carries : (n m : ℕ) (text : List ℕ) → RefusedAt text n m → refusalOf n m 0 0 ≡ line-refusal n m
 unfolding carriesLine
-refused-carries n m text r = line-only n m (number-every tests next-due end (λ k. carriesLine k ≡ true) refl all-lined n m 2 periods-due (later (linesOf text)) r)
+refused-carries n m text r =
+    line-only n m (number-every tests next-due end (λ k. carriesLine k ≡ true) refl all-lined n m 2 periods-due (later (linesOf text)) (refused-line-is n m text .1 r))

@@ -149,18 +149,23 @@ module _ (g : Generator) where
 
 -- ---- a line that is good
 
+-- its form is good: it is the line of a generator whose numbers are in range
+pub unit-line-formed : (l : Line) → forms.good unit-form l ≡ true → (l ≡ ended (unit-line (unit-of l))) × InRange (unit-of l)
+unfolding unit-line unit-of
+unit-line-formed l g =
+    let A = good-rendered unit-form l g in
+    let minus = anyMinus (valuesOf unit-form l) in
+    let vs = sizes (valuesOf unit-form l) in
+    let n : numbers (generator minus vs) ≡ vs = numbers-generator minus vs (A .fits .count) in (
+      A .line ∙ (λ i. ended (rendered unit-key Tini-place (sym (not-not minus) i) (sym n i))),
+      in-range-of (generator minus vs) (ap (λ (x : List ℕ). withinAll x unit-lows unit-highs) n ∙ A .fits .range),
+    )
+
 pub record IsUnitLine (l : Line) : Type 0 where
   pub line : l ≡ ended (unit-line (unit-of l))
   pub good : GoodUnit (unit-of l)
 
 pub unit-line-was : (l : Line) → forms.good unit-form l ≡ true → ordered (unit-of l) ≡ true → IsUnitLine l
-unfolding unit-line unit-of
 unit-line-was l g o =
-    let A = good-rendered unit-form l g in
-    let minus = anyMinus (valuesOf unit-form l) in
-    let vs = sizes (valuesOf unit-form l) in
-    let n : numbers (generator minus vs) ≡ vs = numbers-generator minus vs (A .fits .count) in
-    record {
-      line = A .line ∙ (λ i. ended (rendered unit-key Tini-place (sym (not-not minus) i) (sym n i)));
-      good = record { in-range = in-range-of (generator minus vs) (ap (λ (x : List ℕ). withinAll x unit-lows unit-highs) n ∙ A .fits .range); ordered = ordered-of (generator minus vs) o };
-    }
+    let f = unit-line-formed l g in
+    record { line = f .0; good = record { in-range = f .1; ordered = ordered-of (unit-of l) o } }

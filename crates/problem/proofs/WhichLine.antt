@@ -1,208 +1,206 @@
--- The line at which a problem's text is refused, by renderings alone: the lines before it begin the text of some well-formed problem, and with it they
--- begin none.
-use Prim.Native.Nat.{ℕ, zero, suc, _+_, _≤_, _<_}
+-- The lines of a problem's text that pass are those that begin the text of some well-formed problem, and the first test that holds of a line there is the number
+-- that refuses it, by renderings: so the law of text/proofs/WhichLine.antt holds of problems.
+use Prim.Native.Nat.{ℕ, zero, suc, _+_, _<_}
 use native.Mathlib.Omega.{arith}
 use mathlib.Core.Path.{_≡_, refl, sym, ap, subst, _∙_}
-use mathlib.Core.Bool.{true}
-use mathlib.Core.List.{List, [], _∷_, _++_, map, append-assoc}
-use lib.ListN.{length}
+use mathlib.Core.Bool.{Bool, true, false, not}
+use mathlib.Core.List.{List, [], _∷_, _++_, map}
+use mathlib.Core.Logic.{_↔_, _⊎_, inl, inr}
+use mathlib.Core.Option.{none}
+use lib.ListN.{length, length-append}
+use borrow.Author.Tests.{not-true}
 use Rattle.model.specs.declared.generator.Generator.{Generator}
 use Rattle.model.specs.Instance.{Instance}
-use Rattle.model.specs.Ranges.{All, GoodLoad, GoodUnit, WellFormed}
-use Rattle.text.specs.Lines.{Line, ended, endProblem}
-use Rattle.text.specs.Rendering.{plain-line}
-use Rattle.text.specs.Tests.{First, None, Passed, none-yet, one-more, AllPassed, tests-before, RefusedAt}
+use Rattle.model.specs.Ranges.{WellFormed, InRange, Ordered, ordered}
+use Rattle.text.specs.Lines.{Line, ended, due, later, linesOf, endProblem}
+use Rattle.text.specs.Forms.{Form, form-tests}
+use Rattle.text.specs.Tests.{Test, _if_, First, this, after, None, tests-before, RefusedAt}
+use Rattle.text.specs.LineRefused.{Unfit, Beginning, Refuses, at-numbers, at-last, behind-last}
 use Rattle.text.proofs.Courses as courses
-use Rattle.text.proofs.Words.{same-self}
-use Rattle.text.proofs.Plain.{plain-passed}
-use Rattle.problem.specs.Units.{unit-line}
-use Rattle.problem.specs.Rendering.{lines-after, periods-key, units-key, demand-key, spare-key}
-use Rattle.problem.specs.Course.{Due, periods-due, units-due, demand-due, spare-due, unit-due, end-due, nothing-due, fleet-due, no-units, with-unit, tests, next-due, end}
-use Rattle.problem.proofs.Ends.{judge-end}
-use Rattle.problem.proofs.Rendered.{also, unit-judged, periods-judged, units-judged, demand-judged, spare-judged, lines-good}
+use Rattle.text.proofs.Tests.{first-every}
+use Rattle.text.proofs.Verdicts.{form-passes}
+use Rattle.text.proofs.Unfit as unfitness
+use Rattle.text.proofs.Unfit.{Fits, fits-passes}
+use Rattle.text.proofs.WhichLine as which-line
+use Rattle.text.proofs.WhichLine.{Follows}
+use Rattle.problem.specs.Units.{unit-form, unit-line, unit-of}
+use Rattle.problem.specs.Rendering.{lines-after}
+use Rattle.problem.specs.Course.{Due, periods-due, units-due, demand-due, spare-due, unit-due, end-due, nothing-due, tests, next-due, end, periods-form, units-form, demand-form, spare-form}
+use Rattle.problem.specs.Refusals as refusals
+use Rattle.problem.specs.Refusals.{FormAt, periods, units, demand, spare, unit, Breaks, unfit, disordered, InLimits}
 use Rattle.problem.proofs.WasRendered.{lines-were}
+use Rattle.problem.proofs.UnitLines.{unit-line-good, unit-line-of, unit-line-formed, ordered-of, of-ordered}
+use Rattle.problem.proofs.Completed.{completed}
+use Rattle.problem.proofs.Beginnings.{Stands, at-periods, at-units, at-demand, at-spare, at-unit, at-end, at-nothing, from-first}
 
-zeros : ℕ → List ℕ
-zeros zero = []
-zeros (suc n) = 0 ∷ zeros n
+true-not-false : {b : Bool} → b ≡ true → b ≡ false → ⊥
+true-not-false e k = let z : _≡_ {A = ℕ} 0 1 = cc in omega arith
 
-zeros-long : (n : ℕ) → length (zeros n) ≡ n
-unfolding zeros
-zeros-long zero = refl
-zeros-long (suc n) = ap suc (zeros-long n)
+-- ---- the numbers there
 
-zeros-in : (n : ℕ) → All GoodLoad (zeros n)
-unfolding zeros
-zeros-in zero = tt
-zeros-in (suc n) = ((omega arith, omega arith), zeros-in n)
+-- the lines of a text are four, the unit lines and the last
+lines-long : (P : Instance) → length (lines-after P) ≡ 5 + length (P .units)
+unfolding lines-after
+lines-long P = omega (arith, length-append (map unit-line (P .units)) (endProblem ∷ []), mapped (P .units))
+  where
+    mapped : (gs : List Generator) → length (map unit-line gs) ≡ length gs
+    mapped [] = refl
+    mapped (g ∷ gs) = ap suc (mapped gs)
 
-abbrev some-unit : Generator
-some-unit = record { a = 0; b = 0; c = 0; pL = 1; pU = 1; TU = 1; TD = 1; on = true; since = 1; DR = 1; UR = 1; Hsc = 0; Csc = 0; Tcold = 0; Dc = 0; p0 = 1 }
+module _ (P : Instance) where
+  -- one form is due at a place, and none from the last line on
+  abbrev form-at : ℕ → Form
+  form-at zero = periods-form
+  form-at (suc zero) = units-form
+  form-at (suc (suc zero)) = demand-form (P .periods)
+  form-at (suc (suc (suc zero))) = spare-form (P .periods)
+  form-at (suc (suc (suc (suc u)))) = unit-form
 
-some-good : GoodUnit some-unit
-some-good = record {
-  in-range = record {
-    a-in = (omega arith, omega arith);
-    b-in = (omega arith, omega arith);
-    c-in = (omega arith, omega arith);
-    pL-in = (omega arith, omega arith);
-    pU-in = (omega arith, omega arith);
-    TU-in = (omega arith, omega arith);
-    TD-in = (omega arith, omega arith);
-    since-in = (omega arith, omega arith);
-    DR-in = (omega arith, omega arith);
-    UR-in = (omega arith, omega arith);
-    Hsc-in = (omega arith, omega arith);
-    Csc-in = (omega arith, omega arith);
-    Tcold-in = (omega arith, omega arith);
-    Dc-in = (omega arith, omega arith);
-    p0-in = (omega arith, omega arith);
-  };
-  ordered = record { limits = omega arith; starts = omega arith; midnight = (λ k. (omega arith, omega arith), λ k. absurd k) };
-}
+  one-form : {k : ℕ} {f : Form} → FormAt P k f → f ≡ form-at k
+  one-form periods = refl
+  one-form units = refl
+  one-form demand = refl
+  one-form spare = refl
+  one-form (unit u h) = ap form-at (let e : suc (suc (suc (suc u))) ≡ 4 + u = omega arith in e)
 
--- ---- a text can be completed from every place that is reached
+  before-last : {k : ℕ} {f : Form} → FormAt P k f → k < 4 + length (P .units)
+  before-last periods = omega arith
+  before-last units = omega arith
+  before-last demand = omega arith
+  before-last spare = omega arith
+  before-last (unit u h) = omega (arith, h)
 
--- there is a period
-abbrev pub Fine : Due → Type 0
-Fine periods-due = Unit {0}
-Fine (units-due T) = 1 ≤ T
-Fine (demand-due T I) = 1 ≤ T
-Fine (spare-due T I D) = 1 ≤ T
-Fine (unit-due n P) = Unit {0}
-Fine (end-due P) = Unit {0}
-Fine (nothing-due P) = Unit {0}
+  breaks-before-last : {k n : ℕ} {l : Line} → Breaks P k l n → k < 4 + length (P .units)
+  breaks-before-last (unfit f F u) = before-last F
+  breaks-before-last (disordered F g e R O) = before-last F
 
-fleet-fine : (n : ℕ) (P : Instance) → Fine (fleet-due n P)
-fleet-fine zero P = tt
-fleet-fine (suc n) P = tt
+  abbrev Broken : ℕ → List Line → ℕ → Type 0
+  Broken k left n = Refuses lines-after endProblem InLimits Breaks P k left n
 
-fine-next : (s : Due) (x : Line) → Fine s → None (tests s x) → Fine (next-due s x)
-fine-next periods-due x f n = let p = plain-passed periods-key 1 1 48 x [] n in p .range 0 (omega (arith, p .count)) .0
-fine-next (units-due T) x f n = f
-fine-next (demand-due T I) x f n = f
-fine-next (spare-due T I D) x f n = fleet-fine I _
-fine-next (unit-due k P) x f n = fleet-fine k _
-fine-next (end-due P) x f n = tt
-fine-next (nothing-due P) x f n = tt
+  module _ (k : ℕ) (left : List Line) where
+    -- where a line of numbers is due
+    broken-numbers : (f : Form) → FormAt P k f → (n : ℕ) → Broken k left n → Breaks P k (due left) n
+    broken-numbers f F n (at-numbers b) = b
+    broken-numbers f F n (at-last e h) = absurd (omega (arith, e, before-last F, lines-long P))
+    broken-numbers f F n (behind-last e h) = absurd (omega (arith, e, before-last F, lines-long P))
 
-fine-then : (s t : Due) (ls : List Line) → Fine s → Passed tests next-due s ls t → Fine t
-fine-then s t [] f none-yet = f
-fine-then s t (x ∷ ls) f (one-more {s′ = u} n e p) = fine-then u t ls (subst Fine e (fine-next s x f n)) p
+    -- one that is no unit line
+    module _ (s : Due) (f : Form) (no-end : end s ≡ none) (same : (l : Line) → tests s l ≡ form-tests f l []) (F : FormAt P k f) (unsigned : f .minus ≡ 0) where
+      breaks-unfit : (n : ℕ) → Breaks P k (due left) n → Unfit f (due left) n
+      breaks-unfit n (unfit g G u) = subst (λ (h : Form). Unfit h (due left) n) (one-form G ∙ sym (one-form F)) u
+      breaks-unfit n (disordered G g e R O) = absurd (omega (arith, unsigned, ap (λ (h : Form). h .minus) (one-form F ∙ sym (one-form G))))
 
-pub record Completes (s : Due) : Type 0 where
-  pub lines : List Line
-  pub gives : Instance
-  pub all : AllPassed tests next-due end gives s lines
+      at-form : (n : ℕ) → First n (tests-before tests next-due end s left) ↔ Broken k left n
+      at-form n = (λ h. forth (d .0 h), λ b. d .1 (inl (breaks-unfit n (broken-numbers f F n b))))
+        where
+          d : First n (tests-before tests next-due end s left) ↔ (Unfit f (due left) n ⊎ (((neg : Bool) × (vs : List ℕ) × Fits f (due left) neg vs) × First n []))
+          d = unfitness.numbers-due tests next-due end s f (λ l. []) no-end same left n
 
-from-fleet : (n : ℕ) (P : Instance) → Completes (fleet-due n P)
-from-fleet zero P = record {
-  lines = ended endProblem ∷ [];
-  gives = P;
-  all = record { last = nothing-due P; passed = also (judge-end P (ended endProblem) (same-self endProblem)) none-yet; ends = refl };
-}
-from-fleet (suc n) P =
-    let c = from-fleet n (with-unit P some-unit) in
-    record {
-      lines = ended (unit-line some-unit) ∷ c .lines;
-      gives = c .gives;
-      all = record { last = c .all .last; passed = also (unit-judged n P some-unit some-good) (c .all .passed); ends = c .all .ends };
-    }
+          forth : Unfit f (due left) n ⊎ (((neg : Bool) × (vs : List ℕ) × Fits f (due left) neg vs) × First n []) → Broken k left n
+          forth (inl u) = at-numbers (unfit f F u)
+          forth (inr (t, h)) = absurd (first-every (λ _. ⊥) n [] tt h)
 
-from-spare : (T I : ℕ) (D : List ℕ) → 1 ≤ T → Completes (spare-due T I D)
-from-spare T I D h =
-    let c = from-fleet I (no-units T D (zeros T)) in
-    record {
-      lines = ended (plain-line spare-key (zeros T)) ∷ c .lines;
-      gives = c .gives;
-      all = record { last = c .all .last; passed = also (spare-judged T I h D (zeros T) (zeros-long T) (zeros-in T)) (c .all .passed); ends = c .all .ends };
-    }
+    -- a unit line
+    module _ (m : ℕ) (Q : Instance) (F : FormAt P k unit-form) where
+      abbrev order : Line → List Test
+      order l = 15 if not (ordered (unit-of l)) ∷ []
 
-from-demand : (T I : ℕ) → 1 ≤ T → Completes (demand-due T I)
-from-demand T I h =
-    let c = from-spare T I (zeros T) h in
-    record {
-      lines = ended (plain-line demand-key (zeros T)) ∷ c .lines;
-      gives = c .gives;
-      all = record { last = c .all .last; passed = also (demand-judged T I h (zeros T) (zeros-long T) (zeros-in T)) (c .all .passed); ends = c .all .ends };
-    }
+      abbrev Judged : ℕ → Type 0
+      Judged n = Unfit unit-form (due left) n ⊎ (((neg : Bool) × (vs : List ℕ) × Fits unit-form (due left) neg vs) × First n (order (due left)))
 
-from-units : (T : ℕ) → 1 ≤ T → Completes (units-due T)
-from-units T h =
-    let c = from-demand T 1 h in
-    record {
-      lines = ended (plain-line units-key (1 ∷ [])) ∷ c .lines;
-      gives = c .gives;
-      all = record { last = c .all .last; passed = also (units-judged T 1 (omega arith, omega arith)) (c .all .passed); ends = c .all .ends };
-    }
+      out-of-order : (neg : Bool) (vs : List ℕ) → Fits unit-form (due left) neg vs → (n : ℕ) → First n (order (due left)) → Breaks P k (due left) n
+      out-of-order neg vs t n (this e) =
+          let u = unit-line-formed (due left) (form-passes unit-form (due left) [] .0 (fits-passes unit-form (due left) neg vs t) .0) in
+          disordered F (unit-of (due left)) (u .0) (u .1) (λ O. true-not-false (of-ordered (unit-of (due left)) O) (not-true (ordered (unit-of (due left))) e))
+      out-of-order neg vs t n (after e h) = absurd (first-every (λ _. ⊥) n [] tt h)
 
-pub completes : (s : Due) → Fine s → Completes s
-completes periods-due f =
-    let c = from-units 1 (omega arith) in
-    record {
-      lines = ended (plain-line periods-key (1 ∷ [])) ∷ c .lines;
-      gives = c .gives;
-      all = record { last = c .all .last; passed = also (periods-judged 1 (omega arith, omega arith)) (c .all .passed); ends = c .all .ends };
-    }
-completes (units-due T) f = from-units T f
-completes (demand-due T I) f = from-demand T I f
-completes (spare-due T I D) f = from-spare T I D f
-completes (unit-due n P) f = from-fleet (suc n) P
-completes (end-due P) f = from-fleet zero P
-completes (nothing-due P) f = record { lines = []; gives = P; all = record { last = nothing-due P; passed = none-yet; ends = refl } }
+      forth-unit : (n : ℕ) → Judged n → Broken k left n
+      forth-unit n (inl u) = at-numbers (unfit unit-form F u)
+      forth-unit n (inr (t, h)) = at-numbers (out-of-order (t .0) (t .1) (t .2) n h)
 
--- ---- which line
+      -- numbers in range that are not ordered are 15
+      disorder-first : (g : Generator) → InRange g → (Ordered g → ⊥) → First 15 (tests (unit-due m Q) (ended (unit-line g)))
+      disorder-first g R n = let f = formed in after (f .0) (after (f .1 .0) (after (f .1 .1 .0) (this (ap not (ap ordered (unit-line-of g R) ∙ go (ordered g) refl)))))
+        where
+          formed : None (form-tests unit-form (ended (unit-line g)) [])
+          formed = form-passes unit-form (ended (unit-line g)) [] .1 (unit-line-good g R, tt)
 
--- the lines begin those of a well-formed problem
-pub record Begin (ls : List Line) : Type 0 where
-  pub problem : Instance
-  pub more : List Line
-  pub whole : ls ++ more ≡ map ended (lines-after problem)
-  pub formed : WellFormed problem
+          go : (b : Bool) → ordered g ≡ b → ordered g ≡ false
+          go true e = absurd (n (ordered-of g e))
+          go false e = e
 
-module _ (n m : ℕ) (ls : List Line) (r : RefusedAt tests next-due end n m 2 periods-due ls) where
-  -- the lines before it do
-  pub before-begin : Begin (r .before)
-  before-begin =
-      let c = completes (r .stands) (fine-then periods-due (r .stands) (r .before) tt (r .passed)) in
-      let w = lines-were (c .gives) (r .before ++ c .lines) (record {
+      back-unit : (n : ℕ) → Breaks P k (due left) n → First n (tests-before tests next-due end (unit-due m Q) left)
+      back-unit n (unfit g G u) =
+          unfitness.numbers-due tests next-due end (unit-due m Q) unit-form order refl (λ l. refl) left n .1
+          (inl (subst (λ (h : Form). Unfit h (due left) n) (one-form G ∙ sym (one-form F)) u))
+      back-unit n (disordered G g e R O) = shown left e
+        where
+          shown : (left : List Line) → due left ≡ ended (unit-line g) → First 15 (tests-before tests next-due end (unit-due m Q) left)
+          shown [] e = absurd (let z : _≡_ {A = ℕ} 0 1 = cc in omega arith)
+          shown (x ∷ left) e = subst (λ (l : Line). First 15 (tests (unit-due m Q) l)) (sym e) (disorder-first g R O)
+
+      at-unit-line : (n : ℕ) → First n (tests-before tests next-due end (unit-due m Q) left) ↔ Broken k left n
+      at-unit-line n = (
+        λ h. forth-unit n (unfitness.numbers-due tests next-due end (unit-due m Q) unit-form order refl (λ l. refl) left n .0 h),
+        λ b. back-unit n (broken-numbers unit-form F n b),
+      )
+
+  module _ (left : List Line) (Q : Instance) where
+    broken-last : (n : ℕ) → Broken (4 + length (P .units)) left n → (n ≡ 12) × (due left ≡ ended endProblem → ⊥)
+    broken-last n (at-numbers b) = absurd (omega (arith, breaks-before-last b))
+    broken-last n (at-last e h) = (refl, h)
+    broken-last n (behind-last e h) = absurd (omega (arith, e, lines-long P))
+
+    broken-behind : (n : ℕ) → Broken (5 + length (P .units)) left n → (n ≡ 12) × (left ≡ [] → ⊥)
+    broken-behind n (at-numbers b) = absurd (omega (arith, breaks-before-last b))
+    broken-behind n (at-last e h) = absurd (omega (arith, e, lines-long P))
+    broken-behind n (behind-last e h) = (refl, h)
+
+    at-end-line : (n : ℕ) → First n (tests-before tests next-due end (end-due Q) left) ↔ Broken (4 + length (P .units)) left n
+    at-end-line n =
+        let d = unfitness.word-due tests next-due end (end-due Q) endProblem refl (λ l. refl) left n in (
+          λ h. let t = d .0 h in rw (t .0) (at-last (omega (arith, lines-long P)) (t .1)),
+          λ b. d .1 (broken-last n b),
+        )
+
+    behind-end : (n : ℕ) → First n (tests-before tests next-due end (nothing-due Q) left) ↔ Broken (5 + length (P .units)) left n
+    behind-end n =
+        let d = unfitness.nothing-due tests next-due end (nothing-due Q) Q refl (λ l. refl) left n in (
+          λ h. let t = d .0 h in rw (t .0) (behind-last (omega (arith, lines-long P)) (t .1)),
+          λ b. d .1 (broken-behind n b),
+        )
+
+  refuses : (k : ℕ) (s : Due) → Stands P k s → (left : List Line) (n : ℕ) → First n (tests-before tests next-due end s left) ↔ Broken k left n
+  refuses k s at-periods left n = at-form 0 left periods-due periods-form refl (λ l. refl) periods refl n
+  refuses k s (at-units T) left n = at-form 1 left (units-due T) units-form refl (λ l. refl) units refl n
+  refuses k s (at-demand I) left n = at-form 2 left (demand-due (P .periods) I) (demand-form (P .periods)) refl (λ l. refl) demand refl n
+  refuses k s (at-spare I D) left n = at-form 3 left (spare-due (P .periods) I D) (spare-form (P .periods)) refl (λ l. refl) spare refl n
+  refuses k s (at-unit u m Q h) left n = at-unit-line (4 + u) left m Q (unit u h) n
+  refuses k s (at-end Q) left n = at-end-line left Q n
+  refuses k s (at-nothing Q) left n = behind-end left Q n
+
+-- ---- the law
+
+follows : Follows tests next-due end lines-after endProblem InLimits Breaks periods-due Stands
+follows = record {
+  passes = λ P ls b. let r = from-first P (b .within) ls (b .more) (b .whole) in (r .place, subst (λ (k : ℕ). Stands P k (r .place)) (omega arith) (r .stands), r .passed);
+  begins = λ s ls p.
+      let c = completed s ls p in
+      let w = lines-were (c .gives) (ls ++ c .lines) (record {
         last = c .all .last;
-        passed = courses.passed-both tests next-due end (r .before) (c .lines) (r .passed) (c .all .passed);
+        passed = courses.passed-both tests next-due end ls (c .lines) p (c .all .passed);
         ends = c .all .ends;
       }) in
-      record { problem = c .gives; more = c .lines; whole = w .lines; formed = w .well-formed }
+      (c .gives, record { more = c .lines; whole = w .lines; within = w .well-formed });
+  refuses = λ P k s h left n. refuses P k s h left n;
+}
 
-  not-accepted : (P : Instance) → ls ≡ map ended (lines-after P) → WellFormed P → ⊥
-  not-accepted P e W =
-      let a = courses.accepted-is tests next-due end P 2 periods-due ls .1 (subst (AllPassed tests next-due end P periods-due) (sym e) (lines-good P W)) in
-      let b = courses.refused-is tests next-due end n m 2 periods-due ls .1 r in
-      let q = sym a ∙ b in
-      let z : _≡_ {A = ℕ} 0 1 = cc in
-      omega arith
+module _ (n m : ℕ) (text : List ℕ) where
+  -- as the line is judged, and as texts are written
+  pub refused-line-is : RefusedAt tests next-due end n m 2 periods-due (later (linesOf text)) ↔ refusals.RefusedAt text n m
+  refused-line-is = which-line.line-refused-is tests next-due end lines-after endProblem InLimits Breaks follows n m (later (linesOf text))
 
--- with it they do not
-pub with-it-none : (n m : ℕ) (before rest : List Line) (x : Line)
-    → (r : RefusedAt tests next-due end n m 2 periods-due (before ++ (x ∷ rest))) → r .before ≡ before → Begin (before ++ (x ∷ [])) → ⊥
-with-it-none n m before rest x r e b =
-    let same : r .rest ≡ x ∷ rest = after before (r .before) (r .rest) (x ∷ rest) e (sym (r .parts)) in
-    let t : before ++ (x ∷ b .more) ≡ map ended (lines-after (b .problem)) = sym (append-assoc before (x ∷ []) (b .more)) ∙ b .whole in
-    let k : RefusedAt tests next-due end n m 2 periods-due (before ++ (x ∷ b .more)) = record {
-      before = before;
-      rest = x ∷ b .more;
-      stands = r .stands;
-      parts = refl;
-      passed = subst (λ (l : List Line). Passed tests next-due periods-due l (r .stands)) e (r .passed);
-      place = subst (λ (l : List Line). m ≡ 2 + length l) e (r .place);
-      first = first-same (r .rest) same (r .first);
-    } in
-    not-accepted n m (before ++ (x ∷ b .more)) k (b .problem) t (b .formed)
-  where
-    after : (a a′ c d : List Line) → a′ ≡ a → a′ ++ c ≡ a ++ d → c ≡ d
-    after [] [] c d e q = q
-    after [] (y ∷ a′) c d e q = absurd (let z : _≡_ {A = ℕ} 0 1 = cc in omega arith)
-    after (y ∷ a) [] c d e q = absurd (let z : _≡_ {A = ℕ} 0 1 = cc in omega arith)
-    after (y ∷ a) (y′ ∷ a′) c d e q = let p : a′ ≡ a = cc in let s : a′ ++ c ≡ a ++ d = cc in after a a′ c d p s
-
-    first-same : (l : List Line) → l ≡ x ∷ rest → First n (tests-before tests next-due end (r .stands) l)
-        → First n (tests-before tests next-due end (r .stands) (x ∷ b .more))
-    first-same l q f = subst (λ (k : List Line). First n (tests-before tests next-due end (r .stands) k)) q f
+  -- with the refused line the lines begin the text of no well-formed problem
+  pub with-it-none : (r : refusals.RefusedAt text n m) (x : Line) (rest : List Line) → r .left ≡ x ∷ rest
+      → (P : Instance) → Beginning lines-after InLimits (r .before ++ (x ∷ [])) P → ⊥
+  with-it-none = which-line.with-it-none tests next-due end lines-after endProblem InLimits Breaks follows n m (later (linesOf text))

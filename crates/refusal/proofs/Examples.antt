@@ -7,7 +7,7 @@ missing-line : refusalOf 12 1 4 4 ≡ record { number = 12; line = 1; unit = 0; 
 unfolding refusalOf carriesLine carriesUnit carriesPeriod
 missing-line = refl
 
--- 49,80 and 11,20: 25, unit 1, period 2
+-- document 01, Specimens: the ramp that is too steep
 ramp : refusalOf 25 5 1 2 ≡ record { number = 25; line = 0; unit = 1; period = 2 }
 unfolding refusalOf carriesLine carriesUnit carriesPeriod
 ramp = refl

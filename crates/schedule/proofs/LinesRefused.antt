@@ -1,6 +1,6 @@
 -- A text is refused at a line exactly where no test holds of a line before it and a test holds of it, and the number is the first such
 -- test's: the law of courses. Each of these numbers carries its line.
-use Prim.Native.Nat.{ℕ}
+use Prim.Native.Nat.{ℕ, _<_}
 use mathlib.Core.Path.{_≡_, refl}
 use mathlib.Core.Bool.{true}
 use mathlib.Core.Logic.{_↔_}
@@ -14,7 +14,8 @@ use Rattle.text.specs.Course.{refused, refused-at}
 use Rattle.text.proofs.Tests.{Every}
 use Rattle.text.proofs.Courses.{refused-is, number-every}
 use Rattle.schedule.specs.Course.{Due, writer-due, run-due, end-due, nothing-due, tests, next-due, judge, end, schedule-judged}
-use Rattle.schedule.specs.Answers.{RefusedAt}
+use Rattle.schedule.specs.Refusals.{RefusedAt}
+use Rattle.schedule.proofs.WhichLine.{line-refused-is}
 
 module _ (P : Instance) where
   -- a line that is missing is 12, whatever is due
@@ -32,12 +33,16 @@ module _ (P : Instance) where
   all-lined (end-due v) l = (refl, tt)
   all-lined (nothing-due v) l = (refl, tt)
 
-  module _ (text : List ℕ) (n l : ℕ) where
+  module _ (h : 0 < P .periods) (text : List ℕ) (n l : ℕ) where
     pub judged-refused-is : (schedule-judged P text ≡ refused-at n l) ↔ RefusedAt P text n l
     unfolding schedule-judged judge
-    judged-refused-is = refused-is (tests P) (next-due P) end n l 2 writer-due (later (linesOf text))
+    judged-refused-is =
+        let a = refused-is (tests P) (next-due P) end n l 2 writer-due (later (linesOf text)) in
+        let b = line-refused-is P h n l (later (linesOf text)) in
+        (λ e. b .0 (a .0 e), λ r. a .1 (b .1 r))
 
     pub refused-carries : RefusedAt P text n l → refusalOf n l 0 0 ≡ line-refusal n l
     unfolding carriesLine
     refused-carries r =
-        line-only n l (number-every (tests P) (next-due P) end (λ k. carriesLine k ≡ true) refl all-lined n l 2 writer-due (later (linesOf text)) r)
+        line-only n l (number-every (tests P) (next-due P) end (λ k. carriesLine k ≡ true) refl all-lined n l 2 writer-due (later (linesOf text))
+        (line-refused-is P h n l (later (linesOf text)) .1 r))

@@ -17,7 +17,8 @@ use Rattle.refusal.specs.Refusals.{refusalOf, carriesLine, carriesUnit, carries
 use Rattle.text.specs.Course.{Judged, refused-at, accepted}
 use Rattle.schedule.specs.Course.{Written, written, schedule-judged}
 use Rattle.schedule.specs.Reading.{IsSchedule, Outcome, refused-by, accepted-as, by-rules, schedule-outcome}
-use Rattle.schedule.specs.Answers.{rule-refusal, Accepts, AcceptsSome, BreaksFirst, RefusedAt, RefusedFor, by-line, by-rule}
+use Rattle.schedule.specs.Refusals.{RefusedAt}
+use Rattle.schedule.specs.Answers.{rule-refusal, Accepts, AcceptsSome, BreaksFirst, RefusedFor, by-line, by-rule}
 use Rattle.schedule.proofs.Wholes.{judged-is}
 use Rattle.schedule.proofs.LinesRefused.{judged-refused-is, refused-carries}
 
@@ -124,13 +125,13 @@ module _ (P : Instance) (W : WellFormed P) (text : List ℕ) (is : IsSchedule te
       forth : (o : Outcome) → Found P text o → (r : Refusal) → o ≡ refused-by r → RefusedFor P text r
       forth o (at-a-line n l e) r q =
           let k : refusalOf n l 0 0 ≡ r = cc in
-          let t = judged-refused-is P text n l .0 e in
-          subst (RefusedFor P text) (sym (refused-carries P text n l t) ∙ k) (by-line n l t)
+          let t = judged-refused-is P (W .periods-in .0) text n l .0 e in
+          subst (RefusedFor P text) (sym (refused-carries P (W .periods-in .0) text n l t) ∙ k) (by-line n l t)
       forth o (at-a-rule v b e f) r q = let k : refusalOf (b .number) 0 (b .unit) (b .period) ≡ r = cc in subst (RefusedFor P text) k (breach-refuses v b e f)
       forth o (at-no-fault v e f) r q = absurd (let z : _≡_ {A = ℕ} 0 1 = cc in omega arith)
 
       back : (r : Refusal) → RefusedFor P text r → schedule-outcome P text ≡ refused-by r
-      back r (by-line n l t) = outcome-refused P text n l (judged-refused-is P text n l .1 t) ∙ ap refused-by (refused-carries P text n l t)
+      back r (by-line n l t) = outcome-refused P text n l (judged-refused-is P (W .periods-in .0) text n l .1 t) ∙ ap refused-by (refused-carries P (W .periods-in .0) text n l t)
       back r (by-rule b t) =
           let e = judged-is P W text is (t .writer) (t .rows) .1 (t .renders, (t .writer-in, t .rows-in)) in
           outcome-accepted P text (written (t .writer) (t .rows)) e

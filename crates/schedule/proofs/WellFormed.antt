@@ -2,6 +2,7 @@
 -- lines, so every line passes.
 use Prim.Native.Nat.{ℕ, _≤_}
 use mathlib.Core.Path.{_≡_, refl, sym, subst}
+use mathlib.Core.Bool.{true}
 use mathlib.Core.Logic.{_↔_}
 use mathlib.Core.List.{List}
 use lib.ListN.{length}
@@ -9,46 +10,49 @@ use Rattle.model.specs.Instance.{Instance, Schedule}
 use Rattle.model.specs.Ranges as ranges
 use Rattle.model.specs.Ranges.{GoodWriter, GoodRows}
 use Rattle.text.specs.Lines.{Line, later, linesOf, lineAt}
-use Rattle.text.specs.Tests.{Test, AllPassed}
-use Rattle.text.specs.WellFormed.{form-only}
+use Rattle.text.specs.Tests.{RefusedAt}
+use Rattle.text.specs.WellFormed.{of-form}
+use Rattle.text.proofs.Tests.{Every}
+use Rattle.text.proofs.Courses.{number-every}
 use Rattle.text.proofs.FirstLine.{schedule-is}
 use Rattle.text.proofs.WellFormed.{unrefused-passed, passed-unrefused}
 use Rattle.schedule.specs.Rendering.{render}
 use Rattle.schedule.specs.Course.{written, Due, writer-due, run-due, end-due, nothing-due, tests, next-due, end}
+use Rattle.schedule.specs.Refusals.{BrokenAt}
 use Rattle.schedule.specs.Reading.{IsSchedule}
 use Rattle.schedule.specs.WellFormed.{WellFormed}
 use Rattle.schedule.proofs.Rendered.{lines-good-is}
+use Rattle.schedule.proofs.WhichLine.{line-refused-is}
 use Rattle.schedule.proofs.Wholes.{render-is-schedule, rendered-is}
 
 module _ (P : Instance) where
-  all-of-form : (s : Due) (l : Line) → form-only (tests P s l) ≡ tests P s l
-  all-of-form writer-due l = refl
-  all-of-form (run-due n v) l = refl
-  all-of-form (end-due v) l = refl
-  all-of-form (nothing-due v) l = refl
-
-  same : _≡_ {A = Due → Line → List Test} (λ s l. form-only (tests P s l)) (tests P)
-  same i s l = all-of-form s l i
+  all-of-form : (s : Due) (l : Line) → Every (λ n. of-form n ≡ true) (tests P s l)
+  all-of-form writer-due l = (refl, (refl, (refl, tt)))
+  all-of-form (run-due n v) l = (refl, (refl, (refl, tt)))
+  all-of-form (end-due v) l = (refl, tt)
+  all-of-form (nothing-due v) l = (refl, tt)
 
   pub well-formed-is : ranges.WellFormed P → (text : List ℕ)
       → WellFormed P text ↔ ((length text ≤ 1048576) × ((w : ℕ) × (s : Schedule) × ((text ≡ render w s) × GoodWriter w × GoodRows P s)))
   well-formed-is W text = (forth, back)
     where
+      which : (n m : ℕ) → RefusedAt (tests P) (next-due P) end n m 2 writer-due (later (linesOf text)) ↔ BrokenAt P n m (later (linesOf text))
+      which n m = line-refused-is P (W .periods-in .0) n m (later (linesOf text))
+
       forth : WellFormed P text → (length text ≤ 1048576) × ((w : ℕ) × (s : Schedule) × ((text ≡ render w s) × GoodWriter w × GoodRows P s))
       forth f =
-          let p = unrefused-passed (λ s l. form-only (tests P s l)) (next-due P) end 2 writer-due (later (linesOf text)) (f .unbroken) in
+          let p = unrefused-passed (tests P) (next-due P) end 2 writer-due (later (linesOf text))
+          (λ n m r. f .unbroken n m (number-every (tests P) (next-due P) end (λ k. of-form k ≡ true) refl all-of-form n m 2 writer-due (later (linesOf text)) r) (which n m .0 r)) in
           let v = p .0 in
-          let a = subst (λ (t : Due → Line → List Test). AllPassed t (next-due P) end v writer-due (later (linesOf text))) same (p .1) in
-          let g = lines-good-is P (W .periods-in .0) (v .writer) (v .rows) (later (linesOf text)) .0 a in
+          let g = lines-good-is P (W .periods-in .0) (v .writer) (v .rows) (later (linesOf text)) .0 (p .1) in
           (f .short, (v .writer, v .rows, (rendered-is text (schedule-is (lineAt text 0) .1 (f .first)) (v .writer) (v .rows) .0 (g .0), g .1 .0, g .1 .1)))
 
       back : (length text ≤ 1048576) × ((w : ℕ) × (s : Schedule) × ((text ≡ render w s) × GoodWriter w × GoodRows P s)) → WellFormed P text
       back (short, (w, s, (e, ok, rows))) =
           let is = subst IsSchedule (sym e) (render-is-schedule w s) in
           let a = lines-good-is P (W .periods-in .0) w s (later (linesOf text)) .1 (rendered-is text is w s .1 e, (ok, rows)) in
-          let b = subst (λ (t : Due → Line → List Test). AllPassed t (next-due P) end (written w s) writer-due (later (linesOf text))) (sym same) a in
           record {
             short = short;
             first = schedule-is (lineAt text 0) .0 is;
-            unbroken = passed-unrefused (λ s l. form-only (tests P s l)) (next-due P) end 2 writer-due (later (linesOf text)) (written w s) b;
+            unbroken = λ n m k r. passed-unrefused (tests P) (next-due P) end 2 writer-due (later (linesOf text)) (written w s) a n m (which n m .1 r);
           }

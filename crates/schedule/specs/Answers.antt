@@ -10,10 +10,8 @@ use Rattle.model.specs.Breach.{Breach}
 use Rattle.model.specs.Broken.{Broken, Lower}
 use Rattle.refusal.specs.declared.Refusal.{Refusal}
 use Rattle.refusal.specs.Refusals.{line-refusal}
-use Rattle.text.specs.Lines.{later, linesOf}
-use Rattle.text.specs.Tests as lines
 use Rattle.schedule.specs.Rendering.{render}
-use Rattle.schedule.specs.Course.{writer-due, tests, next-due, end}
+use Rattle.schedule.specs.Refusals.{RefusedAt}
 
 -- the refusal of a broken rule
 abbrev pub rule-refusal : Breach → Refusal
@@ -44,11 +42,7 @@ module _ (P : Instance) (text : List ℕ) where
     pub broken : Broken P rows b
     pub first : (c : Breach) → Lower c b → Broken P rows c → ⊥
 
-  -- no test holds of a line before line l, and n is the first number of 12, 14, 13 whose test holds of line l
-  abbrev pub RefusedAt : ℕ → ℕ → Type 0
-  RefusedAt n l = lines.RefusedAt (tests P) (next-due P) end n l 2 writer-due (later (linesOf text))
-
   -- the refusals that meet the text
   pub data RefusedFor : Refusal → Type 0 where
-    by-line : (n l : ℕ) → RefusedAt n l → RefusedFor (line-refusal n l)
+    by-line : (n l : ℕ) → RefusedAt P text n l → RefusedFor (line-refusal n l)
     by-rule : (b : Breach) → BreaksFirst b → RefusedFor (rule-refusal b)

@@ -4,7 +4,7 @@ use mathlib.Core.List.{List}
 use Rattle.model.specs.Instance.{Instance}
 use Rattle.text.specs.Lines.{kindSchedule}
 use Rattle.text.specs.WellFormed.{Formed}
-use Rattle.schedule.specs.Course.{writer-due, tests, next-due, end}
+use Rattle.schedule.specs.Refusals.{BrokenAt}
 
 abbrev pub WellFormed : Instance → List ℕ → Type 0
-WellFormed P text = Formed kindSchedule writer-due (tests P) (next-due P) end text
+WellFormed P text = Formed kindSchedule (BrokenAt P) text

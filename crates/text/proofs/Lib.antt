@@ -14,11 +14,13 @@ pub mod Shown
 pub mod Bytes
 pub mod Accepted
 pub mod Partition
+pub mod Unfit
 pub mod Plain
 pub mod PlainRows
 pub mod Fills
 pub mod Examples
 pub mod Courses
+pub mod WhichLine
 pub mod Steps
 pub mod Texts
 pub mod Ends

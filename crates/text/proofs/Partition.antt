@@ -12,6 +12,7 @@ use lib.Dec.{eqb}
 use borrow.Author.Tests.{not-false}
 use Rattle.text.specs.Lines.{Line, missing, unended, ended, begins}
 use Rattle.text.specs.Forms.{Form, cutValues, allFormed, sizes, anyMinus, valuesOf, numbers-of, withinAll, malformed, wrongCount, outOfRange}
+use Rattle.text.specs.LineRefused.{Renders}
 use Rattle.text.specs.Rendering.{joined, shown, shownAll, rendered}
 use Rattle.text.proofs.Cuts.{and-both}
 use Rattle.text.proofs.Keys.{begins-append, begins-text}
@@ -19,12 +20,6 @@ use Rattle.text.proofs.Joins.{joined-cut, cut-joined, values-some}
 use Rattle.text.proofs.Shown.{sizes-shown, length-shown, all-formed, all-shown, minus-carried}
 use Rattle.text.proofs.Bytes.{no-commas}
 use Rattle.text.proofs.Accepted.{renderedLine}
-
--- the line is ended and its bytes render these values: a minus only at the value that may carry it, which is then not 0
-pub record Renders (f : Form) (l : Line) (neg : Bool) (vs : List ℕ) : Type 0 where
-  pub some : 0 < length vs
-  pub sign : neg ≡ true → (1 ≤ f .minus) × ((f .minus < 1 + length vs) × (0 < getD vs (f .minus - 1) 0))
-  pub line : l ≡ renderedLine f neg vs
 
 module _ (f : Form) (neg : Bool) (vs : List ℕ) (some : 0 < length vs)
     (sign : neg ≡ true → (1 ≤ f .minus) × ((f .minus < 1 + length vs) × (0 < getD vs (f .minus - 1) 0))) where

@@ -8,8 +8,13 @@ use mathlib.Core.Option.{Option}
 use Rattle.text.specs.Lines.{Line}
 use Rattle.text.specs.Course.{Judged, refused-at, accepted, judged-from}
 use Rattle.text.specs.Tests.{Test, _if_, None, RefusedAt, AllPassed}
-use Rattle.text.specs.WellFormed.{of-form, form-only}
+use Rattle.text.specs.WellFormed.{of-form}
 use Rattle.text.proofs.Courses as courses
+
+-- of the tests of a line those of 12 to 15, 31 and 32
+abbrev pub form-only : List Test → List Test
+form-only [] = []
+form-only (n if b ∷ ts) = cond (of-form n) (n if b ∷ form-only ts) (form-only ts)
 
 pub none-of-form : (ts : List Test) → None ts → None (form-only ts)
 none-of-form [] h = tt

@@ -3,6 +3,7 @@ pub mod Course
 pub mod Tests
 pub mod Forms
 pub mod Rendering
+pub mod LineRefused
 pub mod Writer
 pub mod Scan
 pub mod Ends

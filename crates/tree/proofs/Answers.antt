@@ -2,7 +2,7 @@
 use mathlib.Core.Path.{_≡_, refl, sym, ap, _∙_}
 use mathlib.Core.List.{List, [], _∷_, _++_, map}
 use mathlib.Core.Logic.{_↔_}
-use Prim.Native.Nat.{ℕ}
+use Prim.Native.Nat.{ℕ, _≤_}
 use native.Mathlib.Omega.{arith}
 use lib.IntN.{ℤ, pos}
 use lib.Signed.{_≤ℤ_}
@@ -22,10 +22,12 @@ use Rattle.text.proofs.FirstLine.{tree-is}
 use Rattle.text.proofs.Texts.{whole-is}
 use Rattle.tree.specs.Rendering.{node-lines, render}
 use Rattle.tree.specs.Due.{Figures, by-writer, pending, writer-due, tests, next, judge, end, IsTree, judged}
-use Rattle.tree.specs.Answers.{figures-of, Accepted, Refused}
+use Rattle.tree.specs.Answers.{figures-of, Accepted}
+use Rattle.tree.specs.Refusals.{Refused}
 use Rattle.tree.proofs.Bounds.{add-is, figures-same}
 use Rattle.tree.proofs.Written.{lines-one}
 use Rattle.tree.proofs.Complete.{tree-accepted}
+use Rattle.tree.proofs.WhichLine as which
 use Rattle.tree.proofs.Correct.{Whole, Grown, forest-lines, with-forest, good-left}
 
 -- ---- accepted
@@ -70,10 +72,14 @@ module _ (P : Instance) (text : List ℕ) (first : IsTree text) (F : Figures) wh
 
 -- ---- refused
 
--- n refuses the text at line m exactly where no test holds of a line before it and n is the first number whose test holds of line m
-pub refused-is-first : (P : Instance) (text : List ℕ) (n m : ℕ) → (judged P text ≡ refused-at n m) ↔ Refused P text n m
+-- n refuses the text at line m exactly where the lines before it begin the text of a tree whose leaves hold as far as these show, and n refuses line m where the
+-- next line of that text stands
+pub refused-is-first : (P : Instance) → 1 ≤ P .periods → (text : List ℕ) (n m : ℕ) → (judged P text ≡ refused-at n m) ↔ Refused P text n m
 unfolding judged judge
-refused-is-first P text n m = courses.refused-is (tests P) (next P) end n m 2 writer-due (later (linesOf text))
+refused-is-first P some text n m =
+    let a = courses.refused-is (tests P) (next P) end n m 2 writer-due (later (linesOf text)) in
+    let b = which.line-refused-is P some n m (later (linesOf text)) in
+    ((λ e. b .0 (a .0 e)), (λ r. a .1 (b .1 r)))
 
 -- ---- sound
 

@@ -55,7 +55,7 @@ free-mark (fixed b) e = absurd (let z : _≡_ {A = ℕ} 0 1 = cc in omega arith)
 -- ---- a split line
 
 module _ (P : Instance) where
-  split-fits : (U t : ℕ) → U < length (P .units) → t < P .periods → Fits (node-form P split-line) false (suc U ∷ suc t ∷ [])
+  pub split-fits : (U t : ℕ) → U < length (P .units) → t < P .periods → Fits (node-form P split-line) false (suc U ∷ suc t ∷ [])
   split-fits U t h k = record {
     some = omega arith;
     count = refl;

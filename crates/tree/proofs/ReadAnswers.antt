@@ -1,26 +1,31 @@
 -- What read_tree answers is what document 01 says: accepted with a tree's figures exactly where the text is that of such a tree, and
--- refused by a number at a line exactly where that number is the first there. Every number of a tree's text carries its line.
+-- refused by a number at a line exactly where document 01 does so. Every number of a tree's text carries its line.
 use mathlib.Core.Path.{_≡_, refl, sym, ap, _∙_}
 use mathlib.Core.Bool.{true}
-use mathlib.Core.List.{List, [], _∷_}
+use mathlib.Core.List.{List}
 use mathlib.Core.Logic.{_↔_}
-use Prim.Native.Nat.{ℕ}
+use Prim.Native.Nat.{ℕ, _≤_}
 use native.Mathlib.Omega.{arith}
+use lib.ListN.{length}
 use Rattle.model.specs.Instance.{Instance}
 use Rattle.model.specs.Ranges.{WellFormed}
+use Rattle.model.specs.Above.{Above}
 use Rattle.model.specs.Tree.{never, number}
 use Rattle.model.specs.Tree as model
-use Rattle.text.specs.Lines.{Line, later, linesOf}
+use Rattle.text.specs.Lines.{Line, due, endTree}
 use Rattle.text.specs.Course.{Judged, refused-at, accepted}
-use Rattle.text.proofs.Tests.{Every}
-use Rattle.text.proofs.Courses.{number-every}
+use Rattle.text.specs.Forms.{Form}
+use Rattle.text.specs.LineRefused.{Unfit, no-values, miscounted, out-of-range, Refuses, at-numbers, at-last, behind-last}
+use Rattle.text.specs.Writer.{writer-form}
 use Rattle.refusal.proofs.Places.{line-only}
 use Rattle.refusal.specs.Refusals.{carriesLine, refusalOf, line-refusal}
 use Rattle.refusal.specs.declared.Refusal.{Refusal}
 use Rattle.tree.specs.declared.figures.Bound.{Bound}
 use Rattle.tree.specs.declared.TreeRead.the-variants as answer
-use Rattle.tree.specs.Due.{Figures, Due, writer-due, nodes-due, reserve-due, nothing-due, tests, next, end, IsTree, judged}
-use Rattle.tree.specs.Answers.{Accepted, Refused}
+use Rattle.tree.specs.Due.{Figures, IsTree, judged}
+use Rattle.tree.specs.NodeLines.{node-form, reserve-form}
+use Rattle.tree.specs.Answers.{Accepted}
+use Rattle.tree.specs.Refusals.{WrittenTree, written-lines, NodeBreaks, no-node, unfit, again, too-deep, not-short, not-stuck, ReserveBreaks, unfit-reserve, some-stuck, Breaks, at-writer, at-node, at-reserve, HoldsSoFar, Refused}
 use Rattle.tree.specs.Coded.{bound-of}
 use Rattle.tree.specs.Reading.{coded, read-as, tree-read}
 use Rattle.tree.proofs.Bounds.{coded-is, figures-same}
@@ -60,32 +65,57 @@ module _ (P : Instance) (text : List ℕ) (w : ℕ) (b : Bound) (m n : ℕ) wher
 -- ---- refused
 
 -- each number carries its line
-all-lined : (P : Instance) (s : Due) (l : Line) → Every (λ n. carriesLine n ≡ true) (tests P s l)
-unfolding tests carriesLine
-all-lined P writer-due l = (refl, (refl, (refl, tt)))
-all-lined P (nodes-due F []) l = (refl, tt)
-all-lined P (nodes-due F (p ∷ ps)) l = (refl, (refl, (refl, (refl, (refl, (refl, (refl, tt)))))))
-all-lined P (reserve-due F A q ps) l = (refl, (refl, (refl, (refl, tt))))
-all-lined P (nothing-due F) l = (refl, tt)
+abbrev Lined : ℕ → Type 0
+Lined n = carriesLine n ≡ true
+
+unfit-lined : (f : Form) (x : Line) (n : ℕ) → Unfit f x n → Lined n
+unfolding carriesLine
+unfit-lined f x n (no-values h) = refl
+unfit-lined f x n (miscounted neg vs r c) = refl
+unfit-lined f x n (out-of-range neg vs r c h) = refl
+
+node-lined : (P : Instance) (A : Above) (d : ℕ) (x : Line) (n : ℕ) → NodeBreaks P A d x n → Lined n
+unfolding carriesLine
+node-lined P A d x n (no-node h) = refl
+node-lined P A d x n (unfit k neg vs r u) = unfit-lined (node-form P k) x n u
+node-lined P A d x n (again U t h k e f) = refl
+node-lined P A d x n (too-deep U t h k e f b) = refl
+node-lined P A d x n (not-short t h e f) = refl
+node-lined P A d x n (not-stuck U h e f) = refl
+
+reserve-lined : (P : Instance) (A : Above) (q : List ℕ) (x : Line) (n : ℕ) → ReserveBreaks P A q x n → Lined n
+unfolding carriesLine
+reserve-lined P A q x n (unfit-reserve u) = unfit-lined (reserve-form P) x n u
+reserve-lined P A q x n (some-stuck s m e f) = refl
+
+breaks-lined : (P : Instance) (v : WrittenTree) (k : ℕ) (x : Line) (n : ℕ) → Breaks P v k x n → Lined n
+unfolding carriesLine
+breaks-lined P v k x n (at-writer e u) = unfit-lined writer-form x n u
+breaks-lined P v k x n (at-node {d = d} {A = A} e a b) = node-lined P A d x n b
+breaks-lined P v k x n (at-reserve {A = A} {q = q} e a b) = reserve-lined P A q x n b
 
 pub refused-carries : (P : Instance) (text : List ℕ) (n l : ℕ) → Refused P text n l → refusalOf n l 0 0 ≡ line-refusal n l
 unfolding carriesLine
-refused-carries P text n l r =
-    line-only n l (number-every (tests P) (next P) end (λ k. carriesLine k ≡ true) refl (all-lined P) n l 2 writer-due (later (linesOf text)) r)
+refused-carries P text n l r = line-only n l (go n (r .refuses))
+  where
+    go : (n : ℕ) → Refuses written-lines endTree (HoldsSoFar P) (Breaks P) (r .value) (length (r .before)) (r .left) n → Lined n
+    go n (at-numbers b) = breaks-lined P (r .value) (length (r .before)) (due (r .left)) n b
+    go n (at-last e f) = refl
+    go n (behind-last e f) = refl
 
-module _ (P : Instance) (text : List ℕ) (n l : ℕ) where
-  -- read_tree refuses by n at line l exactly where each line before it is good and n is the first number there
+module _ (P : Instance) (some : 1 ≤ P .periods) (text : List ℕ) (n l : ℕ) where
+  -- read_tree refuses by n at line l exactly where document 01 does
   pub read-refused : (tree-read P text ≡ answer.Refused (line-refusal n l)) ↔ Refused P text n l
   unfolding tree-read read-as
   read-refused = (
-    (λ e. refused-is-first P text n l .0 (go (judged P text) refl e)),
-    (λ r. ap read-as (refused-is-first P text n l .1 r) ∙ ap answer.Refused (refused-carries P text n l r)),
+    (λ e. refused-is-first P some text n l .0 (go (judged P text) refl e)),
+    (λ r. ap read-as (refused-is-first P some text n l .1 r) ∙ ap answer.Refused (refused-carries P text n l r)),
   )
     where
       go : (j : Judged Figures) → judged P text ≡ j → read-as j ≡ answer.Refused (line-refusal n l) → judged P text ≡ refused-at n l
       go (accepted F) p e = absurd (let z : _≡_ {A = ℕ} 0 1 = cc in omega arith)
       go (refused-at k m) p e =
-          let r = refused-is-first P text k m .0 p in
+          let r = refused-is-first P some text k m .0 p in
           let c = refused-carries P text k m r in
           let q : refusalOf k m 0 0 ≡ line-refusal n l = cc in
           let s = sym c ∙ q in

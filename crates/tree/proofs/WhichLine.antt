@@ -1,202 +1,206 @@
--- The line at which a tree's text is refused, by renderings alone: the lines before it begin the text of some tree within the limits whose leaves hold,
--- and with it they begin none. After a price line this asks that no unit is stuck: that is what 35 says at the reserve line.
-use Prim.Native.Nat.{ℕ, zero, suc, _+_, _≤_, _<_}
+-- Which line of a tree's text is refused and by which number: the way to judge it line by line follows the texts of trees, by all tests and by those of the form.
+-- With the refused line the lines begin no text of a tree within the limits whose leaves hold.
+use mathlib.Core.Path.{_≡_, refl, sym, subst}
+use mathlib.Core.Bool.{true}
+use mathlib.Core.List.{List, [], _∷_, _++_}
+use mathlib.Core.Logic.{_↔_, _⊎_, inl, inr}
+use Prim.Native.Nat.{ℕ, suc, _+_, _≤_}
 use native.Mathlib.Omega.{arith}
-use mathlib.Core.Path.{_≡_, refl, sym, ap, subst, _∙_}
-use mathlib.Core.Bool.{Bool, true, false, not, _||_}
-use mathlib.Core.List.{List, [], _∷_, _++_, map, append-assoc}
-use lib.Dec.{T}
-use lib.ListN.{length}
-use Rattle.model.specs.declared.generator.Generator.{Generator}
+use lib.ListN.{length, length-append}
 use Rattle.model.specs.Instance.{Instance}
-use Rattle.model.specs.Ranges.{All, GoodPrice, GoodWriter}
-use Rattle.model.specs.Above.{Marks, Above, root, rest}
-use Rattle.model.specs.Leaf.{is-stuck, stuck-at, any-stuck}
-use Rattle.model.specs.Tree.{Tree, stuck, price, Limits, Holds, Multipliers}
-use Rattle.text.specs.Lines.{Line, ended, endTree}
-use Rattle.text.specs.Rendering.{plain-line}
-use Rattle.text.specs.Writer.{writer-key}
-use Rattle.text.specs.Tests.{First, none-yet, AllPassed, tests-before, RefusedAt}
-use Rattle.text.proofs.Courses as courses
-use Rattle.tree.specs.Rendering.{reserve-key, node-lines}
-use Rattle.tree.specs.Due.{Figures, by-writer, Pending, pending, Due, writer-due, nodes-due, reserve-due, nothing-due, tests, next, end}
-use Rattle.tree.proofs.Bounds.{add}
-use Rattle.tree.proofs.Written.{map-both}
-use Rattle.tree.proofs.NodeLines.{not-T, reserve-good}
-use Rattle.tree.proofs.Complete.{Passes, also, node-good, writer-good, end-good}
-use Rattle.tree.proofs.Correct.{Grown, forest-lines, Whole, good-left}
+use Rattle.model.specs.Above.{Above, root}
+use Rattle.model.specs.Tree.{Holds}
+use Rattle.text.specs.Lines.{Line, ended, due, later, linesOf, endTree}
+use Rattle.text.specs.Writer.{writer-form}
+use Rattle.text.specs.Tests.{First, tests-before, RefusedAt}
+use Rattle.text.specs.LineRefused.{Unfit, Beginning, Refuses, at-numbers, at-last, behind-last, LineRefused}
+use Rattle.text.specs.WellFormed.{of-form}
+use Rattle.text.proofs.Tests.{first-every}
+use Rattle.text.proofs.Unfit.{numbers-due, word-due, nothing-due}
+use Rattle.text.proofs.WellFormed.{form-only}
+use Rattle.text.proofs.WhichLine as which
+use Rattle.text.proofs.WhichLine.{Follows}
+use Rattle.tree.specs.Rendering.{node-lines}
+use Rattle.tree.specs.Places.{Place, node-at, reserve-at, LineAt, HoldsAmong}
+use Rattle.tree.specs.Refusals.{WrittenTree, written-lines, NodeBreaks, ReserveBreaks, Breaks, InLimits, HoldsSoFar, BrokenAt, Refused}
+use Rattle.tree.specs.Refusals as refusals
+use Rattle.tree.specs.Due.{Due, writer-due, nodes-due, tests, next, end}
+use Rattle.tree.specs.Due as machine
+use Rattle.tree.proofs.FormLines.{all-of-form}
+use Rattle.tree.proofs.FormTests.{form-first}
+use Rattle.tree.proofs.LinePlaces.{line-among, line-once}
+use Rattle.tree.proofs.PlaceTests.{node-first, reserve-first}
+use Rattle.tree.proofs.LinesPass.{DueAt, node-due, reserve-there, Stands, at-writer, at-place, at-end, past-end, begins-come, form-takes, all-takes}
+use Rattle.tree.proofs.LinesBegin.{begun}
+use Rattle.tree.proofs.LeavesHold.{leaves-hold}
 
-zeros : ℕ → List ℕ
-zeros zero = []
-zeros (suc n) = 0 ∷ zeros n
-
-zeros-long : (n : ℕ) → length (zeros n) ≡ n
-unfolding zeros
-zeros-long zero = refl
-zeros-long (suc n) = ap suc (zeros-long n)
-
-zeros-in : (n : ℕ) → All GoodPrice (zeros n)
-unfolding zeros
-zeros-in zero = tt
-zeros-in (suc n) = ((omega arith, omega arith), zeros-in n)
-
--- a unit that is stuck
-find-stuck : (n : ℕ) (gs : List Generator) (m : Marks) → any-stuck n gs m ≡ true → (U : ℕ) × (U < length gs) × T (stuck-at n gs m U)
-find-stuck n [] m e = absurd (let z : _≡_ {A = ℕ} 0 1 = cc in omega arith)
-find-stuck n (g ∷ gs) m e = go (is-stuck n g (m 0)) refl e (find-stuck n gs (rest m))
-  where
-    go : (b : Bool) → is-stuck n g (m 0) ≡ b → (b || any-stuck n gs (rest m)) ≡ true
-        → (any-stuck n gs (rest m) ≡ true → (U : ℕ) × (U < length gs) × T (stuck-at n gs (rest m) U))
-        → (U : ℕ) × (U < length (g ∷ gs)) × T (stuck-at n (g ∷ gs) m U)
-    go true s e ih = (0, omega arith, subst T (sym s) tt)
-    go false s e ih = let r = ih e in (suc (r .0), omega (arith, r .1), r .2)
-
--- the lines of a tree's text after the first
-abbrev pub rest-lines : ℕ → Tree → List Line
-rest-lines w t = ended (plain-line writer-key (w ∷ [])) ∷ map ended (node-lines t ++ (endTree ∷ []))
+lines-long : (v : WrittenTree) → length (written-lines v) ≡ 2 + length (node-lines (v .tree))
+lines-long v = let e = length-append (node-lines (v .tree)) (endTree ∷ []) in omega arith
 
 module _ (P : Instance) (some : 1 ≤ P .periods) where
-  none-priced : Multipliers P (zeros (P .periods))
-  none-priced = (zeros-long (P .periods), zeros-in (P .periods))
+  -- ---- the first test that holds is the number that refuses the line at its place
 
-  -- a leaf that holds, whatever stands above it
-  leaf-there : (A : Above) (d : ℕ) → (t : Tree) × Limits P A d t × Holds P A t
-  unfolding Limits Holds
-  leaf-there A d = go (any-stuck (P .periods) (P .units) (A .marks)) refl
+  abbrev Number : WrittenTree → ℕ → List Line → ℕ → Type 0
+  Number v k left n = Refuses written-lines endTree (HoldsSoFar P) (Breaks P) v k left n
+
+  module _ (v : WrittenTree) (k : ℕ) (left : List Line) where
+    -- the writer line
+    writer-unfit : k ≡ 0 → (n : ℕ) → Number v k left n → Unfit writer-form (due left) n
+    writer-unfit z n (at-numbers (refusals.at-writer e u)) = u
+    writer-unfit z n (at-numbers (refusals.at-node e a b)) = absurd (omega arith)
+    writer-unfit z n (at-numbers (refusals.at-reserve e a b)) = absurd (omega arith)
+    writer-unfit z n (at-last e f) = absurd (let h = lines-long v in omega arith)
+    writer-unfit z n (behind-last e f) = absurd (let h = lines-long v in omega arith)
+
+    -- a node's first line
+    node-breaks : (i : ℕ) (A : Above) (d : ℕ) → k ≡ suc i → LineAt root 0 (v .tree) i (node-at A d) → (n : ℕ) → Number v k left n → NodeBreaks P A d (due left) n
+    node-breaks i A d z c n (at-numbers (refusals.at-writer e u)) = absurd (omega arith)
+    node-breaks i A d z c n (at-numbers (refusals.at-node {d = d′} {A = A′} e a b)) =
+        let q = line-once a c (omega arith) in
+        let x : A′ ≡ A = cc in
+        let y : d′ ≡ d = cc in
+        subst (λ (B : Above). NodeBreaks P B d (due left) n) x (subst (λ (c : ℕ). NodeBreaks P A′ c (due left) n) y b)
+    node-breaks i A d z c n (at-numbers (refusals.at-reserve e a b)) = let q = line-once a c (omega arith) in absurd (let y : _≡_ {A = ℕ} 0 1 = cc in omega arith)
+    node-breaks i A d z c n (at-last e f) = absurd (let h = lines-long v in let m = line-among c in omega arith)
+    node-breaks i A d z c n (behind-last e f) = absurd (let h = lines-long v in let m = line-among c in omega arith)
+
+    -- a reserve line
+    reserve-breaks : (i : ℕ) (A : Above) (q : List ℕ) → k ≡ suc i → LineAt root 0 (v .tree) i (reserve-at A q) → (n : ℕ) → Number v k left n
+        → ReserveBreaks P A q (due left) n
+    reserve-breaks i A q z c n (at-numbers (refusals.at-writer e u)) = absurd (omega arith)
+    reserve-breaks i A q z c n (at-numbers (refusals.at-node e a b)) = let w = line-once a c (omega arith) in absurd (let y : _≡_ {A = ℕ} 0 1 = cc in omega arith)
+    reserve-breaks i A q z c n (at-numbers (refusals.at-reserve {A = A′} {q = q′} e a b)) =
+        let w = line-once a c (omega arith) in
+        let x : A′ ≡ A = cc in
+        let y : q′ ≡ q = cc in
+        subst (λ (B : Above). ReserveBreaks P B q (due left) n) x (subst (λ (p : List ℕ). ReserveBreaks P A′ p (due left) n) y b)
+    reserve-breaks i A q z c n (at-last e f) = absurd (let h = lines-long v in let m = line-among c in omega arith)
+    reserve-breaks i A q z c n (behind-last e f) = absurd (let h = lines-long v in let m = line-among c in omega arith)
+
+    -- the end line
+    end-missing : k ≡ suc (length (node-lines (v .tree))) → (n : ℕ) → Number v k left n → (n ≡ 12) × (due left ≡ ended endTree → ⊥)
+    end-missing z n (at-numbers (refusals.at-writer e u)) = absurd (omega arith)
+    end-missing z n (at-numbers (refusals.at-node e a b)) = absurd (let m = line-among a in omega arith)
+    end-missing z n (at-numbers (refusals.at-reserve e a b)) = absurd (let m = line-among a in omega arith)
+    end-missing z n (at-last e f) = (refl, f)
+    end-missing z n (behind-last e f) = absurd (let h = lines-long v in omega arith)
+
+    -- past it
+    something-left : k ≡ suc (suc (length (node-lines (v .tree)))) → (n : ℕ) → Number v k left n → (n ≡ 12) × (left ≡ [] → ⊥)
+    something-left z n (at-numbers (refusals.at-writer e u)) = absurd (omega arith)
+    something-left z n (at-numbers (refusals.at-node e a b)) = absurd (let m = line-among a in omega arith)
+    something-left z n (at-numbers (refusals.at-reserve e a b)) = absurd (let m = line-among a in omega arith)
+    something-left z n (at-last e f) = absurd (let h = lines-long v in omega arith)
+    something-left z n (behind-last e f) = (refl, f)
+
+    at-place-refuses : (i : ℕ) (w : Place) (s : Due) → k ≡ suc i → LineAt root 0 (v .tree) i w → DueAt w s → (n : ℕ)
+        → First n (tests-before (tests P) (next P) end s left) ↔ Number v k left n
+    at-place-refuses i w s z c (node-due {A} {d} {F} {ps}) n =
+        let law = node-first P A d F ps left n in
+        (λ h. at-numbers (refusals.at-node z c (law .0 h)), λ r. law .1 (node-breaks i A d z c n r))
+    at-place-refuses i w s z c (reserve-there {A} {F} {q} {ps}) n =
+        let law = reserve-first P some A q F ps left n in
+        (λ h. at-numbers (refusals.at-reserve z c (law .0 h)), λ r. law .1 (reserve-breaks i A q z c n r))
+
+    refuses : (s : Due) → Stands v k s → (n : ℕ) → First n (tests-before (tests P) (next P) end s left) ↔ Number v k left n
+    unfolding tests
+    refuses s (at-writer z) n =
+        let law = numbers-due (tests P) (next P) end writer-due writer-form (λ l. []) refl (λ l. refl) left n in
+        (λ h. at-numbers (refusals.at-writer z (go (law .0 h))), λ r. law .1 (inl (writer-unfit z n r)))
+      where
+        go : {X : Type 0} → Unfit writer-form (due left) n ⊎ (X × First n []) → Unfit writer-form (due left) n
+        go (inl u) = u
+        go (inr (t, f)) = absurd (first-every (λ _. ⊥) n [] tt f)
+    refuses s (at-place {i} {w} z c t) n = at-place-refuses i w s z c t n
+    refuses s (at-end {F} z) n =
+        let law = word-due (tests P) (next P) end (nodes-due F []) endTree refl (λ l. refl) left n in
+        (λ h. subst (Number v k left) (sym (law .0 h .0)) (at-last (omega (arith, lines-long v)) (law .0 h .1)), λ r. law .1 (end-missing z n r))
+    refuses s (past-end {F} z) n =
+        let law = nothing-due (tests P) (next P) end (machine.nothing-due F) F refl (λ l. refl) left n in
+        (λ h. subst (Number v k left) (sym (law .0 h .0)) (behind-last (omega (arith, lines-long v)) (law .0 h .1)), λ r. law .1 (something-left z n r))
+
+  -- ---- all tests
+
+  pub all-follow : Follows (tests P) (next P) end written-lines endTree (HoldsSoFar P) (Breaks P) writer-due Stands
+  all-follow = record {
+    passes = λ v ls b. begins-come P (tests P) (Holds P) (HoldsAmong P) some (all-takes P some) v (b .within .0 .0) (b .within .0 .1) ls (b .more) (b .whole) (b .within .1);
+    begins = λ s ls p.
+        let b = begun P some s ls (all-of-form P ls p) in
+        (b .text, record { more = b .more; whole = b .whole; within = (b .within, leaves-hold P (b .text) ls (b .more) s (b .whole) (b .within .0) (b .within .1) p) });
+    refuses = λ v k s t left n. refuses v k left s t n;
+  }
+
+  module _ (n m : ℕ) where
+    pub line-refused-is : (ls : List Line)
+        → RefusedAt (tests P) (next P) end n m 2 writer-due ls ↔ LineRefused written-lines endTree (HoldsSoFar P) (Breaks P) n m ls
+    line-refused-is ls = which.line-refused-is (tests P) (next P) end written-lines endTree (HoldsSoFar P) (Breaks P) all-follow n m ls
+
+    -- with the refused line the lines begin no text of a tree within the limits whose leaves, as far as they end there, hold
+    pub with-it-none : (text : List ℕ) (r : Refused P text n m) (x : Line) (rest : List Line) → r .left ≡ x ∷ rest
+        → (v : WrittenTree) → Beginning written-lines (HoldsSoFar P) (r .before ++ (x ∷ [])) v → ⊥
+    with-it-none text = which.with-it-none (tests P) (next P) end written-lines endTree (HoldsSoFar P) (Breaks P) all-follow n m (later (linesOf text))
+
+  -- ---- the tests of the form
+
+  abbrev FormBreaks : WrittenTree → ℕ → Line → ℕ → Type 0
+  FormBreaks v k l n = (of-form n ≡ true) × Breaks P v k l n
+
+  module _ (W : WrittenTree → ℕ → Type 0) (v : WrittenTree) (k : ℕ) (left : List Line) where
+    of-form-only : (n : ℕ) → of-form n ≡ true → Refuses written-lines endTree W (Breaks P) v k left n → Refuses written-lines endTree (InLimits P) FormBreaks v k left n
+    of-form-only n o (at-numbers b) = at-numbers (o, b)
+    of-form-only n o (at-last e f) = at-last e f
+    of-form-only n o (behind-last e f) = behind-last e f
+
+    of-all : (n : ℕ) → Refuses written-lines endTree (InLimits P) FormBreaks v k left n → (of-form n ≡ true) × Refuses written-lines endTree W (Breaks P) v k left n
+    of-all n (at-numbers (o, b)) = (o, at-numbers b)
+    of-all n (at-last e f) = (refl, at-last e f)
+    of-all n (behind-last e f) = (refl, behind-last e f)
+
+  form-follow : Follows (λ s l. form-only (tests P s l)) (next P) end written-lines endTree (InLimits P) FormBreaks writer-due Stands
+  form-follow = record {
+    passes = λ v ls b. begins-come P (λ s l. form-only (tests P s l)) (λ A t. Unit {0}) (λ A k t. Unit {0}) some (form-takes P some) v (b .within .0) (b .within .1) ls (b .more) (b .whole) tt;
+    begins = λ s ls p. let b = begun P some s ls p in (b .text, record { more = b .more; whole = b .whole; within = b .within });
+    refuses = λ v k s t left n.
+        let law = form-first P s left n in
+        let all = refuses v k left s t n in (
+          (λ h. let f = law .0 h in of-form-only (HoldsSoFar P) v k left n (f .0) (all .0 (f .1))),
+          (λ r. let f = of-all (HoldsSoFar P) v k left n r in law .1 (f .0, all .1 (f .1))),
+        );
+  }
+
+  -- a number of the form breaks a line at its place exactly where its test is the first of these that holds
+  pub line-broken-is : (n m : ℕ) (ls : List Line)
+      → RefusedAt (λ s l. form-only (tests P s l)) (next P) end n m 2 writer-due ls ↔ ((of-form n ≡ true) × BrokenAt P n m ls)
+  line-broken-is n m ls = (λ r. narrow (law .0 r), λ b. law .1 (widen (b .0) (b .1)))
     where
-      go : (b : Bool) → any-stuck (P .periods) (P .units) (A .marks) ≡ b → (t : Tree) × Limits P A d t × Holds P A t
-      go true e = let s = find-stuck (P .periods) (P .units) (A .marks) e in (stuck (s .0), s .1, s .2)
-      go false e = (price (zeros (P .periods)) (zeros (P .periods)), (none-priced, none-priced), not-T _ e)
+      law : RefusedAt (λ s l. form-only (tests P s l)) (next P) end n m 2 writer-due ls ↔ LineRefused written-lines endTree (InLimits P) FormBreaks n m ls
+      law = which.line-refused-is (λ s l. form-only (tests P s l)) (next P) end written-lines endTree (InLimits P) FormBreaks form-follow n m ls
 
-  -- lines that complete a text from where s is due on
-  pub record Completes (s : Due) : Type 0 where
-    pub lines : List Line
-    pub gives : Figures
-    pub all : AllPassed (tests P) (next P) end gives s lines
+      narrow : LineRefused written-lines endTree (InLimits P) FormBreaks n m ls → (of-form n ≡ true) × BrokenAt P n m ls
+      narrow r =
+          let f = of-all (InLimits P) (r .value) (length (r .before)) (r .left) n (r .refuses) in
+          let b = r .begins in (
+            f .0,
+            record {
+              value = r .value;
+              before = r .before;
+              left = r .left;
+              parts = r .parts;
+              begins = record { more = b .more; whole = b .whole; within = b .within };
+              place = r .place;
+              refuses = f .1;
+            },
+          )
 
-  from-nodes : (ps : List Pending) (F : Figures) → Completes (nodes-due F ps)
-  from-nodes [] F = record { lines = ended endTree ∷ []; gives = F; all = record { last = nothing-due F; passed = also P (end-good P F) none-yet; ends = refl } }
-  from-nodes (p ∷ ps) F =
-      let t = leaf-there (p .above) (p .depth) in
-      let c = from-nodes ps (add P (p .above) F (t .0)) in
-      record {
-        lines = map ended (node-lines (t .0)) ++ c .lines;
-        gives = c .gives;
-        all = record {
-          last = c .all .last;
-          passed = courses.passed-both (tests P) (next P) end (map ended (node-lines (t .0))) (c .lines)
-              (node-good P some (p .above) (p .depth) F ps (t .0) (t .1) (t .2)) (c .all .passed);
-          ends = c .all .ends;
-        };
-      }
-
-  -- after a price line no unit is stuck
-  abbrev pub Free : Due → Type 0
-  Free writer-due = Unit {0}
-  Free (nodes-due F ps) = Unit {0}
-  Free (reserve-due F A q ps) = T (not (any-stuck (P .periods) (P .units) (A .marks)))
-  Free (nothing-due F) = Unit {0}
-
-  pub completes : (s : Due) → Free s → Completes s
-  completes writer-due f =
-      let c = from-nodes (pending root 0 ∷ []) (by-writer 1) in
-      record {
-        lines = ended (plain-line writer-key (1 ∷ [])) ∷ c .lines;
-        gives = c .gives;
-        all = record { last = c .all .last; passed = also P (writer-good P 1 (omega arith, omega arith)) (c .all .passed); ends = c .all .ends };
-      }
-  completes (nodes-due F ps) f = from-nodes ps F
-  completes (reserve-due F A q ps) f =
-      let c = from-nodes ps _ in
-      record {
-        lines = ended (plain-line reserve-key (zeros (P .periods))) ∷ c .lines;
-        gives = c .gives;
-        all = record { last = c .all .last; passed = also P (reserve-good P F A 0 ps some q (zeros (P .periods)) none-priced f) (c .all .passed); ends = c .all .ends };
-      }
-  completes (nothing-due F) f = record { lines = []; gives = F; all = record { last = nothing-due F; passed = none-yet; ends = refl } }
-
-  -- the lines begin those of a tree within the limits whose leaves hold
-  pub record Begin (ls : List Line) : Type 0 where
-    pub writer : ℕ
-    pub tree : Tree
-    pub more : List Line
-    pub whole : ls ++ more ≡ rest-lines writer tree
-    pub writer-in : GoodWriter writer
-    pub within : Limits P root 0 tree
-    pub holds : Holds P root tree
-
-  whole-begin : (ls more : List Line) (v : Figures) → Whole P (ls ++ more) v → Begin ls
-  whole-begin ls more v w = go (w .forest .trees) (w .forest .grown) (w .forest .lines)
-    where
-      go : (ts : List Tree) → Grown P (pending root 0 ∷ []) ts → w .after ≡ map ended (forest-lines ts) → Begin ls
-      go [] g l = absurd g
-      go (t ∷ u ∷ ts) g l = absurd (g .1)
-      go (t ∷ []) g l = record {
-        writer = w .writer;
-        tree = t;
-        more = more;
-        whole = w .lines ∙ ap (λ (x : List Line). ended (plain-line writer-key (w .writer ∷ [])) ∷ x) l;
-        writer-in = w .range;
-        within = g .0 .0;
-        holds = g .0 .1;
-      }
-
-  passed-begin : (s : Due) (ls : List Line) → Free s → Passes P writer-due ls s → Begin ls
-  passed-begin s ls f p =
-      let c = completes s f in
-      whole-begin ls (c .lines) (c .gives)
-      (good-left P writer-due (c .all .last) (ls ++ c .lines) (c .gives) (courses.passed-both (tests P) (next P) end ls (c .lines) p (c .all .passed)) (c .all .ends))
-
-  -- such lines are accepted
-  lines-accepted : (w : ℕ) (t : Tree) → GoodWriter w → Limits P root 0 t → Holds P root t → (F : Figures) × AllPassed (tests P) (next P) end F writer-due (rest-lines w t)
-  lines-accepted w t g l h = (
-    add P root (by-writer w) t,
-    record {
-      last = nothing-due (add P root (by-writer w) t);
-      passed = also P (writer-good P w g) (rw (map-both (node-lines t) (endTree ∷ []))
-          (courses.passed-both (tests P) (next P) end (map ended (node-lines t)) (ended endTree ∷ []) (node-good P some root 0 (by-writer w) [] t l h)
-          (also P (end-good P (add P root (by-writer w) t)) none-yet)));
-      ends = refl;
-    },
-  )
-
-  module _ (n m : ℕ) (ls : List Line) (r : RefusedAt (tests P) (next P) end n m 2 writer-due ls) where
-    -- the lines before it begin such a text
-    pub before-begin : Free (r .stands) → Begin (r .before)
-    before-begin f = passed-begin (r .stands) (r .before) f (r .passed)
-
-    not-accepted : (w : ℕ) (t : Tree) → ls ≡ rest-lines w t → GoodWriter w → Limits P root 0 t → Holds P root t → ⊥
-    not-accepted w t e g l h =
-        let p = lines-accepted w t g l h in
-        let a = courses.accepted-is (tests P) (next P) end (p .0) 2 writer-due ls .1 (subst (λ (x : List Line). AllPassed (tests P) (next P) end (p .0) writer-due x) (sym e) (p .1)) in
-        let b = courses.refused-is (tests P) (next P) end n m 2 writer-due ls .1 r in
-        let q = sym a ∙ b in
-        let z : _≡_ {A = ℕ} 0 1 = cc in
-        omega arith
-
-  -- with it they begin none
-  pub with-it-none : (n m : ℕ) (before rest : List Line) (x : Line)
-      → (r : RefusedAt (tests P) (next P) end n m 2 writer-due (before ++ (x ∷ rest))) → r .before ≡ before → Begin (before ++ (x ∷ [])) → ⊥
-  with-it-none n m before rest x r e b =
-      let same : r .rest ≡ x ∷ rest = after before (r .before) (r .rest) (x ∷ rest) e (sym (r .parts)) in
-      let t : before ++ (x ∷ b .more) ≡ rest-lines (b .writer) (b .tree) = sym (append-assoc before (x ∷ []) (b .more)) ∙ b .whole in
-      let k : RefusedAt (tests P) (next P) end n m 2 writer-due (before ++ (x ∷ b .more)) = record {
-        before = before;
-        rest = x ∷ b .more;
-        stands = r .stands;
-        parts = refl;
-        passed = subst (λ (l : List Line). Passes P writer-due l (r .stands)) e (r .passed);
-        place = subst (λ (l : List Line). m ≡ 2 + length l) e (r .place);
-        first = first-same (r .rest) same (r .first);
-      } in
-      not-accepted n m (before ++ (x ∷ b .more)) k (b .writer) (b .tree) t (b .writer-in) (b .within) (b .holds)
-    where
-      after : (a a′ c d : List Line) → a′ ≡ a → a′ ++ c ≡ a ++ d → c ≡ d
-      after [] [] c d e q = q
-      after [] (y ∷ a′) c d e q = absurd (let z : _≡_ {A = ℕ} 0 1 = cc in omega arith)
-      after (y ∷ a) [] c d e q = absurd (let z : _≡_ {A = ℕ} 0 1 = cc in omega arith)
-      after (y ∷ a) (y′ ∷ a′) c d e q = let p : a′ ≡ a = cc in let s : a′ ++ c ≡ a ++ d = cc in after a a′ c d p s
-
-      first-same : (l : List Line) → l ≡ x ∷ rest → First n (tests-before (tests P) (next P) end (r .stands) l)
-          → First n (tests-before (tests P) (next P) end (r .stands) (x ∷ b .more))
-      first-same l q f = subst (λ (k : List Line). First n (tests-before (tests P) (next P) end (r .stands) k)) q f
+      widen : of-form n ≡ true → BrokenAt P n m ls → LineRefused written-lines endTree (InLimits P) FormBreaks n m ls
+      widen o r =
+          let b = r .begins in
+          record {
+            value = r .value;
+            before = r .before;
+            left = r .left;
+            parts = r .parts;
+            begins = record { more = b .more; whole = b .whole; within = b .within };
+            place = r .place;
+            refuses = of-form-only (InLimits P) (r .value) (length (r .before)) (r .left) n o (r .refuses);
+          }

@@ -1,28 +1,28 @@
 -- Document 01's example of a tree, accepted, and texts that each number refuses, computed on its problem.
 use mathlib.Core.Path.{_≡_, refl, sym, ap, _∙_}
 use mathlib.Core.Bool.{true, false}
-use mathlib.Core.List.{List, [], _∷_, _++_, map}
+use mathlib.Core.List.{List, [], _∷_}
 use Prim.Native.Nat.{ℕ}
 use lib.Dec.{lit<, lit≤}
 use lib.IntN.{pos}
 use Rattle.decimal.specs.Decimal.{digits, digitsBy}
 use Rattle.model.specs.declared.generator.Generator.{Generator}
 use Rattle.model.specs.Instance.{Instance}
-use Rattle.model.specs.Above.{root, fix}
+use Rattle.model.specs.Above.{root}
 use Rattle.model.specs.Cost.{row-cost}
 use Rattle.model.specs.Leaf.{available, rows-of, is-stuck, revenue, value, unit-least, units-least, requirement, leaf-value}
 use Rattle.model.specs.Tree.{Tree, split, short, price, Limits, Holds, Bound, number, bound, splits, leaves}
 use Rattle.refusal.specs.Refusals.{line-refusal}
-use Rattle.text.specs.Lines.{Line, ended, kindTree}
-use Rattle.text.specs.Course.{refused, good, accepted, refused-at, judged-from}
+use Rattle.text.specs.Lines.{kindTree}
+use Rattle.text.specs.Course.{accepted, refused-at, judged-from}
 use Rattle.text.specs.Forms.{malformed, wrongCount, outOfRange}
 use Rattle.text.specs.Rendering.{plain-line, text-of}
 use Rattle.text.specs.Writer.{writer-key}
-use Rattle.text.specs.WellFormed.{form-only}
 use Rattle.text.proofs.Courses as courses
-use Rattle.tree.specs.Rendering.{split-key, short-key, stuck-key, price-key, reserve-key, node-lines, render}
+use Rattle.text.proofs.WellFormed.{form-only}
+use Rattle.tree.specs.Rendering.{split-key, short-key, node-lines, render}
 use Rattle.tree.specs.NodeLines.{kind-of, split-again, too-deep, not-short, not-stuck}
-use Rattle.tree.specs.Due.{Figures, by-writer, with-split, pending, writer-due, nodes-due, tests, after-node, next, judge, end, judged}
+use Rattle.tree.specs.Due.{writer-due, tests, after-node, next, judge, end, judged}
 use Rattle.tree.specs.WellFormed.{WellFormed}
 use Rattle.tree.specs.Reading.{coded, read-as, tree-read}
 use Rattle.tree.specs.declared.figures.Bound.the-variants.{Number}
@@ -30,6 +30,7 @@ use Rattle.tree.specs.declared.TreeRead.the-variants.{Refused, Accepted}
 use Rattle.tree.proofs.Complete.{tree-accepted}
 use Rattle.tree.proofs.Answers.{refused-is-first}
 use Rattle.tree.proofs.ReadAnswers.{read-refused}
+use Rattle.tree.proofs.WhichLine.{line-broken-is}
 use Rattle.tree.proofs.WellFormed.{well-formed-is}
 
 -- ---- document 01's problem and tree
@@ -78,7 +79,7 @@ pub bound-1980 : bound problem root tree ≡ number (pos 1980)
 unfolding bound leaf-value units-least unit-least rows-of value revenue requirement row-cost
 bound-1980 = refl
 
--- ---- a lone price leaf 10,14 with reserve 0,2
+-- ---- one price leaf alone: 10,14, and 0,2 on its reserve line
 
 abbrev lone-price : Tree
 lone-price = price (10 ∷ 14 ∷ []) (0 ∷ 2 ∷ [])
@@ -221,62 +222,11 @@ one-byte-more-refused : judged problem one-byte-more ≡ refused-at 12 6
 unfolding judged judged-from judge tests next after-node kind-of malformed wrongCount outOfRange split-again too-deep not-short not-stuck available is-stuck
 one-byte-more-refused = refl
 
--- a split at depth 63 is allowed, at depth 64 it is 32, and 31 comes first
-abbrev split-one : Line
-split-one = ended (plain-line split-key (1 ∷ 1 ∷ []))
-
-abbrev none-yet : Figures
-none-yet = by-writer 3
-
-at-63 : judge problem (nodes-due none-yet (pending root 63 ∷ [])) split-one
-    ≡ good (nodes-due (with-split none-yet) (pending (fix 0 0 false root) 64 ∷ pending (fix 0 0 true root) 64 ∷ []))
-unfolding judge tests next after-node kind-of malformed wrongCount outOfRange split-again too-deep not-short not-stuck digits digitsBy
-at-63 = refl
-
-at-64 : judge problem (nodes-due none-yet (pending root 64 ∷ [])) split-one ≡ refused 32
-unfolding judge tests next after-node kind-of malformed wrongCount outOfRange split-again too-deep not-short not-stuck digits digitsBy
-at-64 = refl
-
-again-at-64 : judge problem (nodes-due none-yet (pending (fix 0 0 true root) 64 ∷ [])) split-one ≡ refused 31
-unfolding judge tests next after-node kind-of malformed wrongCount outOfRange split-again too-deep not-short not-stuck digits digitsBy
-again-at-64 = refl
-
--- ---- the ends of the ranges, with two units and three periods
-
-abbrev longer : Instance
-longer = record { periods = 3; demand = 60 ∷ 100 ∷ 60 ∷ []; spare = 10 ∷ 10 ∷ 10 ∷ []; units = first ∷ second ∷ [] }
-
--- a text of the kind with these lines after its first
-abbrev with-lines : List (List ℕ) → List ℕ
-with-lines bs = text-of (kindTree ∷ bs)
-
--- by writer 1, with these lines after that
-abbrev nodes : List (List ℕ) → List ℕ
-nodes bs = with-lines (plain-line writer-key (1 ∷ []) ∷ bs)
-
--- Each text ends after the line in question: where that is good, the next one is missing, 12, or a leaf doesn't hold, 33, 34. Writers 1, 65,535, 0, 65,536; U 1, I and
--- P 1, T on a split, then U 0 and I + 1, P 0 and T + 1; short with P 1, T, 0, T + 1; stuck with U 1, I, 0, I + 1; prices 0 and 1,000,000,000, 1,000,000,001; reserve
--- prices the same. Then split=01 (12, 14) and split=0 (14, 13)
-pub range-ends : map (judged longer) (
-    nodes [] ∷ with-lines (plain-line writer-key (65535 ∷ []) ∷ []) ∷ with-lines (plain-line writer-key (0 ∷ []) ∷ []) ∷ with-lines (plain-line writer-key (65536 ∷ []) ∷ [])
-    ∷ nodes (plain-line split-key (1 ∷ 1 ∷ []) ∷ []) ∷ nodes (plain-line split-key (2 ∷ 3 ∷ []) ∷ []) ∷ nodes (plain-line split-key (0 ∷ 1 ∷ []) ∷ [])
-    ∷ nodes (plain-line split-key (3 ∷ 1 ∷ []) ∷ []) ∷ nodes (plain-line split-key (1 ∷ 0 ∷ []) ∷ []) ∷ nodes (plain-line split-key (1 ∷ 4 ∷ []) ∷ [])
-    ∷ nodes (plain-line short-key (1 ∷ []) ∷ []) ∷ nodes (plain-line short-key (3 ∷ []) ∷ []) ∷ nodes (plain-line short-key (0 ∷ []) ∷ []) ∷ nodes (plain-line short-key (4 ∷ []) ∷ [])
-    ∷ nodes (plain-line stuck-key (1 ∷ []) ∷ []) ∷ nodes (plain-line stuck-key (2 ∷ []) ∷ []) ∷ nodes (plain-line stuck-key (0 ∷ []) ∷ []) ∷ nodes (plain-line stuck-key (3 ∷ []) ∷ [])
-    ∷ nodes (plain-line price-key (0 ∷ 1000000000 ∷ 0 ∷ []) ∷ []) ∷ nodes (plain-line price-key (0 ∷ 1000000001 ∷ 0 ∷ []) ∷ [])
-    ∷ nodes (plain-line price-key (0 ∷ 0 ∷ 0 ∷ []) ∷ plain-line reserve-key (0 ∷ 1000000000 ∷ 0 ∷ []) ∷ [])
-    ∷ nodes (plain-line price-key (0 ∷ 0 ∷ 0 ∷ []) ∷ plain-line reserve-key (0 ∷ 1000000001 ∷ 0 ∷ []) ∷ [])
-    ∷ nodes ((split-key ++ (48 ∷ 49 ∷ [])) ∷ []) ∷ nodes (plain-line split-key (0 ∷ []) ∷ []) ∷ [])
-    ≡ refused-at 12 3 ∷ refused-at 12 3 ∷ refused-at 13 2 ∷ refused-at 13 2
-    ∷ refused-at 12 4 ∷ refused-at 12 4 ∷ refused-at 13 3 ∷ refused-at 13 3 ∷ refused-at 13 3 ∷ refused-at 13 3
-    ∷ refused-at 33 3 ∷ refused-at 33 3 ∷ refused-at 13 3 ∷ refused-at 13 3
-    ∷ refused-at 34 3 ∷ refused-at 34 3 ∷ refused-at 13 3 ∷ refused-at 13 3
-    ∷ refused-at 12 4 ∷ refused-at 13 3 ∷ refused-at 12 5 ∷ refused-at 13 4
-    ∷ refused-at 12 3 ∷ refused-at 14 3 ∷ []
-unfolding judged judged-from judge tests next after-node kind-of malformed wrongCount outOfRange split-again too-deep not-short not-stuck available is-stuck digits digitsBy
-range-ends = refl
-
 -- ---- well-formed, though a leaf doesn't hold
+
+-- a text of the kind by writer 1, with these lines after that
+abbrev nodes : List (List ℕ) → List ℕ
+nodes bs = text-of (kindTree ∷ plain-line writer-key (1 ∷ []) ∷ bs)
 
 -- a lone short=2 (33); the same where a second tree or the end line is due is judged on: split=2,2 / short=1 / short=3 has 33 at line 4 and 13 at line 5
 pub lone-short-formed : WellFormed problem lone-short
@@ -286,7 +236,11 @@ lone-short-formed = well-formed-is problem (lit≤ tt) lone-short .1 (lit≤ tt,
 pub judged-on : (judged problem (nodes (plain-line split-key (2 ∷ 2 ∷ []) ∷ plain-line short-key (1 ∷ []) ∷ plain-line short-key (3 ∷ []) ∷ [])) ≡ refused-at 33 4)
     × (WellFormed problem (nodes (plain-line split-key (2 ∷ 2 ∷ []) ∷ plain-line short-key (1 ∷ []) ∷ plain-line short-key (3 ∷ []) ∷ [])) → ⊥)
 unfolding judged judged-from judge tests next after-node kind-of malformed wrongCount outOfRange split-again too-deep not-short not-stuck available is-stuck digits digitsBy
-judged-on = (refl, λ f. f .unbroken 13 5 (courses.refused-is (λ s l. form-only (tests problem s l)) (next problem) end 13 5 2 writer-due _ .0 refl))
+judged-on = (
+  refl,
+  λ f. f .unbroken 13 5 refl
+      (line-broken-is problem (lit≤ tt) 13 5 _ .0 (courses.refused-is (λ s l. form-only (tests problem s l)) (next problem) end 13 5 2 writer-due _ .0 refl) .1),
+)
 
 -- ---- the marked specimens, as read_tree answers them
 
@@ -299,4 +253,4 @@ unfolding tree-read read-as
 specimen-price = ap read-as lone-price-accepted
 
 pub specimen-short : tree-read problem lone-short ≡ Refused (line-refusal 33 3)
-specimen-short = read-refused problem lone-short 33 3 .1 (refused-is-first problem lone-short 33 3 .0 lone-short-refused)
+specimen-short = read-refused problem (lit≤ tt) lone-short 33 3 .1 (refused-is-first problem (lit≤ tt) lone-short 33 3 .0 lone-short-refused)

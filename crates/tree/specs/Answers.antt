@@ -1,4 +1,4 @@
--- What document 01 says of a tree's text as a whole: when it is accepted, apart from any reader, and when a number refuses it.
+-- What document 01 says of a tree's text as a whole: when it is accepted, apart from any reader.
 use mathlib.Core.Path.{_≡_}
 use mathlib.Core.List.{List}
 use Prim.Native.Nat.{ℕ}
@@ -6,10 +6,8 @@ use Rattle.model.specs.Instance.{Instance}
 use Rattle.model.specs.Ranges.{GoodWriter}
 use Rattle.model.specs.Above.{root}
 use Rattle.model.specs.Tree.{Tree, Limits, Holds, bound, splits, leaves}
-use Rattle.text.specs.Lines.{later, linesOf}
-use Rattle.text.specs.Tests as lines
 use Rattle.tree.specs.Rendering.{render}
-use Rattle.tree.specs.Due.{Figures, writer-due, tests, next, end}
+use Rattle.tree.specs.Due.{Figures}
 
 -- what a tree by the writer w gives
 abbrev pub figures-of : Instance → ℕ → Tree → Figures
@@ -23,8 +21,3 @@ pub record Accepted (P : Instance) (text : List ℕ) (F : Figures) : Type 0 wher
   pub within : Limits P root 0 tree
   pub holds : Holds P root tree
   pub figures : F ≡ figures-of P (F .writer) tree
-
--- of a text whose first line is kind=tree: no test holds of a line before line m, and n is the first number of 12, 14, 13, 31 to 35
--- whose test holds of line m
-abbrev pub Refused : Instance → List ℕ → ℕ → ℕ → Type 0
-Refused P text n m = lines.RefusedAt (tests P) (next P) end n m 2 writer-due (later (linesOf text))

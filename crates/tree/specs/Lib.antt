@@ -1,6 +1,8 @@
 -- What document 01 says of a tree's text.
 pub mod Rendering
 pub mod NodeLines
+pub mod Places
+pub mod Refusals
 pub mod Due
 pub mod Answers
 pub mod Coded

@@ -33,9 +33,13 @@ node-lines (short t) = plain-line short-key (suc t ∷ []) ∷ []
 node-lines (stuck U) = plain-line stuck-key (suc U ∷ []) ∷ []
 node-lines (price q s) = plain-line price-key q ∷ plain-line reserve-key s ∷ []
 
+-- the lines of the text after the first
+abbrev pub lines-after : ℕ → Tree → List (List ℕ)
+lines-after w t = plain-line writer-key (w ∷ []) ∷ (node-lines t ++ (endTree ∷ []))
+
 -- all lines of the text
 abbrev pub tree-lines : ℕ → Tree → List (List ℕ)
-tree-lines w t = kindTree ∷ plain-line writer-key (w ∷ []) ∷ (node-lines t ++ (endTree ∷ []))
+tree-lines w t = kindTree ∷ lines-after w t
 
 -- the text of a tree by the writer w
 unfoldable pub render : ℕ → Tree → List ℕ

@@ -4,7 +4,7 @@ use mathlib.Core.List.{List}
 use Rattle.model.specs.Instance.{Instance}
 use Rattle.text.specs.Lines.{kindTree}
 use Rattle.text.specs.WellFormed.{Formed}
-use Rattle.tree.specs.Due.{writer-due, tests, next, end}
+use Rattle.tree.specs.Refusals.{BrokenAt}
 
 abbrev pub WellFormed : Instance → List ℕ → Type 0
-WellFormed P text = Formed kindTree writer-due (tests P) (next P) end text
+WellFormed P text = Formed kindTree (BrokenAt P) text

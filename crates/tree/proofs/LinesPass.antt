@@ -1,0 +1,194 @@
+-- Lines that begin the text of a tree pass, and what is then due is due at the place where the next of its lines stands. Once for all tests, and once for those of
+-- the form: the two differ in what they ask of the leaves.
+use mathlib.Core.Path.{_≡_, refl, sym, ap, subst, _∙_}
+use mathlib.Core.Bool.{Bool, true, false}
+use mathlib.Core.List.{List, [], _∷_, _++_, map}
+use Prim.Native.Nat.{ℕ, zero, suc, _+_, _-_, _≤_, _<_}
+use native.Mathlib.Omega.{arith}
+use lib.Dec.{ltb}
+use lib.ListN.{length, take, length-append, length-map}
+use lib.Seq.{take-append-le, take-append-add, take-append-seam}
+use borrow.Author.Tests.{ltb-true, ltb-false}
+use Rattle.model.specs.Instance.{Instance}
+use Rattle.model.specs.Ranges.{GoodWriter}
+use Rattle.model.specs.Above.{Above, root, fix}
+use Rattle.model.specs.Tree.{Tree, split, short, stuck, price, Limits, Holds}
+use Rattle.text.specs.Lines.{Line, ended, endTree}
+use Rattle.text.specs.Course.{good}
+use Rattle.text.specs.Tests.{Test, None, Passed, none-yet, one-more}
+use Rattle.text.proofs.Courses.{passed-both}
+use Rattle.text.proofs.Tests.{good-none}
+use Rattle.text.proofs.WellFormed.{form-only, none-of-form}
+use Rattle.tree.specs.Rendering.{node-lines, lines-after}
+use Rattle.tree.specs.Places.{Place, node-at, reserve-at, LineAt, first-line, reserve-line, in-first, in-second, HoldsAmong}
+use Rattle.tree.specs.Refusals.{WrittenTree}
+use Rattle.tree.specs.Due.{Figures, by-writer, with-split, Pending, pending, Due, writer-due, nodes-due, reserve-due, nothing-due, tests, next, judge, end}
+use Rattle.tree.proofs.Bounds.{add}
+use Rattle.tree.proofs.Written.{map-both}
+use Rattle.tree.proofs.NodeLines.{split-good, price-good}
+use Rattle.tree.proofs.Complete.{node-good, writer-good, end-good}
+use Rattle.tree.proofs.FormLines.{node-passes}
+use Rattle.tree.proofs.LinePlaces.{line-among, line-placed}
+
+-- ---- what is due where a line stands
+
+pub data DueAt : Place → Due → Type 0 where
+  node-due : {A : Above} {d : ℕ} {F : Figures} {ps : List Pending} → DueAt (node-at A d) (nodes-due F (pending A d ∷ ps))
+  reserve-there : {A : Above} {F : Figures} {q : List ℕ} {ps : List Pending} → DueAt (reserve-at A q) (reserve-due F A q ps)
+
+-- s is due where line k of the text is
+pub data Stands (v : WrittenTree) (k : ℕ) : Due → Type 0 where
+  at-writer : k ≡ 0 → Stands v k writer-due
+  at-place : {i : ℕ} {w : Place} {s : Due} → k ≡ suc i → LineAt root 0 (v .tree) i w → DueAt w s → Stands v k s
+  at-end : {F : Figures} → k ≡ suc (length (node-lines (v .tree))) → Stands v k (nodes-due F [])
+  past-end : {F : Figures} → k ≡ suc (suc (length (node-lines (v .tree)))) → Stands v k (nothing-due F)
+
+-- ---- any tests that good lines pass, and that ask of a tree's leaves what `Asked` says, `AskedAmong` of those that end among its first k lines
+
+module _ (P : Instance) (tests′ : Due → Line → List Test) (Asked : Above → Tree → Type 0) (AskedAmong : Above → ℕ → Tree → Type 0) where
+  pub record Takes : Type 0 where
+    -- a good line passes, and so do the lines of a whole tree
+    pub good-line : (s s′ : Due) (x : Line) → judge P s x ≡ good s′ → None (tests′ s x)
+    pub whole : (A : Above) (d : ℕ) (F : Figures) (ps : List Pending) (t : Tree) → Limits P A d t → Asked A t
+        → Passed tests′ (next P) (nodes-due F (pending A d ∷ ps)) (map ended (node-lines t)) (nodes-due (add P A F t) ps)
+    -- what is asked of the leaves among all lines is what is asked of the tree; of a split it is asked of its two trees
+    pub all : (A : Above) (k : ℕ) (t : Tree) → length (node-lines t) ≤ k → AskedAmong A k t → Asked A t
+    pub first : (A : Above) (U t k : ℕ) (x y : Tree) → AskedAmong A (suc k) (split U t x y) → AskedAmong (fix U t false A) k x
+    pub second : (A : Above) (U t k : ℕ) (x y : Tree) → AskedAmong A (suc (length (node-lines x) + k)) (split U t x y) → AskedAmong (fix U t true A) k y
+
+  module _ (some : 1 ≤ P .periods) (J : Takes) where
+    abbrev Passes : Due → List Line → Due → Type 0
+    Passes s ls s′ = Passed tests′ (next P) s ls s′
+
+    -- one good line in front
+    also : {s s′ s″ : Due} {x : Line} {ls : List Line} → judge P s x ≡ good s′ → Passes s′ ls s″ → Passes s (x ∷ ls) s″
+    unfolding judge
+    also {s} {s′} {s″} {x} e p = one-more (J .good-line s s′ x e) (good-none (next P s x) s′ (tests P s x) e .1) p
+
+    -- the lines of a node before one of its lines
+    to-place : {A : Above} {d : ℕ} {x : Tree} {k : ℕ} {w : Place} → LineAt A d x k w → Limits P A d x → AskedAmong A k x → (F : Figures) (ps : List Pending)
+        → (s : Due) × DueAt w s × Passes (nodes-due F (pending A d ∷ ps)) (take k (map ended (node-lines x))) s
+    unfolding Limits node-lines
+    to-place {A} {d} first-line l g F ps = (nodes-due F (pending A d ∷ ps), node-due, none-yet)
+    to-place {A} {d} {x = price q s} reserve-line l g F ps = (reserve-due F A q ps, reserve-there, also (price-good P F A d ps some q (l .0)) none-yet)
+    to-place {A} {d} {x = split U t x y} (in-first {k = k} a) l g F ps =
+        let r = to-place a (l .4) (J .first A U t k x y g) (with-split F) (pending (fix U t true A) (suc d) ∷ ps) in
+        let e : take k (map ended (node-lines x ++ node-lines y)) ≡ take k (map ended (node-lines x)) =
+        ap (take k) (map-both (node-lines x) (node-lines y))
+        ∙ take-append-le k (map ended (node-lines x)) (map ended (node-lines y)) (omega (arith, length-map (node-lines x) ended, line-among a)) in
+        (r .0, r .1, also (split-good P F A d ps U t (l .0) (l .1) (l .2) (l .3)) (rw e (r .2)))
+    to-place {A} {d} {x = split U t x y} (in-second {k = k} a) l g F ps =
+        let n = length (node-lines x) in
+        let h = J .all (fix U t false A) (n + k) x (omega arith) (J .first A U t (n + k) x y g) in
+        let r = to-place a (l .5) (J .second A U t k x y g) (add P (fix U t false A) (with-split F) x) ps in
+        let e : take (n + k) (map ended (node-lines x ++ node-lines y)) ≡ map ended (node-lines x) ++ take k (map ended (node-lines y)) =
+        ap (take (n + k)) (map-both (node-lines x) (node-lines y))
+        ∙ ap (λ (m : ℕ). take (m + k) (map ended (node-lines x) ++ map ended (node-lines y))) (sym (length-map (node-lines x) ended))
+        ∙ take-append-add (map ended (node-lines x)) (map ended (node-lines y)) k in (
+          r .0,
+          r .1,
+          also (split-good P F A d ps U t (l .0) (l .1) (l .2) (l .3))
+              (rw e (passed-both tests′ (next P) end (map ended (node-lines x)) (take k (map ended (node-lines y)))
+              (J .whole (fix U t false A) (suc d) (with-split F) (pending (fix U t true A) (suc d) ∷ ps) x (l .4) h) (r .2))),
+        )
+
+    -- the lines of a text
+    module _ (v : WrittenTree) (ok : GoodWriter (v .writer)) (within : Limits P root 0 (v .tree)) where
+      abbrev Comes : ℕ → Type 0
+      Comes k = (s : Due) × Stands v k s × Passes writer-due (take k (map ended (lines-after (v .writer) (v .tree)))) s
+
+      abbrev nodes : List Line
+      nodes = map ended (node-lines (v .tree))
+
+      written : (i : ℕ) → take i (map ended (node-lines (v .tree) ++ (endTree ∷ []))) ≡ take i (nodes ++ (ended endTree ∷ []))
+      written i = ap (take i) (map-both (node-lines (v .tree)) (endTree ∷ []))
+
+      behind : (i j : ℕ) → i ≡ length (node-lines (v .tree)) + j
+          → take i (map ended (node-lines (v .tree) ++ (endTree ∷ []))) ≡ nodes ++ take j (ended endTree ∷ [])
+      behind i j e =
+          written i
+          ∙ ap (λ (m : ℕ). take m (nodes ++ (ended endTree ∷ []))) (e ∙ ap (λ (m : ℕ). m + j) (sym (length-map (node-lines (v .tree)) ended)))
+          ∙ take-append-add nodes (ended endTree ∷ []) j
+
+      before : (i : ℕ) → i < length (node-lines (v .tree)) → AskedAmong root i (v .tree) → Comes (suc i)
+      before i h g =
+          let w = line-placed root 0 (v .tree) i h in
+          let r = to-place (w .1) within g (by-writer (v .writer)) [] in
+          let e = written i ∙ take-append-le i nodes (ended endTree ∷ []) (omega (arith, length-map (node-lines (v .tree)) ended)) in
+          (r .0, at-place refl (w .1) (r .1), also (writer-good P (v .writer) ok) (rw e (r .2)))
+
+      all-nodes : (i : ℕ) → length (node-lines (v .tree)) ≤ i → AskedAmong root i (v .tree)
+          → Passes (nodes-due (by-writer (v .writer)) (pending root 0 ∷ [])) nodes (nodes-due (add P root (by-writer (v .writer)) (v .tree)) [])
+      all-nodes i h g = J .whole root 0 (by-writer (v .writer)) [] (v .tree) within (J .all root i (v .tree) h g)
+
+      after : (i : ℕ) → length (node-lines (v .tree)) ≤ i → i < 2 + length (node-lines (v .tree)) → AskedAmong root i (v .tree) → Comes (suc i)
+      after i h m g = go (i - length (node-lines (v .tree))) (omega arith)
+        where
+          go : (j : ℕ) → i ≡ length (node-lines (v .tree)) + j → Comes (suc i)
+          go zero e = (
+            nodes-due (add P root (by-writer (v .writer)) (v .tree)) [],
+            at-end (omega arith),
+            also (writer-good P (v .writer) ok) (rw (behind i 0 e) (passed-both tests′ (next P) end nodes [] (all-nodes i h g) none-yet)),
+          )
+          go (suc zero) e = (
+            nothing-due (add P root (by-writer (v .writer)) (v .tree)),
+            past-end (omega arith),
+            also (writer-good P (v .writer) ok)
+                (rw (behind i 1 e) (passed-both tests′ (next P) end nodes (ended endTree ∷ []) (all-nodes i h g) (also (end-good P (add P root (by-writer (v .writer)) (v .tree))) none-yet))),
+          )
+          go (suc (suc j)) e = absurd (omega arith)
+
+      comes : (k : ℕ) → k ≤ length (lines-after (v .writer) (v .tree)) → AskedAmong root (k - 1) (v .tree) → Comes k
+      comes zero h g = (writer-due, at-writer refl, none-yet)
+      comes (suc i) h g =
+          let q : suc i - 1 ≡ i = omega arith in
+          let m = length-append (node-lines (v .tree)) (endTree ∷ []) in
+          go (ltb i (length (node-lines (v .tree)))) refl (omega arith) (subst (λ (j : ℕ). AskedAmong root j (v .tree)) q g)
+        where
+          go : (b : Bool) → ltb i (length (node-lines (v .tree))) ≡ b → i < 2 + length (node-lines (v .tree)) → AskedAmong root i (v .tree) → Comes (suc i)
+          go true e h g = before i (ltb-true i (length (node-lines (v .tree))) e) g
+          go false e h g = after i (ltb-false i (length (node-lines (v .tree))) e) h g
+
+      -- lines that begin those of the text
+      pub begins-come : (ls more : List Line) → ls ++ more ≡ map ended (lines-after (v .writer) (v .tree)) → AskedAmong root (length ls - 1) (v .tree)
+          → (s : Due) × Stands v (length ls) s × Passes writer-due ls s
+      begins-come ls more e g =
+          let h : length ls + length more ≡ length (lines-after (v .writer) (v .tree)) =
+          sym (length-append ls more) ∙ ap (λ (x : List Line). length x) e ∙ length-map (lines-after (v .writer) (v .tree)) ended in
+          let r = comes (length ls) (omega arith) g in
+          (r .0, r .1, subst (λ (x : List Line). Passes writer-due x (r .0)) (ap (take (length ls)) (sym e) ∙ take-append-seam ls more) (r .2))
+
+-- ---- the tests of the form ask nothing of the leaves
+
+pub form-takes : (P : Instance) → 1 ≤ P .periods → Takes P (λ s l. form-only (tests P s l)) (λ A t. Unit {0}) (λ A k t. Unit {0})
+unfolding judge
+form-takes P some = record {
+  good-line = λ s s′ x e. none-of-form (tests P s x) (good-none (next P s x) s′ (tests P s x) e .0);
+  whole = λ A d F ps t l h. node-passes P some A d F ps t l;
+  all = λ A k t m h. tt;
+  first = λ A U t k x y h. tt;
+  second = λ A U t k x y h. tt;
+}
+
+-- ---- all tests ask that the leaves hold
+
+pub all-hold : (P : Instance) (A : Above) (k : ℕ) (t : Tree) → length (node-lines t) ≤ k → HoldsAmong P A k t → Holds P A t
+unfolding HoldsAmong Holds node-lines
+all-hold P A k (split U t x y) m h =
+    let e = length-append (node-lines x) (node-lines y) in (
+      all-hold P (fix U t false A) (k - 1) x (omega arith) (h .0),
+      all-hold P (fix U t true A) (k - 1 - length (node-lines x)) y (omega arith) (h .1),
+    )
+all-hold P A k (short t) m h = h (omega arith)
+all-hold P A k (stuck U) m h = h (omega arith)
+all-hold P A k (price q s) m h = h (omega arith)
+
+pub all-takes : (P : Instance) → 1 ≤ P .periods → Takes P (tests P) (Holds P) (HoldsAmong P)
+unfolding judge HoldsAmong
+all-takes P some = record {
+  good-line = λ s s′ x e. good-none (next P s x) s′ (tests P s x) e .0;
+  whole = node-good P some;
+  all = all-hold P;
+  first = λ A U t k x y h. subst (λ (j : ℕ). HoldsAmong P (fix U t false A) j x) (omega arith) (h .0);
+  second = λ A U t k x y h. subst (λ (j : ℕ). HoldsAmong P (fix U t true A) j y) (omega arith) (h .1);
+}
