@@ -116,8 +116,8 @@ size_t docket_lodge(uint64_t *numbers, size_t numbers_length, uint16_t *rows, si
  * costwriter=, bound=, boundwriter=, gap=, end=report, each ended by byte 10. What is not held is `none`, a bound may be `never`,
  * and the gap is `none` unless cost and bound are numbers.
  *
- * Returned: how many bytes from there on are the report; the others are as they were. Or DOCKET_TOO_SMALL, where the place lies
- * beyond the buffer's end or too few bytes follow it (43), or the state is too short; or DOCKET_NO_DOCKET. */
+ * Returned: how many bytes from there on are the report; the others are as they were. Or DOCKET_TOO_SMALL, where the report
+ * does not fit from its place on (43), or the state is too short; or DOCKET_NO_DOCKET. */
 size_t docket_report(const uint64_t *numbers, size_t numbers_length, const uint16_t *rows, size_t rows_length, uint8_t *buffer,
                      size_t buffer_length, size_t at);
 

@@ -13,7 +13,7 @@ pub enum Last {
     Refused(u64),
 }
 
-/// The afternoon peak: 60 price leaves on 32 units and 48 periods, with dear multipliers.
+/// The afternoon peak: 32 units, 48 periods and 60 price leaves, with dear multipliers.
 fn peak(name: &'static str, times: Times, off: bool) -> Case {
     let mut r = Random::new();
     let problem = problem(&mut r, times, 100_000, 10_000, off);

@@ -1,4 +1,4 @@
-//! The docket: one problem, at most one schedule and at most one bound.
+//! The docket: a problem, and under it no more than one schedule and one bound.
 use crate::judge::{self, Rows};
 use crate::problem::{Problem, MOST_PERIODS, MOST_UNITS};
 use crate::tree::{self, Figures};

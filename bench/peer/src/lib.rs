@@ -16,7 +16,7 @@ mod tree;
 pub use docket::{Answer, Docket};
 pub use listing::{listing, lodge_list, piece_end, BOUND_OF_NEVER};
 
-/// Number, line, unit, period; what does not apply is 0.
+/// The number and the place of a refusal, with 0 for what is not meant.
 #[derive(Clone, Copy, Debug, PartialEq, Eq)]
 pub struct Refusal {
     pub number: u64,

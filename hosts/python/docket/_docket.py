@@ -50,7 +50,7 @@ class Docket:
         return answer_of(values[:], line.raw[: checked(length)])
 
     def report(self) -> Report:
-        """The report: the held cost and bound, each with its writer, and the gap."""
+        """The report: what is held, cost and bound, who wrote them, and the gap."""
         buffer = _Report()
         with self._lock:
             length = library.docket_report(self._numbers, _NUMBERS, self._rows, _ROWS, buffer, REPORT_BYTES, 0)

@@ -69,7 +69,7 @@ impl Docket {
         Answer::of(&values, written(&line, answer))
     }
 
-    /// What the docket holds: cost and bound, each with its writer, and the gap.
+    /// What the docket holds: a cost and a bound, who wrote them, and the gap.
     pub fn report(&self) -> Report {
         let mut buffer = [0; sys::REPORT_BYTES];
         let answer = sys::report(&self.numbers, &self.rows, &mut buffer);

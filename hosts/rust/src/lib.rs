@@ -1,6 +1,6 @@
 //! The unit commitment docket for Rust: safe functions over the proved archive `libdocket_host.a`.
 //!
-//! A [`Docket`] stays open: texts are lodged in it one at a time, and it tells at any time what it holds. [`listing`] and
+//! A [`Docket`] stays open: it takes texts one by one, and it tells at any time what it holds. [`listing`] and
 //! [`listing_of`] lodge a whole input at once. What either answers is fixed for every input by contracts that are proved
 //! (`crates/docket_host`); texts, answers and refusals are explained in the repository's `README.md`.
 //!
