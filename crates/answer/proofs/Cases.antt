@@ -7,20 +7,20 @@ use Rattle.refusal.specs.declared.Refusal.{Refusal}
 use Rattle.tree.specs.declared.figures.Bound.{Bound}
 use Rattle.tree.specs.declared.figures.Bound.the-variants as bound
 use Rattle.tree.specs.Coded.{bound-of}
-use Rattle.writer.specs.Written.{figureOf}
+use Rattle.writer.specs.Written.{figure-of}
 use Rattle.writer.specs.declared.Figure.{Figure}
 use Rattle.writer.specs.declared.Figure.the-variants.{Number}
 use Rattle.answer.specs.declared.Answer.{Answer}
 use Rattle.answer.specs.declared.Answer.the-variants.{Refused, TextHeld, ScheduleHeld, SchedulePassed, TreeHeld, TreePassed}
 use Rattle.answer.specs.declared.TreeFigures.{TreeFigures}
-use Rattle.answer.specs.Answers.{its-cost, tree-values, stated}
-use Rattle.answer.specs.AnswerLines.{bound-figure, values-of, ending, held-key, passed-key, answer-line}
+use Rattle.answer.specs.StatedAnswers.{its-cost, tree-values, stated}
+use Rattle.answer.specs.AnswerLines.{bound-figure, value-figures, ending, held-key, passed-key, answer-line}
 
-pub number-shown : (b : Bound) (z : ℤ) → b ≡ bound.Number z → figureOf z ≡ bound-figure (bound-of b)
+pub number-shown : (b : Bound) (z : ℤ) → b ≡ bound.Number z → figure-of z ≡ bound-figure (bound-of b)
 number-shown b z e = sym (ap (λ (x : Bound). bound-figure (bound-of x)) e)
 
 pub tree-ending : (s : Figure) (f : TreeFigures) → s ≡ bound-figure (bound-of (f .bound))
-    → ending (s ∷ Number (f .splits) ∷ Number (f .leaves) ∷ []) ≡ ending (values-of (tree-values f))
+    → ending (s ∷ Number (f .splits) ∷ Number (f .leaves) ∷ []) ≡ ending (value-figures (tree-values f))
 tree-ending s f e = ap (λ (x : Figure). ending (x ∷ Number (f .splits) ∷ Number (f .leaves) ∷ [])) e
 
 module _ (a : Answer) where
@@ -31,18 +31,18 @@ module _ (a : Answer) where
   unfolding answer-line
   is-text-held e = sym (ap (λ (x : Answer). answer-line (stated x)) e)
 
-  pub is-schedule-held : (c : ℕ) → a ≡ ScheduleHeld c → held-key ++ ending (values-of (its-cost c)) ≡ answer-line (stated a)
+  pub is-schedule-held : (c : ℕ) → a ≡ ScheduleHeld c → held-key ++ ending (value-figures (its-cost c)) ≡ answer-line (stated a)
   unfolding answer-line
   is-schedule-held c e = sym (ap (λ (x : Answer). answer-line (stated x)) e)
 
-  pub is-schedule-passed : (c : ℕ) → a ≡ SchedulePassed c → passed-key ++ ending (values-of (its-cost c)) ≡ answer-line (stated a)
+  pub is-schedule-passed : (c : ℕ) → a ≡ SchedulePassed c → passed-key ++ ending (value-figures (its-cost c)) ≡ answer-line (stated a)
   unfolding answer-line
   is-schedule-passed c e = sym (ap (λ (x : Answer). answer-line (stated x)) e)
 
-  pub is-tree-held : (f : TreeFigures) → a ≡ TreeHeld f → held-key ++ ending (values-of (tree-values f)) ≡ answer-line (stated a)
+  pub is-tree-held : (f : TreeFigures) → a ≡ TreeHeld f → held-key ++ ending (value-figures (tree-values f)) ≡ answer-line (stated a)
   unfolding answer-line
   is-tree-held f e = sym (ap (λ (x : Answer). answer-line (stated x)) e)
 
-  pub is-tree-passed : (f : TreeFigures) → a ≡ TreePassed f → passed-key ++ ending (values-of (tree-values f)) ≡ answer-line (stated a)
+  pub is-tree-passed : (f : TreeFigures) → a ≡ TreePassed f → passed-key ++ ending (value-figures (tree-values f)) ≡ answer-line (stated a)
   unfolding answer-line
   is-tree-passed f e = sym (ap (λ (x : Answer). answer-line (stated x)) e)

@@ -7,12 +7,12 @@ use Rattle.model.specs.Instance.{_at_}
 use Rattle.model.specs.Tree.{Bound, never, number}
 use Rattle.model.specs.Held.{pad}
 use Rattle.tree.specs.Coded.{bound-of}
-use Rattle.writer.specs.Written.{figureOf}
+use Rattle.writer.specs.Written.{figure-of}
 use Rattle.writer.specs.declared.Figure.{Figure}
 use Rattle.writer.specs.declared.Figure.the-variants.{Missing, Never, Number, Minus}
 use Rattle.answer.specs.declared.Answer.{Answer}
 use Rattle.answer.specs.declared.TreeFigures.{TreeFigures}
-use Rattle.answer.specs.Answers.{tree-values, stated}
+use Rattle.answer.specs.StatedAnswers.{tree-values, stated}
 use Rattle.answer.specs.AnswerLines.{bound-figure}
 use Rattle.answer.specs.AnswerNumbers.{bound-numbers, value-numbers, answer-numbers}
 
@@ -25,7 +25,7 @@ figure-numbers (Number n) = 2 ∷ n ∷ []
 figure-numbers (Minus n) = 3 ∷ n ∷ []
 
 shown-is : (b : Bound) → figure-numbers (bound-figure b) ≡ bound-numbers b
-unfolding figureOf
+unfolding figure-of
 shown-is never = refl
 shown-is (number (pos n)) = refl
 shown-is (number (negsuc n)) = refl

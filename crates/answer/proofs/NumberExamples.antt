@@ -4,7 +4,7 @@ use mathlib.Core.List.{[], _∷_}
 use lib.IntN.{pos, negsuc}
 use Rattle.model.specs.Tree.{never, number}
 use Rattle.model.specs.Held.{pad}
-use Rattle.answer.specs.Answers.{no-values, its-cost, its-bound, refused, held, passed}
+use Rattle.answer.specs.StatedAnswers.{no-values, its-cost, its-bound, refused, held, passed}
 use Rattle.answer.specs.AnswerNumbers.{answer-numbers}
 
 -- answer=refused,25,0,1,2

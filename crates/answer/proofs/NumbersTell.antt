@@ -7,12 +7,12 @@ use lib.ListN.{length}
 use Rattle.model.specs.Instance.{_at_}
 use Rattle.model.specs.Tree.{never, number}
 use Rattle.model.specs.Held.{pad}
-use Rattle.answer.specs.Answers.{Values, no-values, its-cost, its-bound, Stated, refused, held, passed}
+use Rattle.answer.specs.StatedAnswers.{AnswerValues, no-values, its-cost, its-bound, Stated, refused, held, passed}
 use Rattle.answer.specs.AnswerNumbers.{value-numbers, answer-numbers}
 
 -- ---- how many they are
 
-values-long : (k : ℕ) (v : Values) → length (pad 0 16 (k ∷ value-numbers v)) ≡ 16
+values-long : (k : ℕ) (v : AnswerValues) → length (pad 0 16 (k ∷ value-numbers v)) ≡ 16
 unfolding pad
 values-long k no-values = refl
 values-long k (its-cost c) = refl
@@ -33,14 +33,14 @@ abbrev below : ℕ → ℤ
 below zero = pos 0
 below (suc n) = negsuc n
 
-abbrev values-by : (kind size splits leaves : ℕ) → Values
+abbrev values-by : (kind size splits leaves : ℕ) → AnswerValues
 values-by zero s m n = no-values
 values-by (suc zero) s m n = its-cost s
 values-by (suc (suc zero)) s m n = its-bound (number (pos s)) m n
 values-by (suc (suc (suc zero))) s m n = its-bound (number (below s)) m n
 values-by (suc (suc (suc (suc k)))) s m n = its-bound never m n
 
-abbrev values-in : List ℕ → Values
+abbrev values-in : List ℕ → AnswerValues
 values-in v = values-by (v at 1) (v at 2) (v at 3) (v at 4)
 
 abbrev answer-by : ℕ → List ℕ → Stated
@@ -53,7 +53,7 @@ answer-in v = answer-by (v at 0) v
 
 -- ---- is the answer whose numbers they are
 
-values-again : (k : ℕ) (v : Values) → values-in (pad 0 16 (k ∷ value-numbers v)) ≡ v
+values-again : (k : ℕ) (v : AnswerValues) → values-in (pad 0 16 (k ∷ value-numbers v)) ≡ v
 unfolding pad
 values-again k no-values = refl
 values-again k (its-cost c) = refl

@@ -8,16 +8,16 @@ use lib.ListN.{length, length-append}
 use Rattle.decimal.proofs.Digits.{width-below}
 use Rattle.model.specs.Tree.{Bound, never, number}
 use Rattle.model.proofs.LeafSizes.{Fits}
-use Rattle.writer.specs.Written.{figure, figureOf}
+use Rattle.writer.specs.Written.{figure, figure-of}
 use Rattle.writer.specs.declared.Figure.{Figure}
 use Rattle.writer.specs.declared.Figure.the-variants.{Number}
-use Rattle.answer.specs.Answers.{Values, no-values, its-cost, its-bound, Stated, refused, held, passed}
-use Rattle.answer.specs.AnswerLines.{bound-figure, values-of, ending, answer-line}
+use Rattle.answer.specs.StatedAnswers.{AnswerValues, no-values, its-cost, its-bound, Stated, refused, held, passed}
+use Rattle.answer.specs.AnswerLines.{bound-figure, value-figures, ending, answer-line}
 
 -- ---- small figures
 
 -- a cost below 10^18, a bound that fits, counts below 10^7
-abbrev pub SmallValues : Values → Type 0
+abbrev pub SmallValues : AnswerValues → Type 0
 SmallValues no-values = Unit {0}
 SmallValues (its-cost c) = c < 1_000_000_000_000_000_000
 SmallValues (its-bound b m n) = Fits b × ((m < 10_000_000) × (n < 10_000_000))
@@ -35,7 +35,7 @@ unfolding figure
 number-width k n h = width-below k n h
 
 bound-width : (b : Bound) → Fits b → length (figure (bound-figure b)) ≤ 19
-unfolding figure figureOf
+unfolding figure figure-of
 bound-width never h = omega arith
 bound-width (number (pos n)) h = omega (arith, width-below 17 n (omega (arith, h .0)))
 bound-width (number (negsuc n)) h = omega (arith, width-below 17 (suc n) (omega (arith, h .1)))
@@ -46,7 +46,7 @@ bound-width (number (negsuc n)) h = omega (arith, width-below 17 (suc n) (omega 
 ending-more : (f : Figure) (fs : List Figure) → length (ending (f ∷ fs)) ≡ suc (length (figure f) + length (ending fs))
 ending-more f fs = ap suc (length-append (figure f) (ending fs))
 
-ending-fits : (v : Values) → SmallValues v → length (ending (values-of v)) ≤ 37
+ending-fits : (v : AnswerValues) → SmallValues v → length (ending (value-figures v)) ≤ 37
 ending-fits no-values s = omega arith
 ending-fits (its-cost c) s = omega (arith, ending-more (Number c) [], number-width 17 c s)
 ending-fits (its-bound b m n) s =

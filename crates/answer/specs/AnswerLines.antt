@@ -2,21 +2,21 @@
 use mathlib.Core.List.{List, [], _∷_, _++_}
 use Prim.Native.Nat.{ℕ}
 use Rattle.model.specs.Tree.{Bound, never, number}
-use Rattle.writer.specs.Written.{figure, figureOf}
+use Rattle.writer.specs.Written.{figure, figure-of}
 use Rattle.writer.specs.declared.Figure.{Figure}
 use Rattle.writer.specs.declared.Figure.the-variants.{Never, Number}
-use Rattle.answer.specs.Answers.{Values, no-values, its-cost, its-bound, Stated, refused, held, passed}
+use Rattle.answer.specs.StatedAnswers.{AnswerValues, no-values, its-cost, its-bound, Stated, refused, held, passed}
 
 -- a bound: never or a number, with its minus
 abbrev pub bound-figure : Bound → Figure
 bound-figure never = Never
-bound-figure (number z) = figureOf z
+bound-figure (number z) = figure-of z
 
 -- what follows `held` or `passed`: a schedule's cost; a tree's bound, splits and leaves
-abbrev pub values-of : Values → List Figure
-values-of no-values = []
-values-of (its-cost c) = Number c ∷ []
-values-of (its-bound b m n) = bound-figure b ∷ Number m ∷ Number n ∷ []
+abbrev pub value-figures : AnswerValues → List Figure
+value-figures no-values = []
+value-figures (its-cost c) = Number c ∷ []
+value-figures (its-bound b m n) = bound-figure b ∷ Number m ∷ Number n ∷ []
 
 -- how the line ends: the values, each behind a comma, and byte 10
 abbrev pub ending : List Figure → List ℕ
@@ -37,5 +37,5 @@ passed-key = 97 ∷ 110 ∷ 115 ∷ 119 ∷ 101 ∷ 114 ∷ 61 ∷ 112 ∷ 97 �
 
 unfoldable pub answer-line : Stated → List ℕ
 answer-line (refused n l u t) = refused-key ++ ending (Number n ∷ Number l ∷ Number u ∷ Number t ∷ [])
-answer-line (held v) = held-key ++ ending (values-of v)
-answer-line (passed v) = passed-key ++ ending (values-of v)
+answer-line (held v) = held-key ++ ending (value-figures v)
+answer-line (passed v) = passed-key ++ ending (value-figures v)

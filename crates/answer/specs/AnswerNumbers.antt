@@ -4,7 +4,7 @@ use Prim.Native.Nat.{ℕ, suc}
 use lib.IntN.{pos, negsuc}
 use Rattle.model.specs.Tree.{Bound, never, number}
 use Rattle.model.specs.Held.{pad}
-use Rattle.answer.specs.Answers.{Values, no-values, its-cost, its-bound, Stated, refused, held, passed}
+use Rattle.answer.specs.StatedAnswers.{AnswerValues, no-values, its-cost, its-bound, Stated, refused, held, passed}
 
 -- a bound: 2 and a number of 0 or more, 3 and what follows the minus of one below 0, 4 and 0 for never
 abbrev pub bound-numbers : Bound → List ℕ
@@ -13,7 +13,7 @@ bound-numbers (number (negsuc n)) = 3 ∷ suc n ∷ []
 bound-numbers never = 4 ∷ 0 ∷ []
 
 -- what follows `held` or `passed`: 0 for a text that is neither schedule nor tree, 1 and a schedule's cost, a tree's bound, splits and leaves
-abbrev pub value-numbers : Values → List ℕ
+abbrev pub value-numbers : AnswerValues → List ℕ
 value-numbers no-values = 0 ∷ []
 value-numbers (its-cost c) = 1 ∷ c ∷ []
 value-numbers (its-bound b m n) = bound-numbers b ++ (m ∷ n ∷ [])

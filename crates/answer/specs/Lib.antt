@@ -1,3 +1,3 @@
-pub mod Answers
+pub mod StatedAnswers
 pub mod AnswerLines
 pub mod AnswerNumbers

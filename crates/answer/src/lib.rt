@@ -5,8 +5,8 @@ ghost use Prim.Native.Nat.{_≤_};
 ghost use lib.ListN.{length};
 ghost use Rattle.writer.specs.Written.{over, figure};
 ghost use Rattle.tree.specs.Coded.{bound-of};
-ghost use Rattle.answer.specs.Answers.{its-cost, tree-values, stated};
-ghost use Rattle.answer.specs.AnswerLines.{bound-figure, values-of, ending, answer-line};
+ghost use Rattle.answer.specs.StatedAnswers.{its-cost, tree-values, stated};
+ghost use Rattle.answer.specs.AnswerLines.{bound-figure, value-figures, ending, answer-line};
 use refusal::Refusal;
 use tree::figures::Bound;
 use writer::Figure;
@@ -110,9 +110,9 @@ pub fn write_refusal(buf: &mut [u8], refusal: Refusal) -> usize
 
 // How many bytes were written: key and a schedule's cost, at the front of buf.
 fn write_cost(buf: &mut [u8], key: &[u8], cost: u64) -> usize
-    requires { ⌜ length (now key ++ ending (values-of (its-cost cost))) ≤ length (now buf) ⌝ }
-    ensures { λ r. ⌜ r ≡ length (now (key .entry) ++ ending (values-of (its-cost cost))) ⌝ }
-    ensures { λ _. ⌜ now (buf .exit) ≡ over (now (key .entry) ++ ending (values-of (its-cost cost))) (now (buf .entry)) ⌝ }
+    requires { ⌜ length (now key ++ ending (value-figures (its-cost cost))) ≤ length (now buf) ⌝ }
+    ensures { λ r. ⌜ r ≡ length (now (key .entry) ++ ending (value-figures (its-cost cost))) ⌝ }
+    ensures { λ _. ⌜ now (buf .exit) ≡ over (now (key .entry) ++ ending (value-figures (its-cost cost))) (now (buf .entry)) ⌝ }
 {
     let k = writer::write_bytes(buf, key);
     let w = write_one(&mut buf[k..], Figure::Number(cost));
@@ -121,9 +121,9 @@ fn write_cost(buf: &mut [u8], key: &[u8], cost: u64) -> usize
 
 // How many bytes were written: key and a tree's bound, splits and leaves, at the front of buf.
 fn write_tree(buf: &mut [u8], key: &[u8], figures: TreeFigures) -> usize
-    requires { ⌜ length (now key ++ ending (values-of (tree-values figures))) ≤ length (now buf) ⌝ }
-    ensures { λ r. ⌜ r ≡ length (now (key .entry) ++ ending (values-of (tree-values figures))) ⌝ }
-    ensures { λ _. ⌜ now (buf .exit) ≡ over (now (key .entry) ++ ending (values-of (tree-values figures))) (now (buf .entry)) ⌝ }
+    requires { ⌜ length (now key ++ ending (value-figures (tree-values figures))) ≤ length (now buf) ⌝ }
+    ensures { λ r. ⌜ r ≡ length (now (key .entry) ++ ending (value-figures (tree-values figures))) ⌝ }
+    ensures { λ _. ⌜ now (buf .exit) ≡ over (now (key .entry) ++ ending (value-figures (tree-values figures))) (now (buf .entry)) ⌝ }
 {
     let bound = figures.bound;
     let shown = figure_of_bound(bound);

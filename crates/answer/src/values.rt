@@ -3,7 +3,7 @@ ghost use mathlib.Core.Path.{_≡_};
 ghost use mathlib.Core.List.{_∷_};
 ghost use Rattle.model.specs.Held.{pad};
 ghost use Rattle.tree.specs.Coded.{bound-of};
-ghost use Rattle.answer.specs.Answers.{its-cost, tree-values, stated};
+ghost use Rattle.answer.specs.StatedAnswers.{its-cost, tree-values, stated};
 ghost use Rattle.answer.specs.AnswerNumbers.{bound-numbers, value-numbers, answer-numbers};
 use crate::Answer;
 use crate::TreeFigures;

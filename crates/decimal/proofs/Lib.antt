@@ -1,4 +1,4 @@
-pub mod Reading
+pub mod NumberRead
 pub mod Digits
 pub mod Numerals
 pub mod Examples

@@ -1,2 +1,2 @@
 pub mod Decimal
-pub mod Reading
+pub mod NumberRead

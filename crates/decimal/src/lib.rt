@@ -3,8 +3,8 @@ ghost use mathlib.Core.Path.{_≡_};
 ghost use mathlib.Core.Bool.{true};
 ghost use Prim.Native.Nat.{_+_, _-_, _*_, _≤_, min};
 ghost use lib.ListN.{length};
-ghost use Rattle.decimal.specs.Decimal.{isDigit};
-ghost use Rattle.decimal.specs.Reading.{cap, digitsAfter, digitsAt, numberAt};
+ghost use Rattle.decimal.specs.Decimal.{is-digit};
+ghost use Rattle.decimal.specs.NumberRead.{read-cap, digits-after, digits-at, number-at};
 
 // Every value from this on reads as this.
 const CAP: u64 = 10_000_000_000;
@@ -27,7 +27,7 @@ struct DigitsRead {
 
 // Whether the byte b is a digit.
 fn is_digit(b: u8) -> bool
-    ensures { λ r. ⌜ r ≡ isDigit b ⌝ }
+    ensures { λ r. ⌜ r ≡ is-digit b ⌝ }
 {
     if b < 48 {
         return false;
@@ -40,8 +40,8 @@ fn is_digit(b: u8) -> bool
 
 // v with one more digit, which the byte b writes, or the cap.
 fn with_digit(v: u64, b: u8) -> u64
-    requires { ⌜ isDigit b ≡ true ⌝ }
-    ensures { λ r. ⌜ r ≡ min cap (v * 10 + (b - 48)) ⌝ }
+    requires { ⌜ is-digit b ≡ true ⌝ }
+    ensures { λ r. ⌜ r ≡ min read-cap (v * 10 + (b - 48)) ⌝ }
 {
     if v < CAP / 10 {
         return v * 10 + (b - 48) as u64;
@@ -51,8 +51,8 @@ fn with_digit(v: u64, b: u8) -> u64
 
 // The digits that stand at the place `at` of a text, after digits of value v.
 fn read_rest(s: &[u8], at: usize, v: u64) -> DigitsRead
-    requires { ⌜ v ≤ cap ⌝ }
-    ensures { λ r. ⌜ r ≡ digitsAfter v (now (s .entry)) at ⌝ }
+    requires { ⌜ v ≤ read-cap ⌝ }
+    ensures { λ r. ⌜ r ≡ digits-after v (now (s .entry)) at ⌝ }
 {
     let mut value = v;
     let mut i = at;
@@ -71,7 +71,7 @@ fn read_rest(s: &[u8], at: usize, v: u64) -> DigitsRead
 // The digits that stand at the place `at` of a text, where FIRST bytes stand.
 fn read_first(s: &[u8], at: usize) -> DigitsRead
     requires { ⌜ at + 5 ≤ length (now s) ⌝ }
-    ensures { λ r. ⌜ r ≡ digitsAt (now (s .entry)) at ⌝ }
+    ensures { λ r. ⌜ r ≡ digits-at (now (s .entry)) at ⌝ }
 {
     let mut value: u64 = 0;
     let mut k = 0;
@@ -89,7 +89,7 @@ fn read_first(s: &[u8], at: usize) -> DigitsRead
 
 // The digits that stand at the place `at` of a text.
 fn read_digits(s: &[u8], at: usize) -> DigitsRead
-    ensures { λ r. ⌜ r ≡ digitsAt (now (s .entry)) at ⌝ }
+    ensures { λ r. ⌜ r ≡ digits-at (now (s .entry)) at ⌝ }
 {
     if at < s.len() {
         if FIRST <= s.len() - at {
@@ -101,7 +101,7 @@ fn read_digits(s: &[u8], at: usize) -> DigitsRead
 
 // The number that starts at the place `at` of a text.
 pub fn read_number(s: &[u8], at: usize) -> Number
-    ensures { λ r. ⌜ r ≡ numberAt (now (s .entry)) at ⌝ }
+    ensures { λ r. ⌜ r ≡ number-at (now (s .entry)) at ⌝ }
 {
     let digits = read_digits(s, at);
     let value = digits.value;

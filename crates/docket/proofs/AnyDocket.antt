@@ -1,7 +1,7 @@
 -- Of every value of the struct, sound or not (demand 1): what is refused gets document 01's number and place under the problem that the
 -- value judges by; what is refused or passed leaves it; and a report leaves it and writes what it shows at the place, or is 43.
 use mathlib.Core.Path.{_≡_, refl, sym, ap, subst, _∙_}
-use mathlib.Core.Bool.{Bool, true, false, _&&_}
+use mathlib.Core.Bool.{Bool, true, false, _&&_, cond}
 use mathlib.Core.List.{List}
 use mathlib.Core.Logic.{_↔_}
 use mathlib.Core.Option.{Option, none, some}
@@ -16,14 +16,14 @@ use Rattle.model.proofs.Tests.{T-true}
 use Rattle.model.proofs.Valid.{valid-is}
 use Rattle.refusal.specs.declared.Refusal.{Refusal}
 use Rattle.report.specs.Report.{has-room}
-use Rattle.report.specs.Answers as report-answers
-use Rattle.text.specs.Lines.{lineAt, kindOf}
+use Rattle.report.specs.StatedReports as report-answers
+use Rattle.text.specs.Lines.{line-at, kind-of}
 use Rattle.text.proofs.Cuts.{and-both}
 use Rattle.text.specs.declared.Kind.{Kind}
 use Rattle.text.specs.declared.Kind.the-variants as kind
 use Rattle.answer.specs.declared.Answer.the-variants.{ScheduleHeld, SchedulePassed, TreeHeld, TreePassed}
-use Rattle.answer.specs.Answers as answers
-use Rattle.answer.specs.Answers.{stated}
+use Rattle.answer.specs.StatedAnswers as answers
+use Rattle.answer.specs.StatedAnswers.{stated}
 use Rattle.docket.specs.declared.Docket.{Docket}
 use Rattle.docket.specs.declared.held.CostBy.{CostBy}
 use Rattle.docket.specs.declared.held.BoundBy.{BoundBy}
@@ -35,12 +35,12 @@ use Rattle.docket.specs.Docket.{fresh-docket, size-limit, small-number, 
 use Rattle.docket.specs.Verdicts as verdict
 use Rattle.docket.specs.Verdicts.{Verdict}
 use Rattle.docket.specs.Texts.{Is}
-use Rattle.docket.specs.Lodging.{pick, lodged, hold, judged, admit, admit-kind, refuse-whole, by-lines, trusted, lodge-of, is-less, is-higher, with-schedule, with-bound, given-figures}
+use Rattle.docket.specs.Lodging.{lodged, hold, text-judged, admit, admit-kind, refuse-whole, verdict-by, trusted, lodge-of, is-less, is-higher, with-schedule, with-bound, given-figures}
 use Rattle.docket.specs.Report.{text-shown, report-of, buffer-of}
-use Rattle.docket.specs.ReportDue.{Outcome}
+use Rattle.docket.specs.ReportDue.{WrittenOr43}
 use Rattle.docket.specs.Promised.{Long, KnownSound, JudgesBy, its-own, no-problem}
 use Rattle.docket.proofs.OneVerdict.{Fine, verdict-of, verdict-is, is-verdict}
-use Rattle.docket.proofs.Following.{sound-valid}
+use Rattle.docket.proofs.HoldingAnswers.{sound-valid}
 use Rattle.docket.proofs.ReportDue.{written-or-refused}
 
 -- ---- the problem that it judges by
@@ -89,25 +89,25 @@ module _ (d : Docket) (long : Long d) where
   pub judges : JudgesBy d (judged-under d)
   judges = go (sound d) (d .known) refl refl
     where
-      go : (s k : Bool) → sound d ≡ s → d .known ≡ k → JudgesBy d (if-known (pick s d fresh-docket .known) (view (pick s d fresh-docket .problem)))
+      go : (s k : Bool) → sound d ≡ s → d .known ≡ k → JudgesBy d (if-known (cond s d fresh-docket .known) (view (cond s d fresh-docket .problem)))
       go true true e k = subst (λ (c : Bool). JudgesBy d (if-known c (view (d .problem)))) (sym k) (its-own (known-sound-is k .0 e))
       go true false e k = subst (λ (c : Bool). JudgesBy d (if-known c (view (d .problem)))) (sym k) (no-problem (λ s. let q = s .known in let z : _≡_ {A = ℕ} 0 1 = cc in omega arith))
       go false k e q = no-problem (λ s. let t = known-sound-is (s .known) .1 s in let z : _≡_ {A = ℕ} 0 1 = cc in omega arith)
 
 -- ---- what is refused
 
-judged-free : (P Q : Instance) (text : List ℕ) → judged false P text ≡ judged false Q text
-unfolding judged admit
-judged-free P Q text = go (ltb 1048576 (length text)) (kindOf (lineAt text 0))
+judged-free : (P Q : Instance) (text : List ℕ) → text-judged false P text ≡ text-judged false Q text
+unfolding text-judged admit
+judged-free P Q text = go (ltb 1048576 (length text)) (kind-of (line-at text 0))
   where
-    go : (c : Bool) (k : Kind) → by-lines (pick c (refuse-whole 11 0) (admit-kind k false)) P text ≡ by-lines (pick c (refuse-whole 11 0) (admit-kind k false)) Q text
+    go : (c : Bool) (k : Kind) → verdict-by (cond c (refuse-whole 11 0) (admit-kind k false)) P text ≡ verdict-by (cond c (refuse-whole 11 0) (admit-kind k false)) Q text
     go true k = refl
     go false kind.Unknown = refl
     go false kind.Problem = refl
     go false kind.Schedule = refl
     go false kind.Tree = refl
 
-same-verdict : (c : Bool) (P : Instance) (text : List ℕ) → verdict-of (if-known c P) text ≡ judged c P text
+same-verdict : (c : Bool) (P : Instance) (text : List ℕ) → verdict-of (if-known c P) text ≡ text-judged c P text
 same-verdict true P text = refl
 same-verdict false P text = judged-free (view blank-problem) P text
 
@@ -118,7 +118,7 @@ fine-under d long = go (sound d) refl
     known true k s = valid-is (d .problem) (long .0) (long .1) (long .2) .0 (sound-valid d s k) .well-formed
     known false k s = tt
 
-    go : (s : Bool) → sound d ≡ s → Fine (if-known (pick s d fresh-docket .known) (view (pick s d fresh-docket .problem)))
+    go : (s : Bool) → sound d ≡ s → Fine (if-known (cond s d fresh-docket .known) (view (cond s d fresh-docket .problem)))
     go true e = known (d .known) refl e
     go false e = tt
 
@@ -133,12 +133,12 @@ module _ (d e : Docket) where
   refused-hold (verdict.problem P) r h = absurd (let z : _≡_ {A = ℕ} 0 1 = cc in omega arith)
   refused-hold (verdict.schedule s) r h = absurd (go (is-less (s .cost) (e .held .cost)) h)
     where
-      go : (c : Bool) → stated (pick c (lodged (with-schedule e s) (ScheduleHeld (s .cost))) (lodged d (SchedulePassed (s .cost))) .answer) ≡ answers.refused (r .number) (r .line) (r .unit) (r .period) → ⊥
+      go : (c : Bool) → stated (cond c (lodged (with-schedule e s) (ScheduleHeld (s .cost))) (lodged d (SchedulePassed (s .cost))) .answer) ≡ answers.refused (r .number) (r .line) (r .unit) (r .period) → ⊥
       go true h = let z : _≡_ {A = ℕ} 0 1 = cc in omega arith
       go false h = let z : _≡_ {A = ℕ} 0 1 = cc in omega arith
   refused-hold (verdict.tree F) r h = absurd (go (is-higher (F .bound) (e .held .bound)) h)
     where
-      go : (c : Bool) → stated (pick c (lodged (with-bound e F) (TreeHeld (given-figures F))) (lodged d (TreePassed (given-figures F))) .answer) ≡ answers.refused (r .number) (r .line) (r .unit) (r .period) → ⊥
+      go : (c : Bool) → stated (cond c (lodged (with-bound e F) (TreeHeld (given-figures F))) (lodged d (TreePassed (given-figures F))) .answer) ≡ answers.refused (r .number) (r .line) (r .unit) (r .period) → ⊥
       go true h = let z : _≡_ {A = ℕ} 0 1 = cc in omega arith
       go false h = let z : _≡_ {A = ℕ} 0 1 = cc in omega arith
 
@@ -176,6 +176,6 @@ fine-by d long o j = subst Fine (judges-once d (judged-under d) o (judges d long
 -- ---- a report
 
 pub reports-always : (d : Docket) (b : List ℕ) (k : ℕ) → (report-of d b k .docket ≡ d)
-    × Outcome (text-shown d) b k (report-answers.stated (report-of d b k .answer)) (buffer-of d b k)
+    × WrittenOr43 (text-shown d) b k (report-answers.report-stated (report-of d b k .answer)) (buffer-of d b k)
 unfolding report-of buffer-of
 reports-always d b k = (refl, written-or-refused (text-shown d) b k (has-room b k (text-shown d)) refl)

@@ -1,7 +1,7 @@
 -- Demand 3 of lodging: the docket after a list is the one that its verdicts determine, so what it holds is the first of the best accepted; an accepted
 -- schedule meets the rules, and an accepted tree's bound is sound. What it shows is what those make due.
 use mathlib.Core.Path.{_≡_, refl, sym, subst, _∙_}
-use mathlib.Core.Bool.{Bool, true, false}
+use mathlib.Core.Bool.{Bool, true, false, cond}
 use mathlib.Core.List.{List, []}
 use mathlib.Core.Option.{Option, none, some}
 use Prim.Native.Nat.{ℕ}
@@ -11,12 +11,12 @@ use Rattle.model.specs.Held.{view}
 use Rattle.model.specs.Tree.{Bound, never, number}
 use Rattle.model.proofs.Lists.{IsFirst, held-least, held-highest}
 use Rattle.model.proofs.Soundness.{number-sound, never-sound}
-use Rattle.tree.specs.Due.{Figures}
+use Rattle.tree.specs.Course.{Bounded}
 use Rattle.docket.specs.declared.Docket.{Docket}
 use Rattle.answer.specs.declared.Answer.the-variants.{ScheduleHeld, SchedulePassed, TreeHeld, TreePassed}
-use Rattle.answer.specs.Answers.{stated}
+use Rattle.answer.specs.StatedAnswers.{stated}
 use Rattle.docket.specs.Verdicts.{Costed, Verdict, refused, problem, schedule, tree, schedules, trees, known-at-end}
-use Rattle.docket.specs.Lodging.{pick, judged, lodged, with-schedule, with-bound, is-less, is-higher, given-figures, bound-by, hold, trusted, lodge-of}
+use Rattle.docket.specs.Lodging.{text-judged, lodged, with-schedule, with-bound, is-less, is-higher, given-figures, bound-by, hold, trusted, lodge-of}
 use Rattle.docket.specs.Report.{text-shown, report-of, buffer-of}
 use Rattle.docket.specs.ReportDue.{ReportDue}
 use Rattle.docket.specs.Demand3.{reached, CostHeld, BoundHeld, Holding, Unheld, Demand3}
@@ -36,7 +36,7 @@ module _ (P : Instance) where
       let s = all-mem (GoodSchedule P) l g h (first-mem by-cost h l f) in
       record { best = h; first = f; held-cost = refl; held-writer = refl; held-rows = refl; meets = s .meets; cost-is = s .cost-is }
 
-  bound-held : (b : Option Figures) (l : List Figures) → IsFirst by-bound b l → All (GoodTree P) l → BoundHeld P l (bound-kept b)
+  bound-held : (b : Option Bounded) (l : List Bounded) → IsFirst by-bound b l → All (GoodTree P) l → BoundHeld P l (bound-kept b)
   bound-held none l e g = e
   bound-held (some h) l f g = go (h .bound) refl
     where
@@ -59,7 +59,7 @@ holding (some P) vs p = record {
   known = refl;
   problem-is = refl;
   cost-held = cost-held P (least vs) (schedules vs) (held-least (λ (s : Costed). s .cost) (schedules vs)) (p .1 .0);
-  bound-held = bound-held P (highest vs) (trees vs) (held-highest (λ (F : Figures). F .bound) (trees vs)) (p .1 .1);
+  bound-held = bound-held P (highest vs) (trees vs) (held-highest (λ (F : Bounded). F .bound) (trees vs)) (p .1 .1);
 }
 
 -- ---- a refused or passed text leaves any docket as it was
@@ -69,20 +69,20 @@ hold-unheld d e (refused r) u = refl
 hold-unheld d e (problem P) u = absurd u
 hold-unheld d e (schedule s) u = go (is-less (s .cost) (e .held .cost)) u
   where
-    go : (t : Bool) → Unheld (stated (pick t (lodged (with-schedule e s) (ScheduleHeld (s .cost))) (lodged d (SchedulePassed (s .cost))) .answer))
-        → pick t (lodged (with-schedule e s) (ScheduleHeld (s .cost))) (lodged d (SchedulePassed (s .cost))) .docket ≡ d
+    go : (t : Bool) → Unheld (stated (cond t (lodged (with-schedule e s) (ScheduleHeld (s .cost))) (lodged d (SchedulePassed (s .cost))) .answer))
+        → cond t (lodged (with-schedule e s) (ScheduleHeld (s .cost))) (lodged d (SchedulePassed (s .cost))) .docket ≡ d
     go true u = absurd u
     go false u = refl
 hold-unheld d e (tree F) u = go (is-higher (F .bound) (e .held .bound)) u
   where
-    go : (t : Bool) → Unheld (stated (pick t (lodged (with-bound e F) (TreeHeld (given-figures F))) (lodged d (TreePassed (given-figures F))) .answer))
-        → pick t (lodged (with-bound e F) (TreeHeld (given-figures F))) (lodged d (TreePassed (given-figures F))) .docket ≡ d
+    go : (t : Bool) → Unheld (stated (cond t (lodged (with-bound e F) (TreeHeld (given-figures F))) (lodged d (TreePassed (given-figures F))) .answer))
+        → cond t (lodged (with-bound e F) (TreeHeld (given-figures F))) (lodged d (TreePassed (given-figures F))) .docket ≡ d
     go true u = absurd u
     go false u = refl
 
 pub unheld-unchanged : (d : Docket) (text : List ℕ) → Unheld (stated (lodge-of d text .answer)) → lodge-of d text .docket ≡ d
 unfolding lodge-of
-unheld-unchanged d text u = hold-unheld d (trusted d) (judged (trusted d .known) (view (trusted d .problem)) text) u
+unheld-unchanged d text u = hold-unheld d (trusted d) (text-judged (trusted d .known) (view (trusted d .problem)) text) u
 
 -- ---- the whole
 

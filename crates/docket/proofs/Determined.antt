@@ -2,7 +2,7 @@
 -- is known by what it states. So two ways of lodging that both meet it give the same answers and the same docket after every list.
 use mathlib.Core.Path.{_≡_, refl, sym, ap, subst, _∙_}
 use mathlib.Core.Bool.{Bool}
-use mathlib.Core.List.{List, [], _∷_, map, List·Memᴰ, List·Memᴰ·not-nil}
+use mathlib.Core.List.{List, [], _∷_, map, List·Memᴰ, List·Memᴰ·not-nil, flatten}
 use mathlib.Core.Option.{Option, none, some}
 use Prim.Native.Nat.{ℕ}
 use native.Mathlib.Omega.{arith}
@@ -11,12 +11,11 @@ use Rattle.model.specs.Held.{pad}
 use Rattle.model.specs.Tree.{Bound, never, number}
 use Rattle.model.specs.Best.{First}
 use Rattle.model.proofs.Lists.{held-least, held-highest}
-use Rattle.judge.specs.Rows.{joined}
 use Rattle.tree.specs.declared.figures.Bound as code
 use Rattle.tree.specs.declared.figures.Bound.the-variants as given
-use Rattle.tree.specs.Due.{Figures}
+use Rattle.tree.specs.Course.{Bounded}
 use Rattle.tree.specs.Coded.{bound-of}
-use Rattle.tree.specs.Reading.{coded}
+use Rattle.tree.specs.ReadAnswers.{coded}
 use Rattle.docket.specs.declared.Docket.{Docket}
 use Rattle.docket.specs.declared.held.HeldCost.{HeldCost}
 use Rattle.docket.specs.declared.held.HeldCost.the-variants as cost
@@ -25,8 +24,8 @@ use Rattle.docket.specs.declared.held.HeldBound.the-variants as bound
 use Rattle.answer.specs.declared.Answer.{Answer}
 use Rattle.answer.specs.declared.Answer.the-variants.{Refused, TextHeld, ScheduleHeld, SchedulePassed, TreeHeld, TreePassed}
 use Rattle.docket.specs.Docket.{fresh-docket}
-use Rattle.answer.specs.Answers as answers
-use Rattle.answer.specs.Answers.{no-values, its-cost, its-bound, Stated, stated}
+use Rattle.answer.specs.StatedAnswers as answers
+use Rattle.answer.specs.StatedAnswers.{no-values, its-cost, its-bound, Stated, stated}
 use Rattle.docket.specs.Verdicts.{Costed, Verdict, schedules, trees, known-at-end}
 use Rattle.docket.specs.Texts.{Are}
 use Rattle.docket.specs.Lodging.{lodge-of}
@@ -81,15 +80,15 @@ module _ (P : Instance) where
       one-first by-cost (cheaper-trans (λ (x : Costed). x .cost)) (cheaper-weak (λ (x : Costed). x .cost)) (held-least (λ (x : Costed). x .cost)) (p .best) (q .best) l (p .first) (q .first) in
       let c : n .cost ≡ n′ .cost = p .held-cost ∙ ap (λ (x : Costed). x .cost) e ∙ sym (q .held-cost) in
       let w : n .writer ≡ n′ .writer = p .held-writer ∙ ap (λ (x : Costed). x .writer) e ∙ sym (q .held-writer) in
-      ((λ i. cost.Number (record { cost = c i; writer = w i })), p .held-rows ∙ ap (λ (x : Costed). pad 0 1536 (joined (x .rows))) e ∙ sym (q .held-rows))
+      ((λ i. cost.Number (record { cost = c i; writer = w i })), p .held-rows ∙ ap (λ (x : Costed). pad 0 1536 (flatten (x .rows))) e ∙ sym (q .held-rows))
 
-  same-bound : (l : List Figures) (b b′ : Bound) (w w′ : ℕ) → HoldsBound l b w → HoldsBound l b′ w′ → (b ≡ b′) × (w ≡ w′)
+  same-bound : (l : List Bounded) (b b′ : Bound) (w w′ : ℕ) → HoldsBound l b w → HoldsBound l b′ w′ → (b ≡ b′) × (w ≡ w′)
   same-bound l b b′ w w′ p q =
       let e : p .best ≡ q .best =
-      one-first by-bound (raises-trans (λ (x : Figures). x .bound)) (raises-weak (λ (x : Figures). x .bound)) (held-highest (λ (x : Figures). x .bound)) (p .best) (q .best) l (p .first) (q .first) in
-      (p .held-bound ∙ ap (λ (x : Figures). x .bound) e ∙ sym (q .held-bound), p .held-writer ∙ ap (λ (x : Figures). x .writer) e ∙ sym (q .held-writer))
+      one-first by-bound (raises-trans (λ (x : Bounded). x .bound)) (raises-weak (λ (x : Bounded). x .bound)) (held-highest (λ (x : Bounded). x .bound)) (p .best) (q .best) l (p .first) (q .first) in
+      (p .held-bound ∙ ap (λ (x : Bounded). x .bound) e ∙ sym (q .held-bound), p .held-writer ∙ ap (λ (x : Bounded). x .writer) e ∙ sym (q .held-writer))
 
-  bound-one : (l : List Figures) (b b′ : HeldBound) → BoundHeld P l b → BoundHeld P l b′ → b ≡ b′
+  bound-one : (l : List Bounded) (b b′ : HeldBound) → BoundHeld P l b → BoundHeld P l b′ → b ≡ b′
   bound-one l bound.Nothing bound.Nothing p q = refl
   bound-one l bound.Nothing (bound.Number n) p q = absurd (no-first by-bound (q .0 .best) l (q .0 .first) p)
   bound-one l bound.Nothing (bound.Never n) p q = absurd (no-first by-bound (q .0 .best) l (q .0 .first) p)

@@ -14,7 +14,7 @@ use Rattle.model.specs.declared.arrays.Problem.{Problem}
 use Rattle.model.specs.Held.{valid-problem}
 use Rattle.docket.specs.declared.Docket.{Docket}
 use Rattle.docket.specs.declared.held.Held.{Held}
-use Rattle.writer.specs.Written.{figureOf}
+use Rattle.writer.specs.Written.{figure-of}
 use Rattle.docket.specs.declared.held.CostBy.{CostBy}
 use Rattle.docket.specs.declared.held.BoundBy.{BoundBy}
 use Rattle.docket.specs.declared.held.HeldCost.{HeldCost}
@@ -49,7 +49,7 @@ module _ (h : HeldCost) (c : CostBy) (e : h ≡ cost.Number c) where
     pub bound-between : small-bound k ≡ true → small-number (b .value) ≡ true
     bound-between t = rw f at t
 
-    pub gap-of-numbers : figureOf (pos (c .cost) -ℤ b .value) ≡ gap-shown h k
+    pub gap-of-numbers : figure-of (pos (c .cost) -ℤ b .value) ≡ gap-shown h k
     gap-of-numbers = rw (e, f) refl
 
 -- ---- what a sound docket holds is small

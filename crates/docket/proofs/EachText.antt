@@ -18,7 +18,7 @@ use Rattle.model.specs.Tree.{Tree, Limits, Holds, Bound, bound, splits, leaves}
 use Rattle.model.specs.Best.{higher}
 use Rattle.model.proofs.Held.{view-held}
 use Rattle.refusal.specs.declared.Refusal.{Refusal}
-use Rattle.text.specs.Lines.{ended, lineAt, kindOf, kindTree}
+use Rattle.text.specs.Lines.{ended, line-at, kind-of, kind-tree}
 use Rattle.text.specs.declared.Kind.the-variants as kind
 use Rattle.text.proofs.FirstLine as first-line
 use Rattle.schedule.specs.Rendering as schedule-text
@@ -29,8 +29,8 @@ use Rattle.tree.specs.Rendering as tree-text
 use Rattle.tree.specs.WellFormed as tree-lines
 use Rattle.tree.proofs.Unique.{tree-once}
 use Rattle.tree.proofs.WellFormed as tree-formed
-use Rattle.answer.specs.Answers as answers
-use Rattle.answer.specs.Answers.{Values, no-values, its-cost, its-bound, Stated, Carries}
+use Rattle.answer.specs.StatedAnswers as answers
+use Rattle.answer.specs.StatedAnswers.{AnswerValues, no-values, its-cost, its-bound, Stated, Carries}
 use Rattle.docket.specs.Verdicts.{Verdict, refused, problem, schedule, tree, schedules, trees, known-after, known-at-end}
 use Rattle.docket.specs.Texts.{Short, Is, Are, too-long, no-kind, second-problem, schedule-early, tree-early, problem-refused, a-problem, schedule-refused, a-schedule, tree-refused, a-tree}
 use Rattle.docket.specs.Lodging.{lodge-of}
@@ -45,15 +45,15 @@ use Rattle.docket.proofs.NextText.{answered, holds-next}
 
 -- ---- answers that are due carry what the verdict gives
 
-carries-if : (c : Bool) (v x : Values) → Carries (held-if c v) x → v ≡ x
+carries-if : (c : Bool) (v x : AnswerValues) → Carries (held-if c v) x → v ≡ x
 carries-if true v x h = h
 carries-if false v x h = h
 
-if-carries : (c : Bool) (v : Values) → Carries (held-if c v) v
+if-carries : (c : Bool) (v : AnswerValues) → Carries (held-if c v) v
 if-carries true v = refl
 if-carries false v = refl
 
-not-refused : (c : Bool) (v : Values) (n l u t : ℕ) → held-if c v ≡ answers.refused n l u t → ⊥
+not-refused : (c : Bool) (v : AnswerValues) (n l u t : ℕ) → held-if c v ≡ answers.refused n l u t → ⊥
 not-refused true v n l u t e = absurd (let z : _≡_ {A = ℕ} 0 1 = cc in omega arith)
 not-refused false v n l u t e = absurd (let z : _≡_ {A = ℕ} 0 1 = cc in omega arith)
 
@@ -79,12 +79,12 @@ due-refused past (tree F) r e = absurd (not-refused (higher-than past (F .bound)
 
 -- ---- what a rendering can be
 
-two-kinds : (text : List ℕ) → kindOf (lineAt text 0) ≡ kind.Schedule → (w : ℕ) (t : Tree) → text ≡ tree-text.render w t → ⊥
+two-kinds : (text : List ℕ) → kind-of (line-at text 0) ≡ kind.Schedule → (w : ℕ) (t : Tree) → text ≡ tree-text.render w t → ⊥
 two-kinds text k w t e =
-    let b = first-line.tree-is (lineAt text 0) .1 (subst (λ (x : List ℕ). lineAt x 0 ≡ ended kindTree) (sym e) (tree-begins w t)) in
+    let b = first-line.tree-is (line-at text 0) .1 (subst (λ (x : List ℕ). line-at x 0 ≡ ended kind-tree) (sym e) (tree-begins w t)) in
     absurd (let z : _≡_ {A = ℕ} 0 1 = cc in omega arith)
 
-module _ (P : Instance) (W : WellFormed P) (past : List Verdict) (text : List ℕ) (x : Values) where
+module _ (P : Instance) (W : WellFormed P) (past : List Verdict) (text : List ℕ) (x : AnswerValues) where
   -- a text of rows in range that is accepted meets the rules, and its cost is given
   of-rows : (w : ℕ) (s : Schedule) → GoodWriter w → GoodRows P s → text ≡ schedule-text.render w s → (v : Verdict) → Is (some P) text v
       → Carries (answer-due past v) x
@@ -100,7 +100,7 @@ module _ (P : Instance) (W : WellFormed P) (past : List Verdict) (text : List �
       )
   of-rows w s ok rows e v (tree-refused n l h b r) c = absurd c
   of-rows w s ok rows e v (a-tree w′ t h e′ ok′ within holds) c =
-      absurd (two-kinds text (subst (λ (z : List ℕ). kindOf (lineAt z 0) ≡ kind.Schedule) (sym e) (render-is-schedule w s)) w′ t e′)
+      absurd (two-kinds text (subst (λ (z : List ℕ). kind-of (line-at z 0) ≡ kind.Schedule) (sym e) (render-is-schedule w s)) w′ t e′)
 
   -- a text of a tree within the limits that is accepted has leaves that hold, and its figures are given
   of-tree : (w : ℕ) (t : Tree) → Limits P root 0 t → text ≡ tree-text.render w t → (v : Verdict) → Is (some P) text v → Carries (answer-due past v) x
@@ -110,7 +110,7 @@ module _ (P : Instance) (W : WellFormed P) (past : List Verdict) (text : List �
   of-tree w t within e v (second-problem h b) c = absurd c
   of-tree w t within e v (schedule-refused r h b q) c = absurd c
   of-tree w t within e v (a-schedule w′ s h e′ ok rows meets) c =
-      absurd (two-kinds text (subst (λ (z : List ℕ). kindOf (lineAt z 0) ≡ kind.Schedule) (sym e′) (render-is-schedule w′ s)) w t e)
+      absurd (two-kinds text (subst (λ (z : List ℕ). kind-of (line-at z 0) ≡ kind.Schedule) (sym e′) (render-is-schedule w′ s)) w t e)
   of-tree w t within e v (tree-refused n l h b r) c = absurd c
   of-tree w t within e v (a-tree w′ t′ h e′ ok within′ holds) c =
       let same = tree-once P (W .periods-in .0) w w′ t t′ within within′ (sym e ∙ e′) .1 in (
@@ -120,7 +120,7 @@ module _ (P : Instance) (W : WellFormed P) (past : List Verdict) (text : List �
       )
 
 -- where no problem is held, an accepted text is a problem's
-of-none : (past : List Verdict) (text : List ℕ) (x : Values) (v : Verdict) → Is none text v → Carries (answer-due past v) x
+of-none : (past : List Verdict) (text : List ℕ) (x : AnswerValues) (v : Verdict) → Is none text v → Carries (answer-due past v) x
     → ((P : Instance) × ProblemText text P) × (x ≡ no-values)
 of-none past text x v (too-long h) c = absurd c
 of-none past text x v (no-kind h p q t) c = absurd c
@@ -134,7 +134,7 @@ known-more o [] v = refl
 known-more o (u ∷ vs) v = known-more (known-after o u) vs v
 
 -- under the problem P an accepted text is a schedule's or a tree's
-of-some : (P : Instance) (past : List Verdict) (text : List ℕ) (x : Values) (v : Verdict) → Is (some P) text v → Carries (answer-due past v) x
+of-some : (P : Instance) (past : List Verdict) (text : List ℕ) (x : AnswerValues) (v : Verdict) → Is (some P) text v → Carries (answer-due past v) x
     → OfSchedule P text x ⊎ OfTree P text x
 of-some P past text x v (too-long h) c = absurd c
 of-some P past text x v (no-kind h p q t) c = absurd c
@@ -166,7 +166,7 @@ module _ (texts : List (List ℕ)) (vs : List Verdict) (are : Are none texts vs)
 
   -- a problem, where none is held
   module _ (unknown : given vs ≡ none) where
-    pub problem-as : (text : List ℕ) (x : Values) → Carries (answer texts text) x ↔ (((P : Instance) × ProblemText text P) × (x ≡ no-values))
+    pub problem-as : (text : List ℕ) (x : AnswerValues) → Carries (answer texts text) x ↔ (((P : Instance) × ProblemText text P) × (x ≡ no-values))
     problem-as text x = (
       λ c.
           let i = verdict-is (given vs) fine text in
@@ -204,7 +204,7 @@ module _ (texts : List (List ℕ)) (vs : List Verdict) (are : Are none texts vs)
     over : (text : List ℕ) (v : Verdict) → Is (some P) text v → Is (given vs) text v
     over text v i = subst (λ (o : Option Instance). Is o text v) (sym known) i
 
-    pub schedule-as : (w : ℕ) (s : Schedule) → Short (schedule-text.render w s) → GoodWriter w → GoodRows P s → (x : Values)
+    pub schedule-as : (w : ℕ) (s : Schedule) → Short (schedule-text.render w s) → GoodWriter w → GoodRows P s → (x : AnswerValues)
         → Carries (answer texts (schedule-text.render w s)) x ↔ (Meets P s × (x ≡ its-cost (cost P s)))
     schedule-as w s h ok rows x =
         let text = schedule-text.render w s in
@@ -212,10 +212,10 @@ module _ (texts : List (List ℕ)) (vs : List Verdict) (are : Are none texts vs)
           (λ c. of-rows P formed vs text x w s ok rows refl (verdict-of (given vs) text) (under text (verdict-of (given vs) text) i)
               (subst (λ (a : Stated). Carries a x) (due text (verdict-of (given vs) text) i) c)),
           (λ m. subst (λ (a : Stated). Carries a x) (sym (due text _ (over text _ (a-schedule w s h refl ok rows (m .0)))))
-              (subst (λ (y : Values). Carries (held-if (less-than vs (cost P s)) (its-cost (cost P s))) y) (sym (m .1)) (if-carries (less-than vs (cost P s)) (its-cost (cost P s))))),
+              (subst (λ (y : AnswerValues). Carries (held-if (less-than vs (cost P s)) (its-cost (cost P s))) y) (sym (m .1)) (if-carries (less-than vs (cost P s)) (its-cost (cost P s))))),
         )
 
-    pub tree-as : (w : ℕ) (t : Tree) → Short (tree-text.render w t) → GoodWriter w → Limits P root 0 t → (x : Values)
+    pub tree-as : (w : ℕ) (t : Tree) → Short (tree-text.render w t) → GoodWriter w → Limits P root 0 t → (x : AnswerValues)
         → Carries (answer texts (tree-text.render w t)) x ↔ (Holds P root t × (x ≡ its-bound (bound P root t) (splits t) (leaves t)))
     tree-as w t h ok within x =
         let text = tree-text.render w t in
@@ -223,7 +223,7 @@ module _ (texts : List (List ℕ)) (vs : List Verdict) (are : Are none texts vs)
           (λ c. of-tree P formed vs text x w t within refl (verdict-of (given vs) text) (under text (verdict-of (given vs) text) i)
               (subst (λ (a : Stated). Carries a x) (due text (verdict-of (given vs) text) i) c)),
           (λ m. subst (λ (a : Stated). Carries a x) (sym (due text _ (over text _ (a-tree w t h refl ok within (m .0)))))
-              (subst (λ (y : Values). Carries (held-if (higher-than vs (bound P root t)) (its-bound (bound P root t) (splits t) (leaves t))) y) (sym (m .1))
+              (subst (λ (y : AnswerValues). Carries (held-if (higher-than vs (bound P root t)) (its-bound (bound P root t) (splits t) (leaves t))) y) (sym (m .1))
               (if-carries (higher-than vs (bound P root t)) (its-bound (bound P root t) (splits t) (leaves t))))),
         )
 
@@ -241,30 +241,30 @@ module _ (texts : List (List ℕ)) (vs : List Verdict) (are : Are none texts vs)
     one-tree text w w′ t t′ a b = tree-once P (formed .periods-in .0) w w′ t t′ (a .2) (b .2) (sym (a .0) ∙ b .0)
 
     pub schedule-by-lines : (text : List ℕ) → schedule-lines.WellFormed P text
-        → (w : ℕ) × (s : Schedule) × ScheduleText P text w s × ((x : Values) → Carries (answer texts text) x ↔ (Meets P s × (x ≡ its-cost (cost P s))))
+        → (w : ℕ) × (s : Schedule) × ScheduleText P text w s × ((x : AnswerValues) → Carries (answer texts text) x ↔ (Meets P s × (x ≡ its-cost (cost P s))))
     schedule-by-lines text f = go (schedule-formed-is text .0 f)
       where
         go : Short text × ((w : ℕ) × (s : Schedule) × ScheduleText P text w s)
-            → (w : ℕ) × (s : Schedule) × ScheduleText P text w s × ((x : Values) → Carries (answer texts text) x ↔ (Meets P s × (x ≡ its-cost (cost P s))))
+            → (w : ℕ) × (s : Schedule) × ScheduleText P text w s × ((x : AnswerValues) → Carries (answer texts text) x ↔ (Meets P s × (x ≡ its-cost (cost P s))))
         go (h, (w, s, (e, ok, rows))) = (w, s, (e, ok, rows), λ x. rw e (schedule-as w s (rw e at h) ok rows x))
 
     pub tree-by-lines : (text : List ℕ) → tree-lines.WellFormed P text
         → (w : ℕ) × (t : Tree) × TreeText P text w t
-        × ((x : Values) → Carries (answer texts text) x ↔ (Holds P root t × (x ≡ its-bound (bound P root t) (splits t) (leaves t))))
+        × ((x : AnswerValues) → Carries (answer texts text) x ↔ (Holds P root t × (x ≡ its-bound (bound P root t) (splits t) (leaves t))))
     tree-by-lines text f = go (tree-formed-is text .0 f)
       where
         go : Short text × ((w : ℕ) × (t : Tree) × TreeText P text w t)
             → (w : ℕ) × (t : Tree) × TreeText P text w t
-            × ((x : Values) → Carries (answer texts text) x ↔ (Holds P root t × (x ≡ its-bound (bound P root t) (splits t) (leaves t))))
+            × ((x : AnswerValues) → Carries (answer texts text) x ↔ (Holds P root t × (x ≡ its-bound (bound P root t) (splits t) (leaves t))))
         go (h, (w, t, (e, ok, within))) = (w, t, (e, ok, within), λ x. rw e (tree-as w t (rw e at h) ok within x))
 
-    pub nothing-else : (text : List ℕ) (x : Values) → Carries (answer texts text) x → OfSchedule P text x ⊎ OfTree P text x
+    pub nothing-else : (text : List ℕ) (x : AnswerValues) → Carries (answer texts text) x → OfSchedule P text x ⊎ OfTree P text x
     nothing-else text x c =
         let i = verdict-is (given vs) fine text in
         of-some P vs text x (verdict-of (given vs) text) (under text (verdict-of (given vs) text) i)
         (subst (λ (a : Stated). Carries a x) (due text (verdict-of (given vs) text) i) c)
 
-    pub only-formed : (text : List ℕ) (x : Values) → Carries (answer texts text) x → schedule-lines.WellFormed P text ⊎ tree-lines.WellFormed P text
+    pub only-formed : (text : List ℕ) (x : AnswerValues) → Carries (answer texts text) x → schedule-lines.WellFormed P text ⊎ tree-lines.WellFormed P text
     only-formed text x c = go (nothing-else text x c)
       where
         go : OfSchedule P text x ⊎ OfTree P text x → schedule-lines.WellFormed P text ⊎ tree-lines.WellFormed P text

@@ -10,9 +10,9 @@ use Rattle.model.specs.Instance.{Instance}
 use Rattle.model.specs.Tree.{Bound, never, number}
 use Rattle.model.proofs.Integers.{le→nat, nat→le, +ℤ-nat, -ℤ-nat}
 use Rattle.model.proofs.Soundness.{number-sound}
-use Rattle.writer.specs.Written.{figureOf}
+use Rattle.writer.specs.Written.{figure-of}
 use Rattle.writer.specs.declared.Figure.the-variants.{Missing, Minus}
-use Rattle.tree.specs.Due.{Figures}
+use Rattle.tree.specs.Course.{Bounded}
 use Rattle.docket.specs.Verdicts.{Costed, Verdict, schedules, trees, known-at-end}
 use Rattle.docket.specs.Texts.{Are}
 use Rattle.docket.specs.ReportDue.{gap-between, gap-due, IsCheapest, IsHighest, ReportDue}
@@ -27,8 +27,8 @@ pub gap-from-zero : (n : ℕ) (z : ℤ) → z ≤ℤ pos n → pos 0 ≤ℤ (pos
 gap-from-zero n (pos b) h = nat→le (pos 0) (pos n -ℤ pos b) (omega (arith, le→nat (pos b) (pos n) h, -ℤ-nat n b))
 gap-from-zero n (negsuc b) h = nat→le (pos 0) (pos n +ℤ pos (suc b)) (omega (arith, +ℤ-nat (pos n) (pos (suc b))))
 
-no-minus : (z : ℤ) (n : ℕ) → pos 0 ≤ℤ z → figureOf z ≡ Minus n → ⊥
-unfolding figureOf
+no-minus : (z : ℤ) (n : ℕ) → pos 0 ≤ℤ z → figure-of z ≡ Minus n → ⊥
+unfolding figure-of
 no-minus (pos m) n h e = let z : _≡_ {A = ℕ} 0 1 = cc in omega arith
 no-minus (negsuc m) n h e = omega (arith, le→nat (pos 0) (negsuc m) h)
 
@@ -36,7 +36,7 @@ missing-no-minus : (n : ℕ) → Missing ≡ Minus n → ⊥
 missing-no-minus n e = let z : _≡_ {A = ℕ} 0 1 = cc in omega arith
 
 module _ (P : Instance) (n : ℕ) where
-  under-no-minus : (s : Option Costed) (F : Option Figures) (vs : List Verdict) → IsCheapest s (schedules vs) → IsHighest F (trees vs) → Proper (some P) vs
+  under-no-minus : (s : Option Costed) (F : Option Bounded) (vs : List Verdict) → IsCheapest s (schedules vs) → IsHighest F (trees vs) → Proper (some P) vs
       → gap-due s F ≡ Minus n
       → ⊥
   under-no-minus none F vs p q W e = missing-no-minus n e

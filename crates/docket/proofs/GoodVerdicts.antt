@@ -13,7 +13,7 @@ use Rattle.model.specs.Above.{root}
 use Rattle.model.specs.Tree as model-tree
 use Rattle.model.specs.Tree.{Tree, Limits, Holds}
 use Rattle.refusal.specs.declared.Refusal.{Refusal}
-use Rattle.tree.specs.Due.{Figures}
+use Rattle.tree.specs.Course.{Bounded}
 use Rattle.docket.specs.Verdicts.{Costed, Verdict, refused, problem, schedule, tree, schedules, trees, known-after}
 use Rattle.docket.specs.Texts.{Is, too-long, no-kind, second-problem, schedule-early, tree-early, problem-refused, a-problem, schedule-refused, a-schedule, tree-refused, a-tree}
 
@@ -22,7 +22,7 @@ pub record GoodSchedule (P : Instance) (s : Costed) : Type 0 where
   pub cost-is : s .cost ≡ model.cost P (s .rows)
   pub writer-in : GoodWriter (s .writer)
 
-pub record GoodTree (P : Instance) (F : Figures) : Type 0 where
+pub record GoodTree (P : Instance) (F : Bounded) : Type 0 where
   pub its : Tree
   pub within : Limits P root 0 its
   pub holds : Holds P root its
@@ -34,7 +34,7 @@ pub data Possible : Option Instance → Verdict → Type 0 where
   any-refused : {o : Option Instance} {r : Refusal} → Possible o (refused r)
   first-problem : {P : Instance} → WellFormed P → Possible none (problem P)
   good-schedule : {P : Instance} {s : Costed} → GoodSchedule P s → Possible (some P) (schedule s)
-  good-tree : {P : Instance} {F : Figures} → GoodTree P F → Possible (some P) (tree F)
+  good-tree : {P : Instance} {F : Bounded} → GoodTree P F → Possible (some P) (tree F)
 
 pub possible : (o : Option Instance) (text : List ℕ) (v : Verdict) → Is o text v → Possible o v
 possible o text v (too-long h) = any-refused
@@ -63,7 +63,7 @@ trees-both [] vs = refl
 trees-both (refused r ∷ us) vs = trees-both us vs
 trees-both (problem P ∷ us) vs = trees-both us vs
 trees-both (schedule s ∷ us) vs = trees-both us vs
-trees-both (tree F ∷ us) vs = ap (λ (l : List Figures). F ∷ l) (trees-both us vs)
+trees-both (tree F ∷ us) vs = ap (λ (l : List Bounded). F ∷ l) (trees-both us vs)
 
 module _ {A : Type 0} (R : A → Type 0) where
   all-both : (a b : List A) → All R a → All R b → All R (a ++ b)

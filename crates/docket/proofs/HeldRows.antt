@@ -12,7 +12,7 @@ use Rattle.model.specs.Cost as model
 use Rattle.model.specs.Held as arrays
 use Rattle.model.proofs.Unbroken.{meets-shaped}
 use Rattle.judge.specs.Rows.{cut-rows, schedule-of}
-use Rattle.judge.proofs.Rows.{cut-at}
+use Rattle.judge.proofs.Rows.{cut-rows-at}
 use Rattle.schedule.proofs.Filling.{rows-held}
 use Rattle.docket.specs.declared.Docket.{Docket}
 use Rattle.docket.specs.declared.held.CostBy.{CostBy}
@@ -34,7 +34,7 @@ module _ (P : Instance) (accepted : List Costed) (by : CostBy) (d : Docket) (hel
 
   -- row u stands from u times T on
   pub row-back : (u : ℕ) → u < length (P .units) → take (P .periods) (drop (u * P .periods) (d .rows)) ≡ getD (h .best .rows) u []
-  row-back u i = sym (cut-at (length (P .units)) (P .periods) (d .rows) u i) ∙ ap (λ (s : Schedule). getD s u []) cut-is
+  row-back u i = sym (cut-rows-at (length (P .units)) (P .periods) (d .rows) u i) ∙ ap (λ (s : Schedule). getD s u []) cut-is
 
 -- ---- after every list
 

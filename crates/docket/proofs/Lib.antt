@@ -4,7 +4,7 @@ pub mod ListVerdicts
 pub mod BestSoFar
 pub mod GoodVerdicts
 pub mod Reached
-pub mod Steps
+pub mod OneLodging
 pub mod Lists
 pub mod ReportDue
 pub mod Demand3
@@ -32,7 +32,7 @@ pub mod SpecimenTexts
 pub mod Shown
 pub mod SpecimenList
 pub mod Unsound
-pub mod Following
+pub mod HoldingAnswers
 pub mod Reports
 pub mod Writers
 pub mod ReportSizes

@@ -8,7 +8,7 @@ use Rattle.model.specs.Instance.{Instance}
 use Rattle.docket.specs.declared.Docket.{Docket}
 use Rattle.docket.specs.declared.Lodged.{Lodged}
 use Rattle.docket.specs.Docket.{fresh-docket, sound}
-use Rattle.answer.specs.Answers.{Stated, stated}
+use Rattle.answer.specs.StatedAnswers.{Stated, stated}
 use Rattle.docket.specs.Verdicts.{Verdict, known-after, known-at-end}
 use Rattle.docket.specs.Lodging.{lodge-of}
 use Rattle.docket.specs.Demand3.{docket-after, answers-to, answer-due, answers-due}
@@ -16,7 +16,7 @@ use Rattle.docket.proofs.OneVerdict.{Fine, verdict-of, verdict-is}
 use Rattle.docket.proofs.ListVerdicts.{verdicts-of}
 use Rattle.docket.proofs.GoodVerdicts.{Possible, possible, Proper, proper-after}
 use Rattle.docket.proofs.Reached.{docket-of, docket-sound}
-use Rattle.docket.proofs.Steps.{lodge-is, docket-next, answer-is}
+use Rattle.docket.proofs.OneLodging.{lodge-is, docket-next, answer-is}
 
 -- from what the verdicts so far determine to what all verdicts determine
 pub record Lodges (o : Option Instance) (past : List Verdict) (texts : List (List ℕ)) : Type 0 where

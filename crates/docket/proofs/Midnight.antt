@@ -1,7 +1,7 @@
 -- Document 02, [3], after a list of texts: what refuses a unit line, p0 in the problem held, and the ramps of period 1 in schedules; and that a tree is the same
 -- whatever p0 is.
 use mathlib.Core.Path.{_≡_, refl, sym, ap, subst, _∙_}
-use mathlib.Core.Bool.{Bool, true, false}
+use mathlib.Core.Bool.{Bool, true, false, cond}
 use mathlib.Core.List.{List, [], _∷_}
 use mathlib.Core.Logic.{_↔_}
 use mathlib.Core.Option.{Option, none, some}
@@ -20,22 +20,22 @@ use Rattle.model.specs.Unread.{AlikeButMidnight}
 use Rattle.model.proofs.Lowest.{breach-is}
 use Rattle.refusal.specs.declared.Refusal.{Refusal}
 use Rattle.refusal.specs.Refusals.{line-refusal}
-use Rattle.text.specs.Lines.{Line, ended, lineAt, kindOf, kindSchedule, kindTree}
+use Rattle.text.specs.Lines.{Line, ended, line-at, kind-of, kind-schedule, kind-tree}
 use Rattle.text.specs.LineRefused.{Renders}
 use Rattle.text.specs.declared.Kind.the-variants as kind
 use Rattle.text.proofs.FirstLine as first-line
 use Rattle.problem.specs.Units.{unit-line, unit-form}
 use Rattle.problem.specs.Refusals.{Breaks, RefusedAt}
 use Rattle.problem.proofs.UnitRefusals.{count-refused, range-refused, order-refused, line-refused, fifteen-is}
-use Rattle.schedule.specs.Answers.{rule-refusal, BreaksFirst, by-line, by-rule}
+use Rattle.schedule.specs.Acceptance.{rule-refusal, BreaksFirst, by-line, by-rule}
 use Rattle.schedule.proofs.Wholes.{render-is-schedule}
 use Rattle.tree.proofs.Unread.{judged-unread}
-use Rattle.answer.specs.Answers.{Values, refused as answered-refused, Carries}
+use Rattle.answer.specs.StatedAnswers.{AnswerValues, refused as answered-refused, Carries}
 use Rattle.docket.specs.Verdicts.{Verdict, refused, problem, schedule, tree}
-use Rattle.docket.specs.Texts.{Short, Begins, at-line, Is, Are, too-long, no-kind, second-problem, schedule-early, tree-early, problem-refused, a-problem, schedule-refused, tree-refused, a-schedule, a-tree}
+use Rattle.docket.specs.Texts.{Short, Begins, refused-line, Is, Are, too-long, no-kind, second-problem, schedule-early, tree-early, problem-refused, a-problem, schedule-refused, tree-refused, a-schedule, a-tree}
 use Rattle.docket.specs.declared.Docket.{Docket}
 use Rattle.docket.specs.declared.admission.Admission.the-variants as admission
-use Rattle.docket.specs.Lodging.{pick, refuse-whole, admit, by-tree, by-lines, judged}
+use Rattle.docket.specs.Lodging.{refuse-whole, admit, by-tree, verdict-by, text-judged}
 use Rattle.docket.specs.Promised.{answer, given, ScheduleText, Long, JudgesBy}
 use Rattle.docket.specs.Requested.{Midnight, in-period-1, UnitLineDue}
 use Rattle.docket.proofs.OneVerdict.{Fine, verdict-of, is-verdict, verdict-is}
@@ -87,7 +87,7 @@ breaks-first P text u v (tree-refused n l h b r) e = absurd (omega (arith, ap (p
 breaks-first P text u v (a-tree w t h e′ ok within holds) e = absurd (omega (arith, ap (part (λ r. r .period)) e))
 
 -- a text that 15 refuses where no problem is held is a problem's, refused so at that line
-refused-fifteen : (text : List ℕ) (m : ℕ) (v : Verdict) → Is none text v → v ≡ at-line 15 m → RefusedAt text 15 m
+refused-fifteen : (text : List ℕ) (m : ℕ) (v : Verdict) → Is none text v → v ≡ refused-line 15 m → RefusedAt text 15 m
 refused-fifteen text m v (too-long h) e = absurd (omega (arith, ap (part (λ r. r .number)) e))
 refused-fifteen text m v (no-kind h p s t) e = absurd (omega (arith, ap (part (λ r. r .number)) e))
 refused-fifteen text m v (schedule-early h b) e = absurd (omega (arith, ap (part (λ r. r .number)) e))
@@ -105,7 +105,7 @@ module _ (texts : List (List ℕ)) (vs : List Verdict) (are : Are none texts vs)
     breaks-there : (n : ℕ) (x : Line) (d : UnitLineDue text before x) → Breaks (d .some-problem) (length before) x n
         → answer texts text ≡ answered-refused n (2 + length before) 0 0
     breaks-there n x d h =
-        each.due texts vs are text (at-line n (2 + length before)) (subst (λ (o : Option Instance). Is o text (at-line n (2 + length before))) (sym unknown)
+        each.due texts vs are text (refused-line n (2 + length before)) (subst (λ (o : Option Instance). Is o text (refused-line n (2 + length before))) (sym unknown)
         (problem-refused n (2 + length before) (d .short) (d .begins) (line-refused text before (d .rest) x (d .lines) (d .some-problem) (d .beginning) n h)))
 
     pub count-gets-14 : (x : Line) (neg : Bool) (ns : List ℕ) → UnitLineDue text before x → Renders unit-form x neg ns → (length ns ≡ 15 → ⊥)
@@ -120,7 +120,7 @@ module _ (texts : List (List ℕ)) (vs : List Verdict) (are : Are none texts vs)
     pub disorder-gets-15 : (g : Generator) → UnitLineDue text before (ended (unit-line g)) → InRange g
         → (answer texts text ≡ answered-refused 15 (2 + length before) 0 0) ↔ (Ordered g → ⊥)
     disorder-gets-15 g d R = (
-      λ e. fifteen .0 (refused-fifteen text (2 + length before) _ (subst (λ (o : Option Instance). Is o text (at-line 15 (2 + length before))) unknown
+      λ e. fifteen .0 (refused-fifteen text (2 + length before) _ (subst (λ (o : Option Instance). Is o text (refused-line 15 (2 + length before))) unknown
           (each.refused-as texts vs are text (line-refusal 15 (2 + length before)) .0 e)) refl),
       λ n. breaks-there 15 (ended (unit-line g)) d (order-refused (d .some-problem) (length before) (d .place) g R .1 n),
     )
@@ -138,7 +138,7 @@ module _ (texts : List (List ℕ)) (vs : List Verdict) (are : Are none texts vs)
     formed = subst Fine known (each.fine texts vs are)
 
     module _ (text : List ℕ) (short : Short text) (w : ℕ) (s : Schedule) (is : ScheduleText P text w s) where
-      pub ramps-from-midnight : (x : Values) → Carries (answer texts text) x → Each FirstRamp (P .units) s
+      pub ramps-from-midnight : (x : AnswerValues) → Carries (answer texts text) x → Each FirstRamp (P .units) s
       ramps-from-midnight x c =
           each.schedule-as texts vs are P known w s (rw (is .0) at short) (is .1) (is .2) x .0 (rw (is .0) at c) .0 .midnight
 
@@ -166,26 +166,26 @@ module _ (texts : List (List ℕ)) (vs : List Verdict) (are : Are none texts vs)
             })))),
       )
         where
-          begins : Begins text kindSchedule
-          begins = first-line.schedule-is (lineAt text 0) .0 (rw (is .0) (render-is-schedule w s))
+          begins : Begins text kind-schedule
+          begins = first-line.schedule-is (line-at text 0) .0 (rw (is .0) (render-is-schedule w s))
 
 -- ---- trees, whatever p0 is
 
 module _ (P P′ : Instance) (alike : AlikeButMidnight P P′) where
   -- too long for both problems, or judged line by line by both
-  judged-same : (text : List ℕ) → kindOf (lineAt text 0) ≡ kind.Tree → judged true P text ≡ judged true P′ text
-  unfolding judged admit
+  judged-same : (text : List ℕ) → kind-of (line-at text 0) ≡ kind.Tree → text-judged true P text ≡ text-judged true P′ text
+  unfolding text-judged admit
   judged-same text k = rw k (go (ltb 1048576 (length text)))
     where
-      go : (c : Bool) → by-lines (pick c (refuse-whole 11 0) admission.Tree) P text ≡ by-lines (pick c (refuse-whole 11 0) admission.Tree) P′ text
+      go : (c : Bool) → verdict-by (cond c (refuse-whole 11 0) admission.Tree) P text ≡ verdict-by (cond c (refuse-whole 11 0) admission.Tree) P′ text
       go true = refl
       go false = ap by-tree (judged-unread P P′ alike text)
 
-  pub tree-unread : WellFormed P → WellFormed P′ → (text : List ℕ) → Begins text kindTree → (v : Verdict) → Is (some P) text v ↔ Is (some P′) text v
+  pub tree-unread : WellFormed P → WellFormed P′ → (text : List ℕ) → Begins text kind-tree → (v : Verdict) → Is (some P) text v ↔ Is (some P′) text v
   tree-unread W W′ text b v = (
     λ i. subst (Is (some P′) text) (sym same ∙ is-verdict (some P) text v W i) (verdict-is (some P′) W′ text),
     λ i. subst (Is (some P) text) (same ∙ is-verdict (some P′) text v W′ i) (verdict-is (some P) W text),
   )
     where
       same : verdict-of (some P) text ≡ verdict-of (some P′) text
-      same = judged-same text (first-line.tree-is (lineAt text 0) .1 b)
+      same = judged-same text (first-line.tree-is (line-at text 0) .1 b)

@@ -8,20 +8,20 @@ use Rattle.model.specs.Instance.{Instance}
 use Rattle.model.specs.Ranges.{midnight-ordered, ordered}
 use Rattle.model.specs.Leaf.{available, is-stuck}
 use Rattle.model.specs.Tree.{never}
-use Rattle.refusal.specs.Refusals.{refusalOf, carriesLine, carriesUnit, carriesPeriod}
-use Rattle.text.specs.Lines.{kindOf}
+use Rattle.refusal.specs.Refusals.{refusal-of, carries-line, carries-unit, carries-period}
+use Rattle.text.specs.Lines.{kind-of}
 use Rattle.text.specs.Course.{judged-from}
-use Rattle.text.specs.Forms.{malformed, wrongCount, outOfRange}
+use Rattle.text.specs.Forms.{malformed, wrong-count, outside-range}
 use Rattle.problem.specs.Course as problem-course
 use Rattle.problem.specs.Units.{unit-of}
-use Rattle.tree.specs.NodeLines.{kind-of, split-again, too-deep, not-short, not-stuck}
-use Rattle.tree.specs.Due as tree-course
+use Rattle.tree.specs.NodeLines.{line-kind-of, split-again, too-deep, not-short, not-stuck}
+use Rattle.tree.specs.Course as tree-course
 use Rattle.docket.specs.declared.Docket.{Docket}
 use Rattle.docket.specs.declared.held.HeldBound.the-variants as held-bound
 use Rattle.docket.specs.Verdicts as verdict
 use Rattle.docket.specs.Verdicts.{Verdict, known-at-end}
 use Rattle.docket.specs.Texts.{Is, no-more, then}
-use Rattle.docket.specs.Lodging.{judged, admit}
+use Rattle.docket.specs.Lodging.{text-judged, admit}
 use Rattle.docket.specs.Promised.{after}
 use Rattle.docket.specs.Specimens as specimens
 use Rattle.docket.proofs.OneVerdict.{verdict-of}
@@ -45,11 +45,11 @@ little = record {
 }
 
 gives : verdict-of none too-little ≡ verdict.problem little
-unfolding judged admit kindOf problem-course.problem-judged judged-from problem-course.judge malformed wrongCount outOfRange unit-of ordered midnight-ordered too-little
+unfolding text-judged admit kind-of problem-course.problem-judged judged-from problem-course.judge malformed wrong-count outside-range unit-of ordered midnight-ordered too-little
 gives = refl
 
 gives-never : verdict-of (some little) short-tree ≡ verdict.tree (record { writer = 9; bound = never; splits = 0; leaves = 1 })
-unfolding judged admit kindOf tree-course.judged judged-from tree-course.judge tree-course.tests tree-course.next tree-course.after-node kind-of malformed wrongCount outOfRange split-again too-deep not-short not-stuck available is-stuck refusalOf carriesLine carriesUnit carriesPeriod specimens.tree-text
+unfolding text-judged admit kind-of tree-course.tree-judged judged-from tree-course.judge tree-course.tests tree-course.next-due tree-course.after-node line-kind-of malformed wrong-count outside-range split-again too-deep not-short not-stuck available is-stuck refusal-of carries-line carries-unit carries-period specimens.tree-text
 gives-never = refl
 
 pub never-held : after (too-little ∷ short-tree ∷ []) .held .bound ≡ held-bound.Never (record { writer = 9 })

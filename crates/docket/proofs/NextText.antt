@@ -7,7 +7,7 @@ use Rattle.model.specs.Instance.{Instance}
 use Rattle.docket.specs.declared.Docket.{Docket}
 use Rattle.docket.specs.declared.Lodged.{Lodged}
 use Rattle.docket.specs.Docket.{fresh-docket}
-use Rattle.answer.specs.Answers.{Stated, stated}
+use Rattle.answer.specs.StatedAnswers.{Stated, stated}
 use Rattle.docket.specs.Verdicts.{Verdict, known-after, known-at-end}
 use Rattle.docket.specs.Texts.{Is, Are, no-more, then}
 use Rattle.docket.specs.Demand3.{docket-after, answers-to, answer-due, answers-due, Holding, Lodging, Reporting, Writing, Demand3}

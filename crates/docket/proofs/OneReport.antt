@@ -10,15 +10,15 @@ use Rattle.model.proofs.Lists.{held-least, held-highest}
 use Rattle.report.specs.Report.{report-lines}
 use Rattle.report.specs.declared.ReportAnswer.{ReportAnswer}
 use Rattle.report.specs.declared.ReportAnswer.the-variants.{Refused, Written}
-use Rattle.tree.specs.Due.{Figures}
-use Rattle.report.specs.Answers.{Stated, refused, its-length, stated}
+use Rattle.tree.specs.Course.{Bounded}
+use Rattle.report.specs.StatedReports.{ReportStated, refused, its-length, report-stated}
 use Rattle.docket.specs.declared.Docket.{Docket}
 use Rattle.docket.specs.declared.Reported.{Reported}
 use Rattle.docket.specs.Verdicts.{Costed, Verdict, schedules, trees}
 use Rattle.docket.specs.Texts.{Are}
 use Rattle.docket.specs.Lodging.{lodge-of}
 use Rattle.docket.specs.Report.{report-of, buffer-of}
-use Rattle.docket.specs.ReportDue.{IsCheapest, IsHighest, figures-due, ReportDue, Outcome, Reports}
+use Rattle.docket.specs.ReportDue.{IsCheapest, IsHighest, figures-due, ReportDue, WrittenOr43, Reports}
 use Rattle.docket.specs.Demand3.{reached, Lodging, Reporting, Writing, Demand3, Same}
 use Rattle.docket.proofs.BestSoFar.{one-first, cheaper-trans, cheaper-weak, raises-trans, raises-weak}
 use Rattle.docket.proofs.Reached.{by-cost, by-bound}
@@ -34,12 +34,12 @@ one-cheapest l (some a) none p q = absurd (no-first by-cost a l p q)
 one-cheapest l (some a) (some b) p q =
     ap some (one-first by-cost (cheaper-trans (λ (x : Costed). x .cost)) (cheaper-weak (λ (x : Costed). x .cost)) (held-least (λ (x : Costed). x .cost)) a b l p q)
 
-one-highest : (l : List Figures) (a b : Option Figures) → IsHighest a l → IsHighest b l → a ≡ b
+one-highest : (l : List Bounded) (a b : Option Bounded) → IsHighest a l → IsHighest b l → a ≡ b
 one-highest l none none p q = refl
 one-highest l none (some b) p q = absurd (no-first by-bound b l q p)
 one-highest l (some a) none p q = absurd (no-first by-bound a l p q)
 one-highest l (some a) (some b) p q =
-    ap some (one-first by-bound (raises-trans (λ (x : Figures). x .bound)) (raises-weak (λ (x : Figures). x .bound)) (held-highest (λ (x : Figures). x .bound)) a b l p q)
+    ap some (one-first by-bound (raises-trans (λ (x : Bounded). x .bound)) (raises-weak (λ (x : Bounded). x .bound)) (held-highest (λ (x : Bounded). x .bound)) a b l p q)
 
 module _ (vs : List Verdict) (l m : List ℕ) (R : ReportDue vs l) (S : ReportDue vs m) where
   pub same-figures : figures-due (R .cheapest) (R .highest) ≡ figures-due (S .cheapest) (S .highest)
@@ -53,17 +53,17 @@ module _ (vs : List Verdict) (l m : List ℕ) (R : ReportDue vs l) (S : ReportDu
 -- ---- one answer, one buffer
 
 -- an answer is known by what it is told as
-answer-of : Stated → ReportAnswer
+answer-of : ReportStated → ReportAnswer
 answer-of (refused n l u t) = Refused (record { number = n; line = l; unit = u; period = t })
 answer-of (its-length n) = Written n
 
-answer-back : (a : ReportAnswer) → answer-of (stated a) ≡ a
+answer-back : (a : ReportAnswer) → answer-of (report-stated a) ≡ a
 unfolding answer-of
 answer-back (Refused r) = refl
 answer-back (Written n) = refl
 
-module _ (lines b : List ℕ) (k : ℕ) (a a′ : Stated) (c c′ : List ℕ) where
-  one-outcome : Outcome lines b k a c → Outcome lines b k a′ c′ → (a ≡ a′) × (c ≡ c′)
+module _ (lines b : List ℕ) (k : ℕ) (a a′ : ReportStated) (c c′ : List ℕ) where
+  one-outcome : WrittenOr43 lines b k a c → WrittenOr43 lines b k a′ c′ → (a ≡ a′) × (c ≡ c′)
   one-outcome (inl p) (inl q) = (p .answer-is ∙ sym (q .answer-is), p .buffer-is ∙ sym (q .buffer-is))
   one-outcome (inl p) (inr q) = absurd (omega (arith, p .room, q .no-room))
   one-outcome (inr p) (inl q) = absurd (omega (arith, p .no-room, q .room))
@@ -73,8 +73,8 @@ module _ (vs : List Verdict) (d : Docket) (b : List ℕ) (k : ℕ) (r r′ : Rep
   pub one-reported : Reports vs d b k r c → Reports vs d b k r′ c′ → (r ≡ r′) × (c ≡ c′)
   one-reported R S =
       let e = one-report vs (R .lines) (S .lines) (R .lines-due) (S .lines-due) in
-      let o = one-outcome (S .lines) b k (stated (r .answer)) (stated (r′ .answer)) c c′
-      (subst (λ (l : List ℕ). Outcome l b k (stated (r .answer)) c) e (R .outcome)) (S .outcome) in
+      let o = one-outcome (S .lines) b k (report-stated (r .answer)) (report-stated (r′ .answer)) c c′
+      (subst (λ (l : List ℕ). WrittenOr43 l b k (report-stated (r .answer)) c) e (R .outcome)) (S .outcome) in
       let a : r .answer ≡ r′ .answer = sym (answer-back (r .answer)) ∙ ap answer-of (o .0) ∙ answer-back (r′ .answer) in
       let d : r .docket ≡ r′ .docket = R .docket-stays ∙ sym (S .docket-stays) in
       ((λ i. record { docket = d i; answer = a i }), o .1)

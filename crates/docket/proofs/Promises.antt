@@ -25,7 +25,7 @@ use Rattle.model.proofs.EveryLeaf as leaf
 use Rattle.model.proofs.UnitLeasts as least
 use Rattle.judge.specs.Rows.{schedule-of}
 use Rattle.refusal.specs.declared.Refusal.{Refusal}
-use Rattle.text.specs.Lines.{Line, later, linesOf}
+use Rattle.text.specs.Lines.{Line, later, lines-of}
 use Rattle.text.specs.LineRefused.{Beginning}
 use Rattle.problem.specs.Rendering as problem-text
 use Rattle.problem.specs.Refusals as of-problem
@@ -37,9 +37,9 @@ use Rattle.tree.specs.Refusals as of-tree
 use Rattle.tree.proofs.WhichLine as tree-lines-refused
 use Rattle.schedule.specs.WellFormed as schedule-lines
 use Rattle.tree.specs.WellFormed as tree-lines
-use Rattle.tree.specs.Due.{Figures}
-use Rattle.report.specs.Answers.{stated as told}
-use Rattle.answer.specs.Answers.{Values, no-values, its-cost, its-bound, refused, stated, Carries}
+use Rattle.tree.specs.Course.{Bounded}
+use Rattle.report.specs.StatedReports.{report-stated as told}
+use Rattle.answer.specs.StatedAnswers.{AnswerValues, no-values, its-cost, its-bound, refused, stated, Carries}
 use Rattle.docket.specs.declared.Docket.{Docket}
 use Rattle.docket.specs.declared.held.CostBy.{CostBy}
 use Rattle.docket.specs.declared.held.BoundBy.{BoundBy}
@@ -52,7 +52,7 @@ use Rattle.docket.specs.Verdicts.{Costed, Verdict, schedules, trees}
 use Rattle.docket.specs.Texts.{Short, Is, Are, Accepted}
 use Rattle.docket.specs.Lodging.{lodge-of}
 use Rattle.docket.specs.Report.{text-shown, report-of, buffer-of}
-use Rattle.docket.specs.ReportDue.{Outcome, Reports}
+use Rattle.docket.specs.ReportDue.{WrittenOr43, Reports}
 use Rattle.docket.specs.Demand3.{answer-due, Unheld}
 use Rattle.docket.specs.Promised.{after, answer, given, ProblemText, ScheduleText, TreeText, OfSchedule, OfTree, Long, JudgesBy}
 use Rattle.docket.specs.Specimens.{listed-texts, specimens, Answered}
@@ -92,7 +92,7 @@ unheld-keeps = unheld-unchanged
 
 -- A report leaves the docket; with too few bytes from its place on it is 43 and leaves the buffer too
 pub reports-always : (d : Docket) (b : List ℕ) (k : ℕ) → (report-of d b k .docket ≡ d)
-    × Outcome (text-shown d) b k (told (report-of d b k .answer)) (buffer-of d b k)
+    × WrittenOr43 (text-shown d) b k (told (report-of d b k .answer)) (buffer-of d b k)
 reports-always = any.reports-always
 
 -- Where a refusal stands: by `LineRefused` (text/specs), out of which `Is` is made, the lines before a refused line begin the text of some value within the
@@ -104,9 +104,9 @@ problem-line text n m = problem-lines.with-it-none n m text
 module _ (P : Instance) (W : WellFormed P) where
   pub schedule-line : (text : List ℕ) (n m : ℕ) (r : of-schedule.RefusedAt P text n m) (x : Line) (rest : List Line) → r .left ≡ x ∷ rest
       → (v : Written) → Beginning of-schedule.written-lines (of-schedule.InLimits P) (r .before ++ (x ∷ [])) v → ⊥
-  schedule-line text n m = schedule-lines-refused.with-it-none P (W .periods-in .0) n m (later (linesOf text))
+  schedule-line text n m = schedule-lines-refused.with-it-none P (W .periods-in .0) n m (later (lines-of text))
 
-  pub tree-line : (text : List ℕ) (n m : ℕ) (r : of-tree.Refused P text n m) (x : Line) (rest : List Line) → r .left ≡ x ∷ rest
+  pub tree-line : (text : List ℕ) (n m : ℕ) (r : of-tree.RefusedAt P text n m) (x : Line) (rest : List Line) → r .left ≡ x ∷ rest
       → (v : of-tree.WrittenTree) → Beginning of-tree.written-lines (of-tree.HoldsSoFar P) (r .before ++ (x ∷ [])) v → ⊥
   tree-line text n m = tree-lines-refused.with-it-none P (W .periods-in .0) n m text
 
@@ -141,7 +141,7 @@ module _ (texts : List (List ℕ)) (vs : List Verdict) (are : Are none texts vs)
   answered = each.due texts vs are
 
   -- 2. While no problem is held, a text is accepted exactly when it is that of a well-formed problem, which is held as its text gives it
-  pub problem-accepted : given vs ≡ none → (text : List ℕ) (x : Values) → Carries (answer texts text) x ↔ (((P : Instance) × ProblemText text P) × (x ≡ no-values))
+  pub problem-accepted : given vs ≡ none → (text : List ℕ) (x : AnswerValues) → Carries (answer texts text) x ↔ (((P : Instance) × ProblemText text P) × (x ≡ no-values))
   problem-accepted = each.problem-as texts vs are
 
   pub problem-held : given vs ≡ none → (text : List ℕ) (P : Instance) → ProblemText text P
@@ -182,21 +182,21 @@ module _ (texts : List (List ℕ)) (vs : List Verdict) (are : Are none texts vs)
 
     -- Under a held problem, the well-formed schedules that are accepted are those that meet the rules, each at the cost of (1)
     pub schedule-accepted : (text : List ℕ) → schedule-lines.WellFormed P text
-        → (w : ℕ) × (s : Schedule) × ScheduleText P text w s × ((x : Values) → Carries (answer texts text) x ↔ (Meets P s × (x ≡ its-cost (model.cost P s))))
+        → (w : ℕ) × (s : Schedule) × ScheduleText P text w s × ((x : AnswerValues) → Carries (answer texts text) x ↔ (Meets P s × (x ≡ its-cost (model.cost P s))))
     schedule-accepted = each.schedule-by-lines texts vs are P known
 
     -- and the well-formed trees are those whose leaves all meet their rules, each with its bound and its counts of split lines and leaves
     pub tree-accepted : (text : List ℕ) → tree-lines.WellFormed P text
         → (w : ℕ) × (t : Tree) × TreeText P text w t
-        × ((x : Values) → Carries (answer texts text) x ↔ (Holds P root t × (x ≡ its-bound (tree.bound P root t) (splits t) (leaves t))))
+        × ((x : AnswerValues) → Carries (answer texts text) x ↔ (Holds P root t × (x ≡ its-bound (tree.bound P root t) (splits t) (leaves t))))
     tree-accepted = each.tree-by-lines texts vs are P known
 
     -- and no other text is accepted
-    pub nothing-else : (text : List ℕ) (x : Values) → Carries (answer texts text) x → OfSchedule P text x ⊎ OfTree P text x
+    pub nothing-else : (text : List ℕ) (x : AnswerValues) → Carries (answer texts text) x → OfSchedule P text x ⊎ OfTree P text x
     nothing-else = each.nothing-else texts vs are P known
 
     -- so none that is not well-formed
-    pub only-well-formed : (text : List ℕ) (x : Values) → Carries (answer texts text) x → schedule-lines.WellFormed P text ⊎ tree-lines.WellFormed P text
+    pub only-well-formed : (text : List ℕ) (x : AnswerValues) → Carries (answer texts text) x → schedule-lines.WellFormed P text ⊎ tree-lines.WellFormed P text
     only-well-formed = each.only-formed texts vs are P known
 
     module _ (by : CostBy) (e : after texts .held .cost ≡ cost.Number by) where
@@ -210,10 +210,10 @@ module _ (texts : List (List ℕ)) (vs : List Verdict) (are : Are none texts vs)
 
     module _ (by : BoundBy) (e : after texts .held .bound ≡ bound.Number by) where
       -- Of the accepted trees with the highest bound the first gives the held bound and its writer
-      pub held-number : (F : Figures) × FirstHighest (λ x. x .bound) F (trees vs) × (number (by .value) ≡ F .bound) × (by .writer ≡ F .writer)
+      pub held-number : (F : Bounded) × FirstHighest (λ x. x .bound) F (trees vs) × (number (by .value) ≡ F .bound) × (by .writer ≡ F .writer)
       held-number = holdings.held-number texts vs are P known by e
 
-      pub highest-bound : (x : Figures) → List·Memᴰ x (trees vs) → T (not (higher (x .bound) (number (by .value))))
+      pub highest-bound : (x : Bounded) → List·Memᴰ x (trees vs) → T (not (higher (x .bound) (number (by .value))))
       highest-bound = holdings.highest-of-all texts vs are P known by e
 
       -- No schedule of whole outputs that meets the rules costs less than the held bound, whether it was lodged or not
@@ -221,7 +221,7 @@ module _ (texts : List (List ℕ)) (vs : List Verdict) (are : Are none texts vs)
       never-undercut = holdings.its-number texts vs are P known by e .1
 
     module _ (by : NeverBy) (e : after texts .held .bound ≡ bound.Never by) where
-      pub held-never : (F : Figures) × FirstHighest (λ x. x .bound) F (trees vs) × (never ≡ F .bound) × (by .writer ≡ F .writer)
+      pub held-never : (F : Bounded) × FirstHighest (λ x. x .bound) F (trees vs) × (never ≡ F .bound) × (by .writer ≡ F .writer)
       held-never = holdings.held-never texts vs are P known by e
 
       -- where never is held there is no such schedule

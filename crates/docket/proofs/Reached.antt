@@ -1,7 +1,7 @@
 -- The docket that the verdicts of a list determine, and that it is sound: what it holds is a member of the list, and members are small.
 use mathlib.Core.Path.{_≡_, refl, sym, subst}
 use mathlib.Core.Bool.{Bool, true, _&&_}
-use mathlib.Core.List.{List}
+use mathlib.Core.List.{List, flatten}
 use mathlib.Core.Option.{Option, none, some}
 use Prim.Native.Nat.{ℕ}
 use native.Mathlib.Omega.{arith}
@@ -19,8 +19,7 @@ use Rattle.model.proofs.Valid.{held-passes}
 use Rattle.model.proofs.Lists.{held-after, IsFirst, cheaper, raises, held-least, held-highest}
 use Rattle.model.proofs.CostSizes.{meets-small, cost-fits}
 use Rattle.model.proofs.LeafSizes.{Fits, bound-fits}
-use Rattle.judge.specs.Rows.{joined}
-use Rattle.tree.specs.Due.{Figures}
+use Rattle.tree.specs.Course.{Bounded}
 use Rattle.docket.specs.declared.Docket.{Docket}
 use Rattle.docket.specs.declared.held.HeldCost.{HeldCost}
 use Rattle.docket.specs.declared.held.HeldCost.the-variants as cost
@@ -37,14 +36,14 @@ use Rattle.docket.proofs.GoodVerdicts.{GoodSchedule, GoodTree, all-mem,
 abbrev pub by-cost : Costed → Costed → Bool
 by-cost = cheaper (λ (s : Costed). s .cost)
 
-abbrev pub by-bound : Figures → Figures → Bool
-by-bound = raises (λ (F : Figures). F .bound)
+abbrev pub by-bound : Bounded → Bounded → Bool
+by-bound = raises (λ (F : Bounded). F .bound)
 
 -- what is held of the accepted schedules and of the accepted trees
 abbrev pub least : List Verdict → Option Costed
 least past = held-after by-cost none (schedules past)
 
-abbrev pub highest : List Verdict → Option Figures
+abbrev pub highest : List Verdict → Option Bounded
 highest past = held-after by-bound none (trees past)
 
 abbrev pub cost-kept : Option Costed → HeldCost
@@ -53,13 +52,13 @@ cost-kept (some s) = cost.Number (record { cost = s .cost; writer = s .writer })
 
 abbrev pub rows-kept : Option Costed → List ℕ
 rows-kept none = replicate 1536 0
-rows-kept (some s) = pad 0 1536 (joined (s .rows))
+rows-kept (some s) = pad 0 1536 (flatten (s .rows))
 
-abbrev pub bound-kept : Option Figures → HeldBound
+abbrev pub bound-kept : Option Bounded → HeldBound
 bound-kept none = bound.Nothing
 bound-kept (some F) = bound-by (F .bound) (F .writer)
 
-abbrev pub docket-under : Instance → Option Costed → Option Figures → Docket
+abbrev pub docket-under : Instance → Option Costed → Option Bounded → Docket
 docket-under P c b = record { known = true; problem = arrays.held P; held = record { cost = cost-kept c; bound = bound-kept b }; rows = rows-kept c }
 
 abbrev pub docket-of : Option Instance → List Verdict → Docket
@@ -84,7 +83,7 @@ module _ (P : Instance) (W : WellFormed P) where
   fits-small never w f = refl
   fits-small (number z) w f = T-true (small-number z) (number-small z f)
 
-  bound-small : (b : Option Figures) (l : List Figures) → IsFirst by-bound b l → All (GoodTree P) l → small-bound (bound-kept b) ≡ true
+  bound-small : (b : Option Bounded) (l : List Bounded) → IsFirst by-bound b l → All (GoodTree P) l → small-bound (bound-kept b) ≡ true
   bound-small none l f g = refl
   bound-small (some h) l f g =
       let t = all-mem (GoodTree P) l g h (first-mem by-bound h l f) in
@@ -99,4 +98,4 @@ docket-sound none past p = refl
 docket-sound (some P) past p =
     both-true (valid-problem (arrays.held P)) (small-cost (cost-kept (least past))) (small-bound (bound-kept (highest past)))
     (held-passes P (p .0)) (cost-small P (p .0) (least past) (schedules past) (held-least (λ (s : Costed). s .cost) (schedules past)) (p .1 .0))
-    (bound-small P (p .0) (highest past) (trees past) (held-highest (λ (F : Figures). F .bound) (trees past)) (p .1 .1))
+    (bound-small P (p .0) (highest past) (trees past) (held-highest (λ (F : Bounded). F .bound) (trees past)) (p .1 .1))

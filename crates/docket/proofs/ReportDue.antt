@@ -11,17 +11,17 @@ use borrow.Author.Tests.{leb-true, leb-false}
 use Rattle.model.specs.Instance.{Instance}
 use Rattle.model.specs.Tree.{Bound, never, number}
 use Rattle.model.proofs.Lists.{held-least, held-highest}
-use Rattle.refusal.specs.Refusals.{refusalOf, carriesLine, carriesUnit, carriesPeriod}
+use Rattle.refusal.specs.Refusals.{refusal-of, carries-line, carries-unit, carries-period}
 use Rattle.report.specs.Report.{report-lines, has-room, written-at, placed-at}
-use Rattle.tree.specs.Due.{Figures}
+use Rattle.tree.specs.Course.{Bounded}
 use Rattle.answer.specs.AnswerLines.{bound-figure}
-use Rattle.report.specs.Answers.{stated}
+use Rattle.report.specs.StatedReports.{report-stated}
 use Rattle.docket.specs.declared.Docket.{Docket}
 use Rattle.docket.specs.Docket.{sound}
 use Rattle.docket.specs.Verdicts.{Costed, Verdict, schedules, trees}
 use Rattle.docket.specs.Lodging.{bound-by, trusted}
 use Rattle.docket.specs.Report.{cost-shown, cost-writer-shown, bound-shown, bound-writer-shown, gap-shown, figures-of, text-shown, report-of, buffer-of}
-use Rattle.docket.specs.ReportDue.{cost-due, cost-writer-due, gap-between, bound-due, bound-writer-due, gap-due, figures-due, ReportDue, Outcome, Reports}
+use Rattle.docket.specs.ReportDue.{cost-due, cost-writer-due, gap-between, bound-due, bound-writer-due, gap-due, figures-due, ReportDue, WrittenOr43, Reports}
 use Rattle.docket.proofs.GoodVerdicts.{Proper}
 use Rattle.docket.proofs.Reached.{least, highest, cost-kept, bound-kept, docket-under, docket-of, docket-sound}
 
@@ -31,11 +31,11 @@ bound-figure-is : (b : Bound) (w : ℕ) → bound-shown (bound-by b w) ≡ bound
 bound-figure-is never w = refl
 bound-figure-is (number z) w = refl
 
-bound-is : (F : Option Figures) → bound-shown (bound-kept F) ≡ bound-due F
+bound-is : (F : Option Bounded) → bound-shown (bound-kept F) ≡ bound-due F
 bound-is none = refl
 bound-is (some F) = bound-figure-is (F .bound) (F .writer)
 
-writer-is : (F : Option Figures) → bound-writer-shown (bound-kept F) ≡ bound-writer-due F
+writer-is : (F : Option Bounded) → bound-writer-shown (bound-kept F) ≡ bound-writer-due F
 writer-is none = refl
 writer-is (some F) = go (F .bound)
   where
@@ -43,7 +43,7 @@ writer-is (some F) = go (F .bound)
     go never = refl
     go (number z) = refl
 
-gap-is : (s : Option Costed) (F : Option Figures) → gap-shown (cost-kept s) (bound-kept F) ≡ gap-due s F
+gap-is : (s : Option Costed) (F : Option Bounded) → gap-shown (cost-kept s) (bound-kept F) ≡ gap-due s F
 gap-is none F = refl
 gap-is (some s) none = refl
 gap-is (some s) (some F) = go (F .bound)
@@ -60,7 +60,7 @@ cost-writer-is : (s : Option Costed) → cost-writer-shown (cost-kept s) ≡ cos
 cost-writer-is none = refl
 cost-writer-is (some s) = refl
 
-figures-are : (P : Instance) (s : Option Costed) (F : Option Figures) → figures-of (docket-under P s F .held) ≡ figures-due s F
+figures-are : (P : Instance) (s : Option Costed) (F : Option Bounded) → figures-of (docket-under P s F .held) ≡ figures-due s F
 figures-are P s F i = record { cost = cost-is s i; costwriter = cost-writer-is s i; bound = bound-is F i; boundwriter = writer-is F i; gap = gap-is s F i }
 
 -- ---- the lines
@@ -77,15 +77,15 @@ lines-due o vs p = rw (trusted-is (docket-of o vs) (docket-sound o vs p)) (go o 
       cheapest = least vs;
       is-cheapest = held-least (λ (s : Costed). s .cost) (schedules vs);
       highest = highest vs;
-      is-highest = held-highest (λ (F : Figures). F .bound) (trees vs);
+      is-highest = held-highest (λ (F : Bounded). F .bound) (trees vs);
       lines-are = ap report-lines (figures-are P (least vs) (highest vs));
     }
 
 -- ---- into the buffer
 
 module _ (lines b : List ℕ) (k : ℕ) where
-  pub written-or-refused : (t : Bool) → has-room b k lines ≡ t → Outcome lines b k (stated (written-at b k lines)) (placed-at b k lines)
-  unfolding written-at placed-at refusalOf carriesLine carriesUnit carriesPeriod
+  pub written-or-refused : (t : Bool) → has-room b k lines ≡ t → WrittenOr43 lines b k (report-stated (written-at b k lines)) (placed-at b k lines)
+  unfolding written-at placed-at refusal-of carries-line carries-unit carries-period
   written-or-refused true e = inl (record { room = leb-true (k + length lines) (length b) e; answer-is = rw e refl; buffer-is = rw e refl })
   written-or-refused false e = inr (record { no-room = leb-false (k + length lines) (length b) e; answer-is = rw e refl; buffer-is = rw e refl })
 

@@ -7,11 +7,11 @@ use Prim.Native.Nat.{ℕ}
 use native.Mathlib.Omega.{arith}
 use lib.ListN.{length, drop}
 use lib.Seq.{drop-append-seam}
-use Rattle.decimal.specs.Decimal.{digits, isDigit, allDigits}
-use Rattle.decimal.proofs.Digits.{all-digits, and-true, is-digit}
+use Rattle.decimal.specs.Decimal.{digits, is-digit, all-digits}
+use Rattle.decimal.proofs.Digits.{digits-all, and-true, digit-range}
 use Rattle.decimal.proofs.Numerals.{digits-one}
 use Rattle.model.specs.Ranges.{All}
-use Rattle.writer.specs.Written.{none, never, figure, line}
+use Rattle.writer.specs.Written.{none-word, never-word, figure, line}
 use Rattle.writer.specs.declared.Figure.{Figure}
 use Rattle.writer.specs.declared.Figure.the-variants.{Missing, Never, Number, Minus}
 use Rattle.report.specs.Report.{cost-key, cost-writer-key, bound-key, bound-writer-key, gap-key, report-lines}
@@ -23,21 +23,21 @@ clash : {A : Type 0} → false ≡ true → A
 clash e = absurd (let z : _≡_ {A = ℕ} 0 1 = cc in omega arith)
 
 -- bytes that are not those of a number
-no-digits : {A : Type 0} (n : ℕ) (l : List ℕ) → l ≡ digits n → allDigits l ≡ false → A
-no-digits n l e f = clash (sym f ∙ ap allDigits e ∙ all-digits n)
+no-digits : {A : Type 0} (n : ℕ) (l : List ℕ) → l ≡ digits n → all-digits l ≡ false → A
+no-digits n l e f = clash (sym f ∙ ap all-digits e ∙ digits-all n)
 
 pub figure-one : (f g : Figure) → figure f ≡ figure g → f ≡ g
 unfolding figure
 figure-one Missing Missing e = refl
 figure-one Missing Never e = absurd (let z : _≡_ {A = ℕ} 111 101 = cc in omega arith)
-figure-one Missing (Number n) e = no-digits n none e refl
+figure-one Missing (Number n) e = no-digits n none-word e refl
 figure-one Missing (Minus n) e = absurd (let z : _≡_ {A = ℕ} 110 45 = cc in omega arith)
 figure-one Never Missing e = absurd (let z : _≡_ {A = ℕ} 111 101 = cc in omega arith)
 figure-one Never Never e = refl
-figure-one Never (Number n) e = no-digits n never e refl
+figure-one Never (Number n) e = no-digits n never-word e refl
 figure-one Never (Minus n) e = absurd (let z : _≡_ {A = ℕ} 110 45 = cc in omega arith)
-figure-one (Number n) Missing e = no-digits n none (sym e) refl
-figure-one (Number n) Never e = no-digits n never (sym e) refl
+figure-one (Number n) Missing e = no-digits n none-word (sym e) refl
+figure-one (Number n) Never e = no-digits n never-word (sym e) refl
 figure-one (Number n) (Number m) e = ap Number (digits-one n m e)
 figure-one (Number n) (Minus m) e = no-digits n (45 ∷ digits m) (sym e) refl
 figure-one (Minus n) Missing e = absurd (let z : _≡_ {A = ℕ} 110 45 = cc in omega arith)
@@ -50,18 +50,18 @@ figure-one (Minus n) (Minus m) e = let d : digits n ≡ digits m = cc in ap Minu
 abbrev Unended : List ℕ → Type 0
 Unended = All (λ x. x ≡ 10 → ⊥)
 
-digits-unended : (l : List ℕ) → allDigits l ≡ true → Unended l
+digits-unended : (l : List ℕ) → all-digits l ≡ true → Unended l
 digits-unended [] e = tt
 digits-unended (x ∷ l) e =
-    let p = and-true (isDigit x) (allDigits l) e in
-    ((λ q. omega (arith, is-digit x (p .0) .0)), digits-unended l (p .1))
+    let p = and-true (is-digit x) (all-digits l) e in
+    ((λ q. omega (arith, digit-range x (p .0) .0)), digits-unended l (p .1))
 
 figure-unended : (f : Figure) → Unended (figure f)
 unfolding figure
 figure-unended Missing = ((λ e. omega arith), ((λ e. omega arith), ((λ e. omega arith), ((λ e. omega arith), tt))))
 figure-unended Never = ((λ e. omega arith), ((λ e. omega arith), ((λ e. omega arith), ((λ e. omega arith), ((λ e. omega arith), tt)))))
-figure-unended (Number n) = digits-unended (digits n) (all-digits n)
-figure-unended (Minus n) = ((λ e. omega arith), digits-unended (digits n) (all-digits n))
+figure-unended (Number n) = digits-unended (digits n) (digits-all n)
+figure-unended (Minus n) = ((λ e. omega arith), digits-unended (digits n) (digits-all n))
 
 -- ---- a line is cut where the first byte 10 stands
 

@@ -9,7 +9,7 @@ use lib.Signed.{mag}
 use lib.ListN.{length}
 use borrow.Author.Tests.{ltb-true}
 use Rattle.decimal.proofs.Digits.{width-below}
-use Rattle.writer.specs.Written.{figure, figureOf}
+use Rattle.writer.specs.Written.{figure, figure-of}
 use Rattle.writer.specs.declared.Figure.the-variants.{Number}
 use Rattle.report.proofs.Lines.{report-least, report-most}
 use Rattle.docket.specs.declared.Docket.{Docket}
@@ -32,8 +32,8 @@ number-most : (n : ℕ) → n < 2 ^ 64 → length (figure (Number n)) ≤ 21
 unfolding figure
 number-most n h = omega (arith, width-below 19 n (omega arith))
 
-whole-most : (z : ℤ) → mag z < 2 ^ 63 → length (figure (figureOf z)) ≤ 21
-unfolding figure figureOf
+whole-most : (z : ℤ) → mag z < 2 ^ 63 → length (figure (figure-of z)) ≤ 21
+unfolding figure figure-of
 whole-most (pos n) h = omega (arith, width-below 19 n (omega arith))
 whole-most (negsuc n) h = omega (arith, width-below 19 (suc n) (omega arith))
 

@@ -6,9 +6,9 @@ use mathlib.Core.List.{List}
 use Prim.Native.Nat.{ℕ, _+_, _≤_, _<_}
 use native.Mathlib.Omega.{arith}
 use lib.ListN.{length, drop, length-drop}
-use Rattle.report.specs.Report.{placed, written-at, placed-at}
+use Rattle.report.specs.Report.{put-at, written-at, placed-at}
 use Rattle.report.specs.declared.ReportAnswer.{ReportAnswer}
-use Rattle.report.specs.Answers.{stated, refused, its-length}
+use Rattle.report.specs.StatedReports.{report-stated, refused, its-length}
 use Rattle.report.proofs.Lines.{report-least}
 use Rattle.report.proofs.Places.{no-room, with-room, refused-exactly, length-exactly}
 use Rattle.docket.specs.declared.Docket.{Docket}
@@ -49,12 +49,12 @@ module _ (d : Docket) (b : List ℕ) (k : ℕ) where
   docket-stays = refl
 
   -- document 01, Numbers that come from the docket: 43 says that the lines have no room from the place on, and only that
-  pub report-refused : (stated (report-of d b k .answer) ≡ refused 43 0 0 0) ↔ ((length b < k) ⊎ (length (drop k b) < length (text-shown d)))
+  pub report-refused : (report-stated (report-of d b k .answer) ≡ refused 43 0 0 0) ↔ ((length b < k) ⊎ (length (drop k b) < length (text-shown d)))
   unfolding report-of
   report-refused = refused-exactly b k (text-shown d)
 
   -- else the report's length is the answer
-  pub report-length-exactly : (n : ℕ) → (stated (report-of d b k .answer) ≡ its-length n) ↔ ((k + length (text-shown d) ≤ length b) × (n ≡ length (text-shown d)))
+  pub report-length-exactly : (n : ℕ) → (report-stated (report-of d b k .answer) ≡ its-length n) ↔ ((k + length (text-shown d) ≤ length b) × (n ≡ length (text-shown d)))
   unfolding report-of
   report-length-exactly = length-exactly b k (text-shown d)
 
@@ -64,12 +64,12 @@ module _ (d : Docket) (b : List ℕ) (k : ℕ) where
   refused-stays h = no-room b k (text-shown d) h .1
 
   -- else the report stands at the place, and the bytes outside stay
-  pub written-there : k + length (text-shown d) ≤ length b → buffer-of d b k ≡ placed b k (text-shown d)
+  pub written-there : k + length (text-shown d) ≤ length b → buffer-of d b k ≡ put-at b k (text-shown d)
   unfolding buffer-of
   written-there h = with-room b k (text-shown d) h .1
 
 -- a place equal to the buffer's length: no byte follows it, and a report has some
-pub end-refused : (d : Docket) (b : List ℕ) → stated (report-of d b (length b) .answer) ≡ refused 43 0 0 0
+pub end-refused : (d : Docket) (b : List ℕ) → report-stated (report-of d b (length b) .answer) ≡ refused 43 0 0 0
 end-refused d b = report-refused d b (length b) .1 (inr (omega (arith, length-drop (length b) b, report-least (figures-of (trusted d .held)))))
 
 -- ---- after a list of lodgings from a fresh docket, a report speaks of what is then held

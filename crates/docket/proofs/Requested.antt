@@ -12,7 +12,7 @@ use lib.Dec.{lit<, lit≤}
 use lib.IntN.{pos}
 use lib.ListN.{length}
 use lib.Signed.{_≤ℤ_}
-use Rattle.decimal.specs.Decimal.{digits, digitsBy}
+use Rattle.decimal.specs.Decimal.{digits, digits-by}
 use Rattle.model.specs.declared.generator.Generator.{Generator}
 use Rattle.model.specs.Instance.{Instance, Schedule, _at_, Each}
 use Rattle.model.specs.Ranges.{All, InRange, Ordered, WellFormed}
@@ -22,13 +22,13 @@ use Rattle.model.specs.Breach.{Breach}
 use Rattle.model.specs.Broken.{Of, OffRamp, Broken, Lower}
 use Rattle.model.specs.Unread.{AlikeButMidnight}
 use Rattle.model.proofs.Unread as unread
-use Rattle.text.specs.Lines.{Line, ended, kindTree, endProblem}
+use Rattle.text.specs.Lines.{Line, ended, kind-tree, end-problem}
 use Rattle.text.specs.LineRefused.{Renders}
 use Rattle.problem.specs.Units.{unit-line, unit-form}
 use Rattle.problem.specs.Rendering.{lines-after}
 use Rattle.problem.specs.Refusals.{unit}
 use Rattle.problem.proofs.Examples.{example, example-formed}
-use Rattle.answer.specs.Answers.{Values, refused, Carries}
+use Rattle.answer.specs.StatedAnswers.{AnswerValues, refused, Carries}
 use Rattle.docket.specs.declared.Docket.{Docket}
 use Rattle.docket.specs.declared.held.BoundBy.{BoundBy}
 use Rattle.docket.specs.declared.held.HeldBound.the-variants as bound
@@ -75,7 +75,7 @@ module _ (texts : List (List ℕ)) (vs : List Verdict) (are : Are none texts vs)
     module _ (text : List ℕ) (short : Short text) (w : ℕ) (s : Schedule) (is : ScheduleText P text w s) where
       -- A schedule that is accepted keeps (11) and (12) in period 1, from p0, for each unit that was on before it and is on in it: as the source prints them, read
       -- at t = 1 (`midnight-is`, crates/source/proofs/Midnight.antt)
-      pub ramps-kept : (x : Values) → Carries (answer texts text) x → Each FirstRamp (P .units) s
+      pub ramps-kept : (x : AnswerValues) → Carries (answer texts text) x → Each FirstRamp (P .units) s
       ramps-kept = midnight.ramps-from-midnight texts vs are P known text short w s is
 
       -- 25 names period 1 and a unit exactly where that unit breaks them there, no lower unit does, and no rule with a lower number is broken
@@ -96,7 +96,7 @@ p0-anywhere = midnight.p0-anywhere
 -- the same bound, splits and leaves, or refused by the same number at the same line; and every schedule has one cost, and keeps the rules as printed, their
 -- ramps from period 2 on, in both or in neither
 pub p0-unread : (P P′ : Instance) → AlikeButMidnight P P′
-    → (WellFormed P → WellFormed P′ → (text : List ℕ) → Begins text kindTree → (v : Verdict) → Is (some P) text v ↔ Is (some P′) text v)
+    → (WellFormed P → WellFormed P′ → (text : List ℕ) → Begins text kind-tree → (v : Verdict) → Is (some P) text v ↔ Is (some P′) text v)
     × ((s : Schedule) → (cost P s ≡ cost P′ s) × (MeetsPrinted P s ↔ MeetsPrinted P′ s))
 p0-unread P P′ a = (midnight.tree-unread P P′ a, λ s. (unread.cost-unread P P′ a s, unread.printed-unread P P′ a s))
 
@@ -118,19 +118,19 @@ lines-before = map ended (bytes "periods=2" ∷ bytes "units=2" ∷ bytes "deman
 
 -- its first five lines are those of the same problem with fifteen numbers a unit
 old-due : UnitLineDue old-problem lines-before (ended old-line)
-unfolding problem-of lines-after digits digitsBy
+unfolding problem-of lines-after digits digits-by
 old-due = record {
   short = lit≤ tt;
   begins = refl;
   rest = map ended (bytes "unit=40,14,0,10,50,1,1,-2,50,50,20,60,0,0" ∷ bytes "end=problem" ∷ []);
   lines = refl;
   some-problem = example;
-  beginning = record { more = map ended (map unit-line (example .units) ++ (endProblem ∷ [])); whole = refl; within = example-formed };
+  beginning = record { more = map ended (map unit-line (example .units) ++ (end-problem ∷ [])); whole = refl; within = example-formed };
   place = unit 0 (lit< tt);
 }
 
 old-renders : Renders unit-form (ended old-line) false (100 ∷ 10 ∷ 0 ∷ 20 ∷ 80 ∷ 2 ∷ 2 ∷ 3 ∷ 30 ∷ 30 ∷ 50 ∷ 90 ∷ 1 ∷ 5 ∷ [])
-unfolding digits digitsBy
+unfolding digits digits-by
 old-renders = record { some = lit< tt; sign = λ e. absurd (let z : _≡_ {A = ℕ} 0 1 = cc in omega arith); line = refl }
 
 pub old-refused : answer [] old-problem ≡ refused 14 6 0 0

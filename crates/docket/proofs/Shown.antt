@@ -10,11 +10,11 @@ use lib.Seq.{drop-append-seam}
 use Rattle.model.proofs.Lists.{held-least, held-highest}
 use Rattle.report.specs.Report.{report-lines}
 use Rattle.report.specs.declared.Figures as shown
-use Rattle.tree.specs.Due.{Figures}
-use Rattle.report.specs.Answers.{refused, its-length}
+use Rattle.tree.specs.Course.{Bounded}
+use Rattle.report.specs.StatedReports.{refused, its-length}
 use Rattle.docket.specs.Verdicts.{Costed, Verdict, schedules, trees}
 use Rattle.docket.specs.Texts.{Are}
-use Rattle.docket.specs.ReportDue.{figures-due, ReportDue, Outcome, Reports}
+use Rattle.docket.specs.ReportDue.{figures-due, ReportDue, WrittenOr43, Reports}
 use Rattle.docket.specs.Demand3.{reached, Lodging, Reporting, Writing, Demand3}
 use Rattle.docket.specs.Shown.{reported, left, Shows}
 use Rattle.docket.proofs.Reached.{least, highest}
@@ -35,14 +35,14 @@ due-after vs = record {
   cheapest = least vs;
   is-cheapest = held-least (λ (s : Costed). s .cost) (schedules vs);
   highest = highest vs;
-  is-highest = held-highest (λ (F : Figures). F .bound) (trees vs);
+  is-highest = held-highest (λ (F : Bounded). F .bound) (trees vs);
   lines-are = refl;
 }
 
 module _ (lodge : Lodging) (report : Reporting) (buffer : Writing) where
   -- what becomes of the lines, where they are those due
   abbrev pub There : List (List ℕ) → (lines b : List ℕ) → ℕ → Type 0
-  There texts lines b k = Outcome lines b k (reported lodge report texts b k) (left lodge buffer texts b k)
+  There texts lines b k = WrittenOr43 lines b k (reported lodge report texts b k) (left lodge buffer texts b k)
 
 module _ (lodge : Lodging) (report : Reporting) (buffer : Writing) (D : Demand3 lodge report buffer) where
   -- ---- the figures that a report shows are those due

@@ -8,7 +8,7 @@ use Rattle.model.specs.Instance.{Instance}
 use Rattle.model.specs.Ranges.{All}
 use Rattle.model.specs.Tree.{number}
 use Rattle.problem.proofs.Examples.{example, example-formed}
-use Rattle.answer.specs.Answers.{no-values, its-cost, its-bound, held, stated}
+use Rattle.answer.specs.StatedAnswers.{no-values, its-cost, its-bound, held, stated}
 use Rattle.docket.specs.declared.Docket.{Docket}
 use Rattle.docket.specs.declared.held.HeldCost.the-variants as cost
 use Rattle.docket.specs.declared.held.HeldBound.the-variants as bound
@@ -17,7 +17,7 @@ use Rattle.docket.specs.Verdicts.{Verdict, problem, tree, known-at-end}
 use Rattle.docket.specs.Texts.{Is, Are, no-more, then}
 use Rattle.docket.specs.Lodging.{lodge-of}
 use Rattle.docket.specs.Demand3.{docket-after, answers-to, answers-due}
-use Rattle.docket.specs.Specimens.{listed-problem, listed-texts, last, specimens, Answered}
+use Rattle.docket.specs.Specimens.{listed-problem, listed-texts, last-of, specimens, Answered}
 use Rattle.docket.proofs.OneVerdict.{verdict-of}
 use Rattle.docket.proofs.ListVerdicts.{fine-after, are-verdicts}
 use Rattle.docket.proofs.Reached.{docket-of}
@@ -31,25 +31,25 @@ answers-by : {texts : List (List ℕ)} {vs : List Verdict} → Are none texts vs
 answers-by {texts} {vs} are = lodges none [] (refl, refl) texts .answers-are ∙ ap (answers-due []) (are-verdicts none texts vs tt are)
 
 last-by : {texts : List (List ℕ)} {vs : List Verdict} → Are none texts vs
-    → last (map stated (answers-to lodge-of fresh-docket texts)) ≡ last (answers-due [] vs)
-last-by are = ap last (answers-by are)
+    → last-of (map stated (answers-to lodge-of fresh-docket texts)) ≡ last-of (answers-due [] vs)
+last-by are = ap last-of (answers-by are)
 
 -- a text after the listing's problem
 then-one : {text : List ℕ} {v : Verdict} → Is (some example) text v
-    → last (map stated (answers-to lodge-of fresh-docket (listed-problem ∷ text ∷ []))) ≡ last (answers-due [] (problem example ∷ v ∷ []))
+    → last-of (map stated (answers-to lodge-of fresh-docket (listed-problem ∷ text ∷ []))) ≡ last-of (answers-due [] (problem example ∷ v ∷ []))
 then-one i = last-by (then is-listed-problem (then i no-more))
 
 then-judged : (text : List ℕ) {v : Verdict} → verdict-of (some example) text ≡ v
-    → last (map stated (answers-to lodge-of fresh-docket (listed-problem ∷ text ∷ []))) ≡ last (answers-due [] (problem example ∷ v ∷ []))
+    → last-of (map stated (answers-to lodge-of fresh-docket (listed-problem ∷ text ∷ []))) ≡ last-of (answers-due [] (problem example ∷ v ∷ []))
 then-judged text {v} e = then-one (judged-as (some example) example-formed text v e)
 
 -- a text in a fresh docket
-first-judged : (text : List ℕ) {v : Verdict} → verdict-of none text ≡ v → last (map stated (answers-to lodge-of fresh-docket (text ∷ []))) ≡ last (answers-due [] (v ∷ []))
+first-judged : (text : List ℕ) {v : Verdict} → verdict-of none text ≡ v → last-of (map stated (answers-to lodge-of fresh-docket (text ∷ []))) ≡ last-of (answers-due [] (v ∷ []))
 first-judged text {v} e = last-by (then (judged-as none tt text v e) no-more)
 
 -- a problem and a text after it, both judged
 both-judged : {P : Instance} (first text : List ℕ) {v : Verdict} → verdict-of none first ≡ problem P → verdict-of (some P) text ≡ v
-    → last (map stated (answers-to lodge-of fresh-docket (first ∷ text ∷ []))) ≡ last (answers-due [] (problem P ∷ v ∷ []))
+    → last-of (map stated (answers-to lodge-of fresh-docket (first ∷ text ∷ []))) ≡ last-of (answers-due [] (problem P ∷ v ∷ []))
 both-judged {P} first text {v} e f =
     let i : Is none first (problem P) = judged-as none tt first (problem P) e in
     last-by (then i (then (judged-as (some P) (fine-after none first (problem P) tt i) text v f) no-more))

@@ -7,7 +7,7 @@ use mathlib.Core.Option.{Option, none, some}
 use Prim.Native.Nat.{ℕ}
 use native.Mathlib.Omega.{arith}
 use lib.Dec.{lit≤}
-use Rattle.decimal.specs.Decimal.{digits, digitsBy}
+use Rattle.decimal.specs.Decimal.{digits, digits-by}
 use Rattle.model.specs.declared.generator.Generator.{Generator}
 use Rattle.model.specs.Instance.{Instance}
 use Rattle.model.specs.Ranges.{midnight-ordered, ordered}
@@ -15,21 +15,21 @@ use Rattle.model.specs.Rules.{output, capacity}
 use Rattle.model.specs.Cost.{cost, row-cost}
 use Rattle.model.specs.Breach.{first-breach}
 use Rattle.model.specs.Tree.{short}
-use Rattle.refusal.specs.Refusals.{refusalOf, carriesLine, carriesUnit, carriesPeriod}
-use Rattle.text.specs.Lines.{missing, ended, kindOf, kindProblem, kindSchedule, kindTree}
-use Rattle.text.specs.Forms.{malformed, wrongCount, outOfRange}
+use Rattle.refusal.specs.Refusals.{refusal-of, carries-line, carries-unit, carries-period}
+use Rattle.text.specs.Lines.{missing, ended, kind-of, kind-problem, kind-schedule, kind-tree}
+use Rattle.text.specs.Forms.{malformed, wrong-count, outside-range}
 use Rattle.text.specs.Course.{judged-from}
 use Rattle.problem.specs.Units.{unit-of}
 use Rattle.problem.specs.Course as problem-course
 use Rattle.problem.specs.Rendering as problems
 use Rattle.problem.proofs.Examples.{example, example-rendered}
 use Rattle.schedule.specs.Course as schedule-course
-use Rattle.schedule.specs.Reading.{schedule-outcome}
+use Rattle.schedule.specs.ReadAnswers.{schedule-outcome}
 use Rattle.schedule.specs.Rendering as schedules
 use Rattle.tree.specs.Rendering as trees
 use Rattle.docket.specs.Verdicts.{Verdict, refused, problem, schedule, tree}
-use Rattle.docket.specs.Texts.{at-line, Is, no-kind, tree-early}
-use Rattle.docket.specs.Lodging.{admit, judged}
+use Rattle.docket.specs.Texts.{refused-line, Is, no-kind, tree-early}
+use Rattle.docket.specs.Lodging.{admit, text-judged}
 use Rattle.docket.specs.Specimens.{problem-of, listed-problem, schedule-text, listed-schedule, tree-text, listed-tree, lone-leaf, lone-short, start-problem, off-two, off-three, down-problem}
 use Rattle.docket.proofs.OneVerdict.{verdict-of}
 use Rattle.docket.proofs.Specimens.{rows, one-split, lone-price, figures, is-problem, is-cheap, is-tree, is-lone-price, is-not-short}
@@ -38,11 +38,11 @@ use Rattle.docket.proofs.Specimens.{rows, one-split, lone-price, figure
 
 pub listed-rendered : (listed-problem ≡ problems.render example) × (listed-schedule ≡ schedules.render 7 (rows 60 80 0 20))
     × (listed-tree ≡ trees.render 3 one-split)
-unfolding problem-of schedule-text tree-text schedules.render trees.render trees.node-lines digits digitsBy
+unfolding problem-of schedule-text tree-text schedules.render trees.render trees.node-lines digits digits-by
 listed-rendered = (sym example-rendered, refl, refl)
 
 leaves-rendered : (lone-leaf ≡ trees.render 4 lone-price) × (lone-short ≡ trees.render 3 (short 1))
-unfolding tree-text trees.render trees.node-lines digits digitsBy
+unfolding tree-text trees.render trees.node-lines digits digits-by
 leaves-rendered = (refl, refl)
 
 -- two writings of one text
@@ -61,18 +61,18 @@ is-listed-tree = written (listed-rendered .2) is-tree
 pub is-lone-leaf : Is (some example) lone-leaf (tree (figures 4 1940 0 1))
 is-lone-leaf = written (leaves-rendered .0) is-lone-price
 
-pub is-lone-short : Is (some example) lone-short (at-line 33 3)
+pub is-lone-short : Is (some example) lone-short (refused-line 33 3)
 is-lone-short = written (leaves-rendered .1) is-not-short
 
 -- ---- in a fresh docket
 
-pub is-empty : Is none [] (at-line 12 1)
-is-empty = no-kind (lit≤ tt) (no kindProblem) (no kindSchedule) (no kindTree)
+pub is-empty : Is none [] (refused-line 12 1)
+is-empty = no-kind (lit≤ tt) (no kind-problem) (no kind-schedule) (no kind-tree)
   where
     no : (w : List ℕ) → missing ≡ ended w → ⊥
     no w e = absurd (let z : _≡_ {A = ℕ} 0 1 = cc in omega arith)
 
-pub is-early : Is none listed-tree (at-line 42 0)
+pub is-early : Is none listed-tree (refused-line 42 0)
 unfolding tree-text
 is-early = tree-early (lit≤ tt) refl
 
@@ -90,7 +90,7 @@ pub schedules-judged : (verdict-of (some example) (schedule-text ("run=50,80" �
     × (verdict-of (some example) (schedule-text ("run=60,80" ∷ "run=0,9" ∷ [])) ≡ breach 21 2 2)
     × (verdict-of (some example) (schedule-text ("run=29,59" ∷ "run=31,41" ∷ [])) ≡ breach 25 1 1)
     × (verdict-of (some example) (schedule-text ("run=30,60" ∷ "run=30,40" ∷ [])) ≡ by-seven 2220 (rows 30 60 30 40))
-unfolding judged admit kindOf schedule-outcome schedule-course.schedule-judged judged-from schedule-course.judge malformed wrongCount outOfRange first-breach output capacity cost row-cost refusalOf carriesLine carriesUnit carriesPeriod schedule-text
+unfolding text-judged admit kind-of schedule-outcome schedule-course.schedule-judged judged-from schedule-course.judge malformed wrong-count outside-range first-breach output capacity cost row-cost refusal-of carries-line carries-unit carries-period schedule-text
 schedules-judged = (refl, refl, refl, refl, refl, refl)
 
 -- ---- problems of one unit
@@ -108,19 +108,19 @@ down = record { periods = 3; demand = 0 ∷ 0 ∷ 0 ∷ []; spare = 0 ∷ 0 ∷ 
 
 pub problems-judged : (verdict-of none off-two ≡ problem (start 2)) × (verdict-of none off-three ≡ problem (start 3))
     × (verdict-of none down-problem ≡ problem down)
-unfolding judged admit kindOf problem-course.problem-judged judged-from problem-course.judge malformed wrongCount outOfRange unit-of ordered midnight-ordered start-problem down-problem
+unfolding text-judged admit kind-of problem-course.problem-judged judged-from problem-course.judge malformed wrong-count outside-range unit-of ordered midnight-ordered start-problem down-problem
 problems-judged = (refl, refl, refl)
 
 -- the listing's problem with other unit lines
-pub units-judged : (verdict-of none (problem-of "unit=100,10,0,20,80,2,2,3,30,30,50,90,1,5" "unit=40,14,0,10,50,1,1,-2,50,50,20,60,0,0,0") ≡ at-line 14 6)
-    × (verdict-of none (problem-of "unit=100,10,0,20,80,2,2,3,30,30,50,90,1,5,19" "unit=40,14,0,10,50,1,1,-2,50,50,20,60,0,0,0") ≡ at-line 15 6)
-    × (verdict-of none (problem-of "unit=100,10,0,20,80,2,2,3,30,30,50,90,1,5,60" "unit=40,14,0,10,50,1,1,-2,50,50,20,60,0,0,1") ≡ at-line 15 7)
-unfolding judged admit kindOf problem-course.problem-judged judged-from problem-course.judge malformed wrongCount outOfRange unit-of ordered midnight-ordered refusalOf carriesLine carriesUnit carriesPeriod problem-of
+pub units-judged : (verdict-of none (problem-of "unit=100,10,0,20,80,2,2,3,30,30,50,90,1,5" "unit=40,14,0,10,50,1,1,-2,50,50,20,60,0,0,0") ≡ refused-line 14 6)
+    × (verdict-of none (problem-of "unit=100,10,0,20,80,2,2,3,30,30,50,90,1,5,19" "unit=40,14,0,10,50,1,1,-2,50,50,20,60,0,0,0") ≡ refused-line 15 6)
+    × (verdict-of none (problem-of "unit=100,10,0,20,80,2,2,3,30,30,50,90,1,5,60" "unit=40,14,0,10,50,1,1,-2,50,50,20,60,0,0,1") ≡ refused-line 15 7)
+unfolding text-judged admit kind-of problem-course.problem-judged judged-from problem-course.judge malformed wrong-count outside-range unit-of ordered midnight-ordered refusal-of carries-line carries-unit carries-period problem-of
 units-judged = (refl, refl, refl)
 
 pub alone-judged : (verdict-of (some (start 2)) (schedule-text ("run=10" ∷ [])) ≡ by-seven 20 ((10 ∷ []) ∷ []))
     × (verdict-of (some (start 3)) (schedule-text ("run=10" ∷ [])) ≡ by-seven 60 ((10 ∷ []) ∷ []))
     × (verdict-of (some down) (schedule-text ("run=0,10,10" ∷ [])) ≡ breach 24 1 2)
     × (verdict-of (some down) (schedule-text ("run=0,0,10" ∷ [])) ≡ by-seven 20 ((0 ∷ 0 ∷ 10 ∷ []) ∷ []))
-unfolding judged admit kindOf schedule-outcome schedule-course.schedule-judged judged-from schedule-course.judge malformed wrongCount outOfRange first-breach output capacity cost row-cost refusalOf carriesLine carriesUnit carriesPeriod schedule-text
+unfolding text-judged admit kind-of schedule-outcome schedule-course.schedule-judged judged-from schedule-course.judge malformed wrong-count outside-range first-breach output capacity cost row-cost refusal-of carries-line carries-unit carries-period schedule-text
 alone-judged = (refl, refl, refl, refl)

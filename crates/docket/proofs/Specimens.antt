@@ -5,7 +5,7 @@ use mathlib.Core.Option.{Option, none, some}
 use Prim.Native.Nat.{ℕ}
 use lib.Dec.{lit≤}
 use lib.IntN.{pos}
-use Rattle.decimal.specs.Decimal.{digits, digitsBy}
+use Rattle.decimal.specs.Decimal.{digits, digits-by}
 use Rattle.model.specs.Instance.{Instance, Schedule}
 use Rattle.model.specs.Rules.{output, capacity}
 use Rattle.model.specs.Cost.{cost, row-cost}
@@ -13,23 +13,23 @@ use Rattle.model.specs.Breach.{first-breach}
 use Rattle.model.specs.Leaf.{available, is-stuck}
 use Rattle.model.specs.Tree.{Tree, short, stuck, Limits, Holds, Bound, number, splits, leaves}
 use Rattle.model.proofs.BoundExamples.{example-tree, lone-leaf, example-limits, example-holds, example-bound, lone-bound}
-use Rattle.refusal.specs.Refusals.{refusalOf, carriesLine, carriesUnit, carriesPeriod}
-use Rattle.text.specs.Lines.{kindOf, kindProblem}
-use Rattle.text.specs.Forms.{malformed, wrongCount, outOfRange}
+use Rattle.refusal.specs.Refusals.{refusal-of, carries-line, carries-unit, carries-period}
+use Rattle.text.specs.Lines.{kind-of, kind-problem}
+use Rattle.text.specs.Forms.{malformed, wrong-count, outside-range}
 use Rattle.text.specs.Course.{judged-from}
 use Rattle.problem.specs.Rendering as problems
 use Rattle.problem.proofs.Examples.{example, example-rendered, example-formed}
 use Rattle.schedule.specs.Rendering as schedules
 use Rattle.schedule.specs.Course as schedule-course
-use Rattle.schedule.specs.Reading.{schedule-outcome}
+use Rattle.schedule.specs.ReadAnswers.{schedule-outcome}
 use Rattle.tree.specs.Rendering as trees
-use Rattle.tree.specs.NodeLines.{kind-of, split-again, too-deep, not-short, not-stuck}
-use Rattle.tree.specs.Due as tree-course
-use Rattle.tree.specs.Due.{Figures}
-use Rattle.tree.specs.Answers.{figures-of}
+use Rattle.tree.specs.NodeLines.{line-kind-of, split-again, too-deep, not-short, not-stuck}
+use Rattle.tree.specs.Course as tree-course
+use Rattle.tree.specs.Course.{Bounded}
+use Rattle.tree.specs.Acceptance.{bounded-of}
 use Rattle.docket.specs.Verdicts.{Verdict, problem, schedule, tree}
-use Rattle.docket.specs.Texts.{Short, Begins, at-line, Is, second-problem, a-problem, a-tree}
-use Rattle.docket.specs.Lodging.{admit, judged}
+use Rattle.docket.specs.Texts.{Short, Begins, refused-line, Is, second-problem, a-problem, a-tree}
+use Rattle.docket.specs.Lodging.{admit, text-judged}
 use Rattle.docket.proofs.OneVerdict.{Fine, verdict-of, verdict-is}
 
 -- a text is what lodging judges it to be
@@ -48,10 +48,10 @@ pub is-problem : Is none problem-text (problem example)
 is-problem = a-problem example problem-short refl example-formed
 
 -- a second problem: 41
-pub is-second : Is (some example) problem-text (at-line 41 0)
+pub is-second : Is (some example) problem-text (refused-line 41 0)
 is-second = second-problem problem-short first
   where
-    first : Begins problem-text kindProblem
+    first : Begins problem-text kind-problem
     first = rw example-rendered refl
 
 -- ---- schedules
@@ -63,7 +63,7 @@ rows a b c d = (a ∷ b ∷ []) ∷ (c ∷ d ∷ []) ∷ []
 rows-judged : (verdict-of (some example) (schedules.render 7 (rows 60 80 0 20)) ≡ schedule (record { writer = 7; cost = 1980; rows = rows 60 80 0 20 }))
     × (verdict-of (some example) (schedules.render 8 (rows 60 80 0 20)) ≡ schedule (record { writer = 8; cost = 1980; rows = rows 60 80 0 20 }))
     × (verdict-of (some example) (schedules.render 7 (rows 50 80 10 20)) ≡ schedule (record { writer = 7; cost = 2060; rows = rows 50 80 10 20 }))
-unfolding judged admit kindOf schedule-outcome schedule-course.schedule-judged judged-from schedule-course.judge malformed wrongCount outOfRange first-breach output capacity cost row-cost schedules.render digits digitsBy
+unfolding text-judged admit kind-of schedule-outcome schedule-course.schedule-judged judged-from schedule-course.judge malformed wrong-count outside-range first-breach output capacity cost row-cost schedules.render digits digits-by
 rows-judged = (refl, refl, refl)
 
 pub is-cheap : Is (some example) (schedules.render 7 (rows 60 80 0 20)) (schedule (record { writer = 7; cost = 1980; rows = rows 60 80 0 20 }))
@@ -85,11 +85,11 @@ one-split = example-tree
 abbrev pub lone-price : Tree
 lone-price = lone-leaf
 
-abbrev pub figures : ℕ → ℕ → ℕ → ℕ → Figures
+abbrev pub figures : ℕ → ℕ → ℕ → ℕ → Bounded
 figures w b m n = record { writer = w; bound = number (pos b); splits = m; leaves = n }
 
-pub is-one-split : Is (some example) (trees.render 3 one-split) (tree (figures-of example 3 one-split))
-unfolding trees.render trees.node-lines digits digitsBy
+pub is-one-split : Is (some example) (trees.render 3 one-split) (tree (bounded-of example 3 one-split))
+unfolding trees.render trees.node-lines digits digits-by
 is-one-split = a-tree 3 one-split (lit≤ tt) refl (lit≤ tt, lit≤ tt) example-limits example-holds
 
 -- 1980, with one split line and two leaves
@@ -99,8 +99,8 @@ is-tree =
     subst (λ (b : Bound). Is (some example) (trees.render 3 one-split) (tree (record { writer = 3; bound = b; splits = 1; leaves = 2 }))) example-bound
     is-one-split
 
-is-lone : Is (some example) (trees.render 4 lone-price) (tree (figures-of example 4 lone-price))
-unfolding trees.render trees.node-lines digits digitsBy Limits Holds is-stuck
+is-lone : Is (some example) (trees.render 4 lone-price) (tree (bounded-of example 4 lone-price))
+unfolding trees.render trees.node-lines digits digits-by Limits Holds is-stuck
 is-lone =
     a-tree 4 lone-price (lit≤ tt) refl (lit≤ tt, lit≤ tt)
     ((refl, ((lit≤ tt, lit≤ tt), ((lit≤ tt, lit≤ tt), tt))), (refl, ((lit≤ tt, lit≤ tt), ((lit≤ tt, lit≤ tt), tt)))) tt
@@ -113,12 +113,12 @@ is-lone-price =
     is-lone
 
 -- a lone short=2: 33, line 3; a lone stuck=1: 34, line 3
-leaves-judged : (verdict-of (some example) (trees.render 3 (short 1)) ≡ at-line 33 3) × (verdict-of (some example) (trees.render 3 (stuck 0)) ≡ at-line 34 3)
-unfolding judged admit kindOf tree-course.judged judged-from tree-course.judge tree-course.tests tree-course.next tree-course.after-node kind-of malformed wrongCount outOfRange split-again too-deep not-short not-stuck available is-stuck refusalOf carriesLine carriesUnit carriesPeriod trees.render trees.node-lines digits digitsBy
+leaves-judged : (verdict-of (some example) (trees.render 3 (short 1)) ≡ refused-line 33 3) × (verdict-of (some example) (trees.render 3 (stuck 0)) ≡ refused-line 34 3)
+unfolding text-judged admit kind-of tree-course.tree-judged judged-from tree-course.judge tree-course.tests tree-course.next-due tree-course.after-node line-kind-of malformed wrong-count outside-range split-again too-deep not-short not-stuck available is-stuck refusal-of carries-line carries-unit carries-period trees.render trees.node-lines digits digits-by
 leaves-judged = (refl, refl)
 
-pub is-not-short : Is (some example) (trees.render 3 (short 1)) (at-line 33 3)
+pub is-not-short : Is (some example) (trees.render 3 (short 1)) (refused-line 33 3)
 is-not-short = judged-as (some example) example-formed _ _ (leaves-judged .0)
 
-pub is-not-stuck : Is (some example) (trees.render 3 (stuck 0)) (at-line 34 3)
+pub is-not-stuck : Is (some example) (trees.render 3 (stuck 0)) (refused-line 34 3)
 is-not-stuck = judged-as (some example) example-formed _ _ (leaves-judged .1)

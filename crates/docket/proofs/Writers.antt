@@ -7,7 +7,7 @@ use Rattle.model.specs.Instance.{Instance}
 use Rattle.model.specs.Ranges.{GoodWriter, All}
 use Rattle.model.specs.Tree.{Bound, never, number}
 use Rattle.model.proofs.Lists.{IsFirst, held-least, held-highest}
-use Rattle.tree.specs.Due.{Figures}
+use Rattle.tree.specs.Course.{Bounded}
 use Rattle.docket.specs.declared.Docket.{Docket}
 use Rattle.docket.specs.declared.held.Held.{Held}
 use Rattle.docket.specs.declared.held.HeldCost.{HeldCost}
@@ -45,7 +45,7 @@ module _ (P : Instance) where
   by-writer never w g = g
   by-writer (number z) w g = g
 
-  bound-writer : (b : Option Figures) (l : List Figures) → IsFirst by-bound b l → All (GoodTree P) l → BoundWriter (bound-kept b)
+  bound-writer : (b : Option Bounded) (l : List Bounded) → IsFirst by-bound b l → All (GoodTree P) l → BoundWriter (bound-kept b)
   bound-writer none l f g = tt
   bound-writer (some h) l f g = by-writer (h .bound) (h .writer) (all-mem (GoodTree P) l g h (first-mem by-bound h l f) .writer-in)
 
@@ -53,7 +53,7 @@ docket-writers : (o : Option Instance) (past : List Verdict) → Proper o past �
 docket-writers none past p = (tt, tt)
 docket-writers (some P) past p = (
   cost-writer P (least past) (schedules past) (held-least (λ (s : Costed). s .cost) (schedules past)) (p .1 .0),
-  bound-writer P (highest past) (trees past) (held-highest (λ (F : Figures). F .bound) (trees past)) (p .1 .1),
+  bound-writer P (highest past) (trees past) (held-highest (λ (F : Bounded). F .bound) (trees past)) (p .1 .1),
 )
 
 -- so they are in every docket that lodging reaches from a fresh one

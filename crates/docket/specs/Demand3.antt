@@ -1,7 +1,7 @@
 -- Demand 3: what holds after every list of texts that is lodged from a fresh docket, and what every report then shows.
 use mathlib.Core.Path.{_≡_}
 use mathlib.Core.Bool.{Bool, true, false}
-use mathlib.Core.List.{List, [], _∷_, _++_, map}
+use mathlib.Core.List.{List, [], _∷_, _++_, map, flatten}
 use mathlib.Core.Option.{Option, none, some}
 use Prim.Native.Nat.{ℕ}
 use lib.Dec.{ltb}
@@ -16,8 +16,7 @@ use Rattle.model.specs.Held as arrays
 use Rattle.model.specs.Held.{pad}
 use Rattle.model.specs.Tree.{Bound, never, number}
 use Rattle.model.specs.Best.{higher, FirstLeast, FirstHighest}
-use Rattle.judge.specs.Rows.{joined}
-use Rattle.tree.specs.Due.{Figures}
+use Rattle.tree.specs.Course.{Bounded}
 use Rattle.docket.specs.declared.Docket.{Docket}
 use Rattle.docket.specs.declared.Lodged.{Lodged}
 use Rattle.docket.specs.declared.Reported.{Reported}
@@ -28,8 +27,8 @@ use Rattle.docket.specs.declared.held.HeldBound.{HeldBound}
 use Rattle.docket.specs.declared.held.HeldBound.the-variants as bound
 use Rattle.answer.specs.declared.Answer.{Answer}
 use Rattle.docket.specs.Docket.{fresh-docket}
-use Rattle.answer.specs.Answers as answers
-use Rattle.answer.specs.Answers.{Values, no-values, its-cost, its-bound, Stated, stated}
+use Rattle.answer.specs.StatedAnswers as answers
+use Rattle.answer.specs.StatedAnswers.{AnswerValues, no-values, its-cost, its-bound, Stated, stated}
 use Rattle.docket.specs.Verdicts.{Costed, Verdict, refused, problem, schedule, tree, schedules, trees, known-at-end}
 use Rattle.docket.specs.Texts.{Are}
 use Rattle.docket.specs.ReportDue.{Reports}
@@ -65,7 +64,7 @@ module _ (lodge : Lodging) where
 
 -- ---- the answers that are due
 
-abbrev pub held-if : Bool → Values → Stated
+abbrev pub held-if : Bool → AnswerValues → Stated
 held-if true v = answers.held v
 held-if false v = answers.passed v
 
@@ -89,7 +88,7 @@ pub record HoldsSchedule (P : Instance) (accepted : List Costed) (by : CostBy) (
   pub first : FirstLeast (λ x. x .cost) best accepted
   pub held-cost : by .cost ≡ best .cost
   pub held-writer : by .writer ≡ best .writer
-  pub held-rows : rows ≡ pad 0 1536 (joined (best .rows))
+  pub held-rows : rows ≡ pad 0 1536 (flatten (best .rows))
   pub meets : Meets P (best .rows)
   pub cost-is : best .cost ≡ model.cost P (best .rows)
 
@@ -99,15 +98,15 @@ CostHeld P accepted cost.Nothing rows = (accepted ≡ []) × (rows ≡ replicate
 CostHeld P accepted (cost.Number by) rows = HoldsSchedule P accepted by rows
 
 -- the bound b of the writer w is held: of the accepted trees the first with the highest bound gave it
-pub record HoldsBound (accepted : List Figures) (b : Bound) (w : ℕ) : Type 0 where
-  pub best : Figures
+pub record HoldsBound (accepted : List Bounded) (b : Bound) (w : ℕ) : Type 0 where
+  pub best : Bounded
   pub first : FirstHighest (λ F. F .bound) best accepted
   pub held-bound : b ≡ best .bound
   pub held-writer : w ≡ best .writer
 
 -- no bound is held, and no tree was accepted; or one is. No schedule of whole outputs that meets the rules costs less than a held
 -- number, whether it was lodged or not, and none meets them where never is held
-abbrev pub BoundHeld : Instance → List Figures → HeldBound → Type 0
+abbrev pub BoundHeld : Instance → List Bounded → HeldBound → Type 0
 BoundHeld P accepted bound.Nothing = accepted ≡ []
 BoundHeld P accepted (bound.Number by) =
     HoldsBound accepted (number (by .value)) (by .writer) × ((s : Schedule) → Meets P s → by .value ≤ℤ pos (model.cost P s))

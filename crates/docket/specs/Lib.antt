@@ -9,6 +9,6 @@ pub mod Demand3
 pub mod Interleaved
 pub mod Promised
 pub mod Shown
-pub mod Following
+pub mod HoldingAnswers
 pub mod Specimens
 pub mod Requested

@@ -1,6 +1,6 @@
 -- Document 01, Numbers that come from the docket, and The docket and its report: what lodging a text does.
-use mathlib.Core.Bool.{Bool, true, false}
-use mathlib.Core.List.{List}
+use mathlib.Core.Bool.{Bool, true, false, cond}
+use mathlib.Core.List.{List, flatten}
 use Prim.Native.Nat.{ℕ}
 use lib.Dec.{ltb}
 use lib.Signed.{ltZ}
@@ -10,17 +10,16 @@ use Rattle.model.specs.Instance.{Instance, Schedule}
 use Rattle.model.specs.Held as arrays
 use Rattle.model.specs.Held.{view, pad}
 use Rattle.model.specs.Tree.{Bound, never, number}
-use Rattle.refusal.specs.Refusals.{refusalOf}
-use Rattle.text.specs.Lines.{lineAt, kindOf}
+use Rattle.refusal.specs.Refusals.{refusal-of}
+use Rattle.text.specs.Lines.{line-at, kind-of}
 use Rattle.text.specs.Course.{Judged, refused-at, accepted}
 use Rattle.text.specs.declared.Kind.{Kind}
 use Rattle.text.specs.declared.Kind.the-variants as kind
-use Rattle.judge.specs.Rows.{joined}
 use Rattle.problem.specs.Course.{problem-judged}
-use Rattle.schedule.specs.Reading.{Outcome, refused-by, accepted-as, schedule-outcome}
-use Rattle.tree.specs.Due as trees
-use Rattle.tree.specs.Due.{Figures}
-use Rattle.tree.specs.Reading.{coded}
+use Rattle.schedule.specs.ReadAnswers.{Outcome, refused-by, accepted-as, schedule-outcome}
+use Rattle.tree.specs.Course as trees
+use Rattle.tree.specs.Course.{Bounded}
+use Rattle.tree.specs.ReadAnswers.{coded}
 use Rattle.docket.specs.declared.Docket.{Docket}
 use Rattle.docket.specs.declared.Lodged.{Lodged}
 use Rattle.docket.specs.declared.held.Held.{Held}
@@ -36,14 +35,10 @@ use Rattle.answer.specs.declared.TreeFigures.{TreeFigures}
 use Rattle.docket.specs.Docket.{nothing-held, fresh-docket, sound}
 use Rattle.docket.specs.Verdicts.{Costed, Verdict, refused, problem, schedule, tree}
 
-abbrev pub pick : {A : Type 0} → Bool → A → A → A
-pick true a b = a
-pick false a b = b
-
 -- ---- what is asked before any line but the first: 11, the kind (12), 41 and 42, in that order
 
 abbrev pub refuse-whole : ℕ → ℕ → Admission
-refuse-whole n line = admission.Refused (refusalOf n line 0 0)
+refuse-whole n line = admission.Refused (refusal-of n line 0 0)
 
 -- by the first line, and by whether a problem is held
 abbrev pub admit-kind : Kind → Bool → Admission
@@ -56,31 +51,31 @@ admit-kind kind.Tree true = admission.Tree
 admit-kind kind.Tree false = refuse-whole 42 0
 
 unfoldable pub admit : Bool → List ℕ → Admission
-admit known text = pick (ltb 1048576 (length text)) (refuse-whole 11 0) (admit-kind (kindOf (lineAt text 0)) known)
+admit known text = cond (ltb 1048576 (length text)) (refuse-whole 11 0) (admit-kind (kind-of (line-at text 0)) known)
 
 -- ---- then line by line, as a problem, a schedule or a tree
 
 abbrev pub by-problem : Judged Instance → Verdict
-by-problem (refused-at n l) = refused (refusalOf n l 0 0)
+by-problem (refused-at n l) = refused (refusal-of n l 0 0)
 by-problem (accepted P) = problem P
 
 abbrev pub by-schedule : Outcome → Verdict
 by-schedule (refused-by r) = refused r
 by-schedule (accepted-as w c s) = schedule (record { writer = w; cost = c; rows = s })
 
-abbrev pub by-tree : Judged Figures → Verdict
-by-tree (refused-at n l) = refused (refusalOf n l 0 0)
+abbrev pub by-tree : Judged Bounded → Verdict
+by-tree (refused-at n l) = refused (refusal-of n l 0 0)
 by-tree (accepted F) = tree F
 
 -- P is the problem that is held, if one is
-abbrev pub by-lines : Admission → Instance → List ℕ → Verdict
-by-lines (admission.Refused r) P text = refused r
-by-lines admission.Problem P text = by-problem (problem-judged text)
-by-lines admission.Schedule P text = by-schedule (schedule-outcome P text)
-by-lines admission.Tree P text = by-tree (trees.judged P text)
+abbrev pub verdict-by : Admission → Instance → List ℕ → Verdict
+verdict-by (admission.Refused r) P text = refused r
+verdict-by admission.Problem P text = by-problem (problem-judged text)
+verdict-by admission.Schedule P text = by-schedule (schedule-outcome P text)
+verdict-by admission.Tree P text = by-tree (trees.tree-judged P text)
 
-unfoldable pub judged : Bool → Instance → List ℕ → Verdict
-judged known P text = by-lines (admit known text) P text
+unfoldable pub text-judged : Bool → Instance → List ℕ → Verdict
+text-judged known P text = verdict-by (admit known text) P text
 
 -- ---- what is held then
 
@@ -102,7 +97,7 @@ is-less c (cost.Number n) = ltb c (n .cost)
 abbrev pub with-schedule : Docket → Costed → Docket
 with-schedule d s =
     with-held d (record { cost = cost.Number (record { cost = s .cost; writer = s .writer }); bound = d .held .bound })
-    (pad 0 1536 (joined (s .rows)))
+    (pad 0 1536 (flatten (s .rows)))
 
 -- whether the bound b takes the held one's place, or the empty one; no number is above never
 abbrev pub is-higher : Bound → HeldBound → Bool
@@ -115,11 +110,11 @@ abbrev pub bound-by : Bound → ℕ → HeldBound
 bound-by never w = bound.Never (record { writer = w })
 bound-by (number z) w = bound.Number (record { value = z; writer = w })
 
-abbrev pub with-bound : Docket → Figures → Docket
+abbrev pub with-bound : Docket → Bounded → Docket
 with-bound d F = with-held d (record { cost = d .held .cost; bound = bound-by (F .bound) (F .writer) }) (d .rows)
 
 -- what the answer to a tree carries
-abbrev pub given-figures : Figures → TreeFigures
+abbrev pub given-figures : Bounded → TreeFigures
 given-figures F = record { bound = coded (F .bound); splits = F .splits; leaves = F .leaves }
 
 -- what was given stays where the text is refused or passed; an accepted text is held over d
@@ -127,14 +122,14 @@ abbrev pub hold : Docket → Docket → Verdict → Lodged
 hold was d (refused r) = lodged was (Refused r)
 hold was d (problem P) = lodged (with-problem (arrays.held P)) TextHeld
 hold was d (schedule s) =
-    pick (is-less (s .cost) (d .held .cost)) (lodged (with-schedule d s) (ScheduleHeld (s .cost))) (lodged was (SchedulePassed (s .cost)))
+    cond (is-less (s .cost) (d .held .cost)) (lodged (with-schedule d s) (ScheduleHeld (s .cost))) (lodged was (SchedulePassed (s .cost)))
 hold was d (tree F) =
-    pick (is-higher (F .bound) (d .held .bound)) (lodged (with-bound d F) (TreeHeld (given-figures F))) (lodged was (TreePassed (given-figures F)))
+    cond (is-higher (F .bound) (d .held .bound)) (lodged (with-bound d F) (TreeHeld (given-figures F))) (lodged was (TreePassed (given-figures F)))
 
 -- a value that is not sound is taken for a fresh docket
 abbrev pub trusted : Docket → Docket
-trusted d = pick (sound d) d fresh-docket
+trusted d = cond (sound d) d fresh-docket
 
 -- every lodging
 unfoldable pub lodge-of : Docket → List ℕ → Lodged
-lodge-of d text = hold d (trusted d) (judged (trusted d .known) (view (trusted d .problem)) text)
+lodge-of d text = hold d (trusted d) (text-judged (trusted d .known) (view (trusted d .problem)) text)

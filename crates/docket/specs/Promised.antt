@@ -17,7 +17,7 @@ use Rattle.model.specs.Tree as tree
 use Rattle.problem.specs.Rendering as problem-text
 use Rattle.schedule.specs.Rendering as schedule-text
 use Rattle.tree.specs.Rendering as tree-text
-use Rattle.answer.specs.Answers.{Values, its-cost, its-bound, Stated, stated}
+use Rattle.answer.specs.StatedAnswers.{AnswerValues, its-cost, its-bound, Stated, stated}
 use Rattle.answer.specs.AnswerLines.{answer-line}
 use Rattle.docket.specs.declared.Docket.{Docket}
 use Rattle.docket.specs.declared.held.CostBy.{CostBy}
@@ -57,11 +57,11 @@ abbrev pub TreeText : Instance → List ℕ → ℕ → Tree → Type 0
 TreeText P text w t = (text ≡ tree-text.render w t) × GoodWriter w × Limits P root 0 t
 
 -- a short text of a schedule that meets the rules, with its cost
-abbrev pub OfSchedule : Instance → List ℕ → Values → Type 0
+abbrev pub OfSchedule : Instance → List ℕ → AnswerValues → Type 0
 OfSchedule P text x = Short text × ((w : ℕ) × (s : Schedule) × ScheduleText P text w s × Meets P s × (x ≡ its-cost (model.cost P s)))
 
 -- a short text of a tree within the limits whose leaves meet their rules, with its bound and counts
-abbrev pub OfTree : Instance → List ℕ → Values → Type 0
+abbrev pub OfTree : Instance → List ℕ → AnswerValues → Type 0
 OfTree P text x = Short text × ((w : ℕ) × (t : Tree) × TreeText P text w t × Holds P root t × (x ≡ its-bound (tree.bound P root t) (splits t) (leaves t)))
 
 -- ---- any value of the struct

@@ -4,7 +4,7 @@ use Prim.Native.Nat.{ℕ}
 use lib.IntN.{pos, _-ℤ_}
 use Rattle.report.specs.Report.{report-lines, written-at, placed-at}
 use Rattle.report.specs.declared.Figures.{Figures}
-use Rattle.writer.specs.Written.{figureOf}
+use Rattle.writer.specs.Written.{figure-of}
 use Rattle.writer.specs.declared.Figure.{Figure}
 use Rattle.writer.specs.declared.Figure.the-variants.{Missing, Never, Number}
 use Rattle.docket.specs.declared.Docket.{Docket}
@@ -28,7 +28,7 @@ cost-writer-shown (cost.Number n) = Number (n .writer)
 
 abbrev pub bound-shown : HeldBound → Figure
 bound-shown bound.Nothing = Missing
-bound-shown (bound.Number n) = figureOf (n .value)
+bound-shown (bound.Number n) = figure-of (n .value)
 bound-shown (bound.Never n) = Never
 
 abbrev pub bound-writer-shown : HeldBound → Figure
@@ -40,7 +40,7 @@ bound-writer-shown (bound.Never n) = Number (n .writer)
 abbrev pub gap-shown : HeldCost → HeldBound → Figure
 gap-shown cost.Nothing b = Missing
 gap-shown (cost.Number c) bound.Nothing = Missing
-gap-shown (cost.Number c) (bound.Number b) = figureOf (pos (c .cost) -ℤ b .value)
+gap-shown (cost.Number c) (bound.Number b) = figure-of (pos (c .cost) -ℤ b .value)
 gap-shown (cost.Number c) (bound.Never b) = Missing
 
 -- the figures of the lines, each named for its key

@@ -9,7 +9,7 @@ use Rattle.model.specs.declared.generator.Generator.{Generator}
 use Rattle.model.specs.Instance.{Instance}
 use Rattle.model.specs.Ranges.{Between}
 use Rattle.model.specs.Breach.{Breach}
-use Rattle.text.specs.Lines.{Line, later, linesOf, kindProblem}
+use Rattle.text.specs.Lines.{Line, later, lines-of, kind-problem}
 use Rattle.text.specs.LineRefused.{Beginning}
 use Rattle.problem.specs.Units.{unit-form}
 use Rattle.problem.specs.Rendering.{lines-after}
@@ -32,9 +32,9 @@ in-period-1 u = record { number = 25; unit = suc u; period = 1 }
 -- line comes next
 pub record UnitLineDue (text : List ℕ) (before : List Line) (x : Line) : Type 0 where
   pub short : Short text
-  pub begins : Begins text kindProblem
+  pub begins : Begins text kind-problem
   pub rest : List Line
-  pub lines : later (linesOf text) ≡ before ++ (x ∷ rest)
+  pub lines : later (lines-of text) ≡ before ++ (x ∷ rest)
   pub some-problem : Instance
   pub beginning : Beginning lines-after InLimits before some-problem
   pub place : FormAt some-problem (length before) unit-form

@@ -5,12 +5,12 @@ use Prim.Native.Nat.{ℕ, _+_}
 use lib.ListN.{length, take, drop}
 use Rattle.report.specs.Report.{report-lines}
 use Rattle.report.specs.declared.Figures as shown
-use Rattle.report.specs.Answers.{Stated, its-length, stated}
+use Rattle.report.specs.StatedReports.{ReportStated, its-length, report-stated}
 use Rattle.docket.specs.Demand3.{Lodging, Reporting, Writing, reached}
 
 -- the answer to a report after a list
-abbrev pub reported : Lodging → Reporting → List (List ℕ) → List ℕ → ℕ → Stated
-reported lodge report texts b k = stated (report (reached lodge texts) b k .answer)
+abbrev pub reported : Lodging → Reporting → List (List ℕ) → List ℕ → ℕ → ReportStated
+reported lodge report texts b k = report-stated (report (reached lodge texts) b k .answer)
 
 -- and the buffer then
 abbrev pub left : Lodging → Writing → List (List ℕ) → List ℕ → ℕ → List ℕ

@@ -11,7 +11,7 @@ use Rattle.model.specs.Tree.{number}
 use Rattle.docket.specs.declared.Docket.{Docket}
 use Rattle.docket.specs.declared.Lodged.{Lodged}
 use Rattle.docket.specs.Docket.{fresh-docket}
-use Rattle.answer.specs.Answers.{its-cost, its-bound, Stated, refused, held, passed, stated}
+use Rattle.answer.specs.StatedAnswers.{its-cost, its-bound, Stated, refused, held, passed, stated}
 use Rattle.docket.specs.Demand3.{answers-to}
 
 -- ---- texts written as their lines
@@ -128,12 +128,12 @@ specimens =
 
 -- ---- what is said of a pair
 
-abbrev pub last : {A : Type 0} → List A → Option A
-last [] = none
-last (x ∷ []) = some x
-last (x ∷ y ∷ l) = last (y ∷ l)
+abbrev pub last-of : {A : Type 0} → List A → Option A
+last-of [] = none
+last-of (x ∷ []) = some x
+last-of (x ∷ y ∷ l) = last-of (y ∷ l)
 
 -- lodged in turn from a fresh docket, the last of the texts gets this answer
 module _ (lodge : Docket → List ℕ → Lodged) where
   abbrev pub Answered : List (List ℕ) × Stated → Type 0
-  Answered x = last (map stated (answers-to lodge fresh-docket (x .0))) ≡ some (x .1)
+  Answered x = last-of (map stated (answers-to lodge fresh-docket (x .0))) ≡ some (x .1)

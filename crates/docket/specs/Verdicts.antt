@@ -4,7 +4,7 @@ use mathlib.Core.Option.{Option, none, some}
 use Prim.Native.Nat.{ℕ}
 use Rattle.model.specs.Instance.{Instance, Schedule}
 use Rattle.refusal.specs.declared.Refusal.{Refusal}
-use Rattle.tree.specs.Due.{Figures}
+use Rattle.tree.specs.Course.{Bounded}
 
 -- an accepted schedule
 pub record Costed : Type 0 where
@@ -17,7 +17,7 @@ pub data Verdict : Type 0 where
   refused : Refusal → Verdict
   problem : Instance → Verdict
   schedule : Costed → Verdict
-  tree : Figures → Verdict
+  tree : Bounded → Verdict
 
 -- the accepted schedules and the accepted trees, in order
 abbrev pub schedules : List Verdict → List Costed
@@ -27,7 +27,7 @@ schedules (problem P ∷ vs) = schedules vs
 schedules (schedule s ∷ vs) = s ∷ schedules vs
 schedules (tree F ∷ vs) = schedules vs
 
-abbrev pub trees : List Verdict → List Figures
+abbrev pub trees : List Verdict → List Bounded
 trees [] = []
 trees (refused r ∷ vs) = trees vs
 trees (problem P ∷ vs) = trees vs

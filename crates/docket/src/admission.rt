@@ -1,7 +1,7 @@
 // Whether a text comes to be judged by its lines.
 ghost use mathlib.Core.Path.{_≡_};
 ghost use Rattle.docket.specs.Lodging.{refuse-whole, admit-kind, admit};
-ghost use Rattle.docket.specs.Following.{screen};
+ghost use Rattle.docket.specs.HoldingAnswers.{screen};
 use refusal::Refusal;
 use text::Kind;
 

@@ -3,7 +3,7 @@ ghost use mathlib.Core.Path.{_≡_};
 ghost use mathlib.Core.Bool.{true};
 ghost use Prim.Native.Nat.{_<_};
 ghost use lib.IntN.{pos, _-ℤ_};
-ghost use Rattle.writer.specs.Written.{figureOf};
+ghost use Rattle.writer.specs.Written.{figure-of};
 ghost use Rattle.docket.specs.Docket.{small-number, small-cost, small-bound, size-limit};
 ghost use Rattle.docket.specs.Lodging.{trusted};
 ghost use Rattle.docket.specs.Report.{cost-shown, cost-writer-shown, bound-shown, bound-writer-shown, gap-shown, figures-of};
@@ -60,7 +60,7 @@ fn bound_writer_figure(bound: HeldBound) -> Figure
 // Cost minus value.
 fn difference_figure(cost: u64, value: i64) -> Figure
     requires { ⌜ (cost < size-limit) × (small-number value ≡ true) ⌝ }
-    ensures { λ r. ⌜ r ≡ figureOf (pos cost -ℤ value) ⌝ }
+    ensures { λ r. ⌜ r ≡ figure-of (pos cost -ℤ value) ⌝ }
 {
     let gap = cost as i64 - value;
     writer::figure_of(gap)

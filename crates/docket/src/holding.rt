@@ -2,7 +2,7 @@
 ghost use mathlib.Core.Path.{_≡_};
 ghost use Rattle.tree.specs.Coded.{bound-of};
 ghost use Rattle.docket.specs.Lodging.{is-less, is-higher, bound-by};
-ghost use Rattle.docket.specs.Following.{hold-problem, hold-rows, hold-schedule, hold-figures, hold-tree};
+ghost use Rattle.docket.specs.HoldingAnswers.{hold-problem, hold-rows, hold-schedule, hold-figures, hold-tree};
 use crate::Docket;
 use crate::Lodged;
 use crate::held::BoundBy;

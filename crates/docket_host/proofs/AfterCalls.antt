@@ -1,16 +1,15 @@
 -- The state after calls, whole: that of the docket after the texts that were heard, and behind it what the slices held before.
 use mathlib.Core.Path.{_≡_, refl, sym, ap, _∙_}
-use mathlib.Core.Bool.{Bool, true, false}
+use mathlib.Core.Bool.{Bool, true, false, cond}
 use mathlib.Core.List.{List, [], _∷_, _++_, append-nil, append-assoc}
 use Prim.Native.Nat.{ℕ}
 use lib.ListN.{length, take, drop}
 use lib.Seq.{take-at, drop-at}
 use Rattle.writer.specs.Written.{over}
-use Rattle.docket.specs.Lodging.{pick}
 use Rattle.docket.specs.Promised.{after}
 use Rattle.docket.proofs.Lists.{reached-sound}
 use Rattle.state.specs.Layout.{state-numbers}
-use Rattle.state.specs.Kept.{long, kept-numbers, kept-rows, State, kept, Holds}
+use Rattle.state.specs.Kept.{long, kept-numbers, kept-rows, State, docket-kept, HoldsDocket}
 use Rattle.state.proofs.ReachedFits.{reached-fits}
 use Rattle.state.proofs.Lodged.{numbers-long, kept-holds}
 use Rattle.state.proofs.KeptOver.{next-kept}
@@ -21,9 +20,9 @@ use Rattle.docket_host.proofs.Hosted.{called-is}
 
 module _ (v w : List ℕ) (r : long v w ≡ true) where
   abbrev here : List (List ℕ) → State
-  here texts = kept (after texts) v w
+  here texts = docket-kept (after texts) v w
 
-  here-holds : (texts : List (List ℕ)) → Holds (here texts) (after texts)
+  here-holds : (texts : List (List ℕ)) → HoldsDocket (here texts) (after texts)
   here-holds texts = kept-holds v w (after texts) r (reached-fits texts) (reached-sound texts)
 
   -- a call that is lent too little leaves the state
@@ -32,12 +31,12 @@ module _ (v w : List ℕ) (r : long v w ≡ true) where
       let t = lodge-short (s .numbers) (s .rows) (c .text) (c .line) (c .values) (rw e (never-both (long (s .numbers) (s .rows)))) in
       rw (← t .1 .0, ← t .1 .1 .0) refl
     where
-      never-both : (t : Bool) → pick t false false ≡ false
+      never-both : (t : Bool) → cond t false false ≡ false
       never-both true = refl
       never-both false = refl
 
   heard-one : (past : List (List ℕ)) (c : Lending) (cs : List Lending) → ((p : List (List ℕ)) → after-calls (here p) cs ≡ here (p ++ heard cs))
-      → (t : Bool) → lends (c .line) (c .values) ≡ t → after-calls (called (here past) c) cs ≡ here (past ++ pick t (c .text ∷ heard cs) (heard cs))
+      → (t : Bool) → lends (c .line) (c .values) ≡ t → after-calls (called (here past) c) cs ≡ here (past ++ cond t (c .text ∷ heard cs) (heard cs))
   heard-one past c cs more true e =
       ap (λ (s : State). after-calls s cs) (called-is (here past) (after past) (here-holds past) c e ∙ next-kept v w r past (c .text))
       ∙ more (past ++ (c .text ∷ []))
@@ -52,10 +51,10 @@ module _ (v w : List ℕ) (r : long v w ≡ true) where
   unfolding fresh-numbers fresh-rows
   begun-is = rw r refl
 
-  pub state-is : (cs : List Lending) → after-calls (fresh-state v w) cs ≡ kept (after (heard cs)) v w
+  pub state-is : (cs : List Lending) → after-calls (fresh-state v w) cs ≡ docket-kept (after (heard cs)) v w
   state-is cs = ap (λ (s : State). after-calls s cs) begun-is ∙ heard-from [] cs
 
-  pub holds-heard : (cs : List Lending) → Holds (after-calls (fresh-state v w) cs) (after (heard cs))
+  pub holds-heard : (cs : List Lending) → HoldsDocket (after-calls (fresh-state v w) cs) (after (heard cs))
   holds-heard cs = rw (state-is cs) (here-holds (heard cs))
 
   pub fresh-begins : fresh-answer v w ≡ 0

@@ -1,6 +1,6 @@
 -- What a call does, by what its parts gave: one law for each way through the code.
 use mathlib.Core.Path.{_≡_, refl, ap, _∙_}
-use mathlib.Core.Bool.{Bool, true, false}
+use mathlib.Core.Bool.{Bool, true, false, cond}
 use mathlib.Core.List.{List, []}
 use mathlib.Core.Logic.{_↔_}
 use Prim.Native.Nat.{ℕ, _≤_, _<_}
@@ -11,13 +11,13 @@ use lib.Seq.{paste}
 use borrow.Author.Tests.{ltb-false, leb-true, le-ltb, le-leb}
 use Rattle.numbers.proofs.Fronts.{front-more}
 use Rattle.writer.specs.Written.{over}
-use Rattle.answer.specs.Answers.{stated}
+use Rattle.answer.specs.StatedAnswers.{stated}
 use Rattle.answer.specs.AnswerLines.{answer-line}
 use Rattle.answer.specs.AnswerNumbers.{answer-numbers}
 use Rattle.docket.specs.declared.Docket.{Docket}
 use Rattle.docket.specs.declared.Lodged.{Lodged}
 use Rattle.docket.specs.declared.Reported.{Reported}
-use Rattle.docket.specs.Lodging.{pick, lodge-of}
+use Rattle.docket.specs.Lodging.{lodge-of}
 use Rattle.docket.specs.Report.{report-of, buffer-of}
 use Rattle.docket.specs.Demand3.{Unheld}
 use Rattle.list.proofs.AnswerSizes.{answer-fits}
@@ -28,7 +28,7 @@ use Rattle.state.proofs.Room.{clash, long-room}
 use Rattle.state.proofs.Opening.{holds-sound}
 use Rattle.state.proofs.Outputs.{outputs-few}
 use Rattle.state.proofs.Lodged as state
-use Rattle.docket_host.specs.HostAnswer.{too-small}
+use Rattle.docket_host.specs.HostAnswer.{too-little-room}
 use Rattle.docket_host.specs.Calls.{no-docket, guarded, fresh-answer, fresh-numbers, fresh-rows, lends, lodge-room, lodge-answer, lodge-numbers, lodge-rows, lodge-line, lodge-values, report-number, report-answer, report-bytes, outputs-room, outputs-answer, outputs-rows}
 
 -- ---- what a test of room says
@@ -37,7 +37,7 @@ module _ (line values : List ℕ) where
   lends-much : lends line values ≡ true → (128 ≤ length line) × (16 ≤ length values)
   lends-much e = go (ltb (length line) 128) refl e
     where
-      go : (t : Bool) → ltb (length line) 128 ≡ t → pick t false (leb 16 (length values)) ≡ true → (128 ≤ length line) × (16 ≤ length values)
+      go : (t : Bool) → ltb (length line) 128 ≡ t → cond t false (leb 16 (length values)) ≡ true → (128 ≤ length line) × (16 ≤ length values)
       go true h k = clash k
       go false h k = (ltb-false (length line) 128 h, leb-true 16 (length values) k)
 
@@ -47,7 +47,7 @@ module _ (line values : List ℕ) where
 pub lodge-lent : (v w line values : List ℕ) → lodge-room v w line values ≡ true → (long v w ≡ true) × ((128 ≤ length line) × (16 ≤ length values))
 lodge-lent v w line values e = go (long v w) refl e
   where
-    go : (t : Bool) → long v w ≡ t → pick t (lends line values) false ≡ true → (long v w ≡ true) × ((128 ≤ length line) × (16 ≤ length values))
+    go : (t : Bool) → long v w ≡ t → cond t (lends line values) false ≡ true → (long v w ≡ true) × ((128 ≤ length line) × (16 ≤ length values))
     go true h k = (h, lends-is line values .0 k)
     go false h k = clash k
 
@@ -55,7 +55,7 @@ module _ (v w o : List ℕ) where
   pub outputs-lent : outputs-room v w o ≡ true → (long v w ≡ true) × (1536 ≤ length o)
   outputs-lent e = go (long v w) refl e
     where
-      go : (t : Bool) → long v w ≡ t → pick t (leb 1536 (length o)) false ≡ true → (long v w ≡ true) × (1536 ≤ length o)
+      go : (t : Bool) → long v w ≡ t → cond t (leb 1536 (length o)) false ≡ true → (long v w ≡ true) × (1536 ≤ length o)
       go true h k = (h, leb-true 1536 (length o) k)
       go false h k = clash k
 
@@ -65,7 +65,7 @@ line-most v w text e = let r = long-room v w e .0 in answer-fits (docket-in v w)
 
 -- ---- a docket begun
 
-pub fresh-short : (v w : List ℕ) → long v w ≡ false → (too-small ≡ fresh-answer v w) × ((v ≡ fresh-numbers v w) × (w ≡ fresh-rows v w))
+pub fresh-short : (v w : List ℕ) → long v w ≡ false → (too-little-room ≡ fresh-answer v w) × ((v ≡ fresh-numbers v w) × (w ≡ fresh-rows v w))
 unfolding fresh-answer fresh-numbers fresh-rows
 fresh-short v w e = (rw e refl, (rw e refl, rw e refl))
 
@@ -82,7 +82,7 @@ module _ (v w text line values : List ℕ) where
   Lodges r v′ w′ line′ values′ = (r ≡ lodge-answer v w text line values) × ((v′ ≡ lodge-numbers v w text line values) × ((w′ ≡ lodge-rows v w text line values)
       × ((line′ ≡ lodge-line v w text line values) × (values′ ≡ lodge-values v w text line values))))
 
-  pub lodge-short : lodge-room v w line values ≡ false → Lodges too-small v w line values
+  pub lodge-short : lodge-room v w line values ≡ false → Lodges too-little-room v w line values
   unfolding lodge-answer lodge-numbers lodge-rows lodge-line lodge-values
   lodge-short e = (rw e refl, (rw e refl, (rw e refl, (rw e refl, rw e refl))))
 
@@ -132,7 +132,7 @@ module _ (v w b : List ℕ) (k : ℕ) where
   abbrev pub Tells : (r : ℕ) (b′ : List ℕ) → Type 0
   Tells r b′ = (r ≡ report-answer v w b k) × (b′ ≡ report-bytes v w b k)
 
-  pub report-short : long v w ≡ false → Tells too-small b
+  pub report-short : long v w ≡ false → Tells too-little-room b
   unfolding report-answer report-bytes
   report-short e = (rw e refl, rw e refl)
 
@@ -159,7 +159,7 @@ module _ (v w o : List ℕ) where
   abbrev pub Copies : (r : ℕ) (o′ : List ℕ) → Type 0
   Copies r o′ = (r ≡ outputs-answer v w o) × (o′ ≡ outputs-rows v w o)
 
-  pub outputs-short : outputs-room v w o ≡ false → Copies too-small o
+  pub outputs-short : outputs-room v w o ≡ false → Copies too-little-room o
   unfolding outputs-answer outputs-rows
   outputs-short e = (rw e refl, rw e refl)
 

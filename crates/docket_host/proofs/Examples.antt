@@ -3,7 +3,7 @@ use mathlib.Core.Path.{_≡_, refl}
 use mathlib.Core.Bool.{true, false}
 use Prim.Native.Nat.{_-_, _^_}
 use lib.ListN.{replicate}
-use Rattle.docket_host.specs.HostAnswer.{too-small}
+use Rattle.docket_host.specs.HostAnswer.{too-little-room}
 use Rattle.state.specs.Layout.{numbers-count, rows-count}
 use Rattle.docket_host.specs.Calls.{rules, no-docket, lodge-room, outputs-room}
 
@@ -30,5 +30,5 @@ the-sizes : (numbers-count ≡ 618) × ((rows-count ≡ 1536) × (rules ≡ 2))
 the-sizes = (refl, (refl, refl))
 
 -- SIZE_MAX and SIZE_MAX - 1
-the-numbers : (too-small ≡ 2 ^ 64 - 1) × (no-docket ≡ 2 ^ 64 - 2)
+the-numbers : (too-little-room ≡ 2 ^ 64 - 1) × (no-docket ≡ 2 ^ 64 - 2)
 the-numbers = (refl, refl)

@@ -4,16 +4,15 @@
 -- (crates/docket/proofs/Promises.antt), so that all of that page holds of them.
 use mathlib.Core.Path.{_≡_}
 use mathlib.Core.Bool.{true, false}
-use mathlib.Core.List.{List, []}
+use mathlib.Core.List.{List, [], flatten}
 use mathlib.Core.Logic.{_↔_, _⊎_}
 use mathlib.Core.Option.{none, some}
 use Prim.Native.Nat.{ℕ, _+_, _≤_, _<_}
 use lib.ListN.{length, take, drop}
 use Rattle.model.specs.Instance.{Instance, _at_}
 use Rattle.model.specs.Best.{FirstLeast}
-use Rattle.judge.specs.Rows.{joined}
 use Rattle.writer.specs.Written.{over}
-use Rattle.answer.specs.Answers.{Stated, stated}
+use Rattle.answer.specs.StatedAnswers.{Stated, stated}
 use Rattle.answer.specs.AnswerLines.{answer-line}
 use Rattle.answer.specs.AnswerNumbers.{answer-numbers}
 use Rattle.answer.proofs.NumbersTell as numbers
@@ -28,14 +27,14 @@ use Rattle.docket.specs.Demand3.{Unheld}
 use Rattle.docket.specs.ReportDue.{ReportDue}
 use Rattle.docket.specs.Promised.{after, answer, given}
 use Rattle.docket.proofs.Promises as promised
-use Rattle.state.specs.Layout.{numbers-count, rows-count, mark, docket-in}
-use Rattle.state.specs.Kept.{long, holds, kept-numbers, kept-rows, State, kept, Holds, outputs-of}
+use Rattle.state.specs.Layout.{numbers-count, rows-count, layout-mark, docket-in}
+use Rattle.state.specs.Kept.{long, holds, kept-numbers, kept-rows, State, docket-kept, HoldsDocket, outputs-of}
 use Rattle.state.proofs.Room as room
 use Rattle.state.proofs.Opening as opening
 use Rattle.state.proofs.Again as again
 use Rattle.state.proofs.ReachedFits as reached
 use Rattle.state.proofs.Outputs as held
-use Rattle.docket_host.specs.HostAnswer.{too-small, host-answer}
+use Rattle.docket_host.specs.HostAnswer.{too-little-room, host-answer}
 use Rattle.docket_host.specs.Calls.{no-docket, lends, lodge-room, fresh-answer, fresh-numbers, fresh-rows, lodge-answer, lodge-numbers, lodge-rows, lodge-line, lodge-values, report-answer, report-bytes, outputs-room, outputs-answer, outputs-rows}
 use Rattle.docket_host.specs.Lending.{Lending, heard, fresh-state, after-calls, HostReport}
 use Rattle.docket_host.proofs.Calls as call
@@ -72,7 +71,7 @@ calls-end = (rules-met.met, numbers-met.met, rows-met.met, fresh-met.met, lodge-
 pub room-is : (v w : List ℕ) → (long v w ≡ true) ↔ ((numbers-count ≤ length v) × (rows-count ≤ length w))
 room-is v w = (room.long-room v w, λ h. room.room-long v w (h .0) (h .1))
 
-pub holds-is : (v w : List ℕ) → (holds v w ≡ true) ↔ ((v at 0 ≡ mark) × (sound (docket-in v w) ≡ true))
+pub holds-is : (v w : List ℕ) → (holds v w ≡ true) ↔ ((v at 0 ≡ layout-mark) × (sound (docket-in v w) ≡ true))
 holds-is = opening.holds-is
 
 -- A call of `docket_lodge` is lent enough for its answer exactly in 128 bytes for a line and 16 values
@@ -81,11 +80,11 @@ lends-is = call.lends-is
 
 -- ---- Of any slices: with too little room, or where the state holds no docket, a call says so and leaves all
 
-pub fresh-short : (v w : List ℕ) → long v w ≡ false → (too-small ≡ fresh-answer v w) × ((v ≡ fresh-numbers v w) × (w ≡ fresh-rows v w))
+pub fresh-short : (v w : List ℕ) → long v w ≡ false → (too-little-room ≡ fresh-answer v w) × ((v ≡ fresh-numbers v w) × (w ≡ fresh-rows v w))
 fresh-short = call.fresh-short
 
 pub lodge-short : (v w text line values : List ℕ) → lodge-room v w line values ≡ false
-    → (too-small ≡ lodge-answer v w text line values) × ((v ≡ lodge-numbers v w text line values) × ((w ≡ lodge-rows v w text line values)
+    → (too-little-room ≡ lodge-answer v w text line values) × ((v ≡ lodge-numbers v w text line values) × ((w ≡ lodge-rows v w text line values)
     × ((line ≡ lodge-line v w text line values) × (values ≡ lodge-values v w text line values))))
 lodge-short = call.lodge-short
 
@@ -94,10 +93,10 @@ pub lodge-none : (v w text line values : List ℕ) → lodge-room v w line value
     × ((line ≡ lodge-line v w text line values) × (values ≡ lodge-values v w text line values))))
 lodge-none = call.lodge-none
 
-pub report-short : (v w b : List ℕ) (k : ℕ) → long v w ≡ false → (too-small ≡ report-answer v w b k) × (b ≡ report-bytes v w b k)
+pub report-short : (v w b : List ℕ) (k : ℕ) → long v w ≡ false → (too-little-room ≡ report-answer v w b k) × (b ≡ report-bytes v w b k)
 report-short = call.report-short
 
-pub outputs-short : (v w o : List ℕ) → outputs-room v w o ≡ false → (too-small ≡ outputs-answer v w o) × (o ≡ outputs-rows v w o)
+pub outputs-short : (v w o : List ℕ) → outputs-room v w o ≡ false → (too-little-room ≡ outputs-answer v w o) × (o ≡ outputs-rows v w o)
 outputs-short = call.outputs-short
 
 pub report-none : (v w b : List ℕ) (k : ℕ) → long v w ≡ true → holds v w ≡ false → (no-docket ≡ report-answer v w b k) × (b ≡ report-bytes v w b k)
@@ -145,10 +144,10 @@ module _ (v w : List ℕ) (room : long v w ≡ true) (calls : List Lending) wher
   begun = state.fresh-begins v w room
 
   -- the state holds the docket after the texts, and is nothing but that docket's: its numbers and rows, and behind them what the slices held
-  pub state-holds : Holds s (after texts)
+  pub state-holds : HoldsDocket s (after texts)
   state-holds = state.holds-heard v w room calls
 
-  pub state-is : s ≡ kept (after texts) v w
+  pub state-is : s ≡ docket-kept (after texts) v w
   state-is = state.state-is v w room calls
 
   pub rest-stays : (drop numbers-count (s .numbers) ≡ drop numbers-count v) × (drop rows-count (s .rows) ≡ drop rows-count w)
@@ -177,7 +176,7 @@ module _ (v w : List ℕ) (room : long v w ≡ true) (calls : List Lending) wher
   outputs-told = hosted.outputs-told s texts state-holds
 
   -- A report's length is at most 171, or too little room is said; in 256 bytes there is room
-  pub report-length : (b : List ℕ) (k : ℕ) → (report-answer (s .numbers) (s .rows) b k ≤ 171) ⊎ (report-answer (s .numbers) (s .rows) b k ≡ too-small)
+  pub report-length : (b : List ℕ) (k : ℕ) → (report-answer (s .numbers) (s .rows) b k ≤ 171) ⊎ (report-answer (s .numbers) (s .rows) b k ≡ too-little-room)
   report-length = hosted.report-length s texts state-holds
 
   pub report-fits : (b : List ℕ) (k : ℕ) → k + 256 ≤ length b → report-answer (s .numbers) (s .rows) b k ≤ 171
@@ -195,17 +194,17 @@ module _ (v w : List ℕ) (room : long v w ≡ true) (calls : List Lending) wher
     no-outputs e = held.no-outputs (after texts) (promised.schedule-or-none texts vs are .1 e)
 
     pub held-outputs : (P : Instance) → given vs ≡ some P → (by : CostBy) → after texts .held .cost ≡ cost.Number by
-        → (x : Costed) × FirstLeast (λ x. x .cost) x (schedules vs) × (outputs-of (after texts) ≡ joined (x .rows))
+        → (x : Costed) × FirstLeast (λ x. x .cost) x (schedules vs) × (outputs-of (after texts) ≡ flatten (x .rows))
     held-outputs = held.outputs-after texts vs are
 
 -- ---- The listing: its length, which is never the number for too little room; or that number
 
 module _ (input output : List ℕ) where
-  pub listing-short : length output < 1048576 → host-answer (listed-of input output) ≡ too-small
+  pub listing-short : length output < 1048576 → host-answer (listed-of input output) ≡ too-little-room
   listing-short = host.small-refused input output
 
   pub listing-length : 1048576 ≤ length output → host-answer (listed-of input output) ≡ length (listing-text input)
   listing-length = host.large-written input output
 
-  pub listing-apart : 1048576 ≤ length output → host-answer (listed-of input output) < too-small
+  pub listing-apart : 1048576 ≤ length output → host-answer (listed-of input output) < too-little-room
   listing-apart = host.told-apart input output

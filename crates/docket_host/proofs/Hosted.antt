@@ -1,6 +1,6 @@
 -- What calls on a state that holds a docket give: its answers, its reports, its outputs.
 use mathlib.Core.Path.{_≡_, refl, sym, ap, _∙_}
-use mathlib.Core.Bool.{Bool, true, false}
+use mathlib.Core.Bool.{Bool, true, false, cond}
 use mathlib.Core.List.{List}
 use mathlib.Core.Logic.{_⊎_, inl, inr}
 use mathlib.Core.Option.{none}
@@ -9,36 +9,36 @@ use native.Mathlib.Omega.{arith}
 use lib.ListN.{length}
 use borrow.Author.Tests.{le-leb}
 use Rattle.writer.specs.Written.{over}
-use Rattle.answer.specs.Answers.{stated}
+use Rattle.answer.specs.StatedAnswers.{stated}
 use Rattle.answer.specs.AnswerLines.{answer-line}
 use Rattle.answer.specs.AnswerNumbers.{answer-numbers}
 use Rattle.report.specs.declared.ReportAnswer.{ReportAnswer}
 use Rattle.report.specs.declared.ReportAnswer.the-variants as report
-use Rattle.report.specs.Answers as told
+use Rattle.report.specs.StatedReports as told
 use Rattle.report.specs.Report.{has-room, written-at}
 use Rattle.refusal.specs.declared.Refusal.{Refusal}
-use Rattle.refusal.specs.Refusals.{refusalOf}
+use Rattle.refusal.specs.Refusals.{refusal-of}
 use Rattle.docket.specs.declared.Docket.{Docket}
 use Rattle.docket.specs.Verdicts.{Verdict}
 use Rattle.docket.specs.Texts.{Are}
-use Rattle.docket.specs.Lodging.{pick, lodge-of}
+use Rattle.docket.specs.Lodging.{lodge-of}
 use Rattle.docket.specs.Report.{text-shown, report-of, buffer-of}
-use Rattle.docket.specs.ReportDue.{Outcome, ReportDue}
+use Rattle.docket.specs.ReportDue.{WrittenOr43, ReportDue}
 use Rattle.docket.specs.Promised.{after, answer}
 use Rattle.docket.proofs.Lists.{reached-sound}
 use Rattle.docket.proofs.ReportSizes.{reached-most}
 use Rattle.docket.proofs.Promises.{reports}
-use Rattle.state.specs.Kept.{State, state-next, Holds, outputs-count, outputs-of}
+use Rattle.state.specs.Kept.{State, state-next, HoldsDocket, outputs-count, outputs-of}
 use Rattle.state.proofs.ReachedFits.{reached-fits}
 use Rattle.state.proofs.Outputs.{outputs-long}
-use Rattle.docket_host.specs.HostAnswer.{too-small}
+use Rattle.docket_host.specs.HostAnswer.{too-little-room}
 use Rattle.docket_host.specs.Calls.{lends, lodge-room, lodge-answer, lodge-line, lodge-values, report-number, report-answer, report-bytes, outputs-room, outputs-answer, outputs-rows}
 use Rattle.docket_host.specs.Lending.{Lending, called, HostReport}
 use Rattle.docket_host.proofs.Calls.{lodge-by, report-by, outputs-by}
 
 -- ---- one call
 
-module _ (s : State) (d : Docket) (h : Holds s d) (c : Lending) (e : lends (c .line) (c .values) ≡ true) where
+module _ (s : State) (d : Docket) (h : HoldsDocket s d) (c : Lending) (e : lends (c .line) (c .values) ≡ true) where
   room-is : lodge-room (s .numbers) (s .rows) (c .line) (c .values) ≡ true
   room-is = rw (h .room, e) refl
 
@@ -67,19 +67,19 @@ module _ (s : State) (d : Docket) (h : Holds s d) (c : Lending) (e : lends (c .l
 -- ---- a report
 
 -- what a report's answer states, as one number
-abbrev number-told : told.Stated → ℕ
-number-told (told.refused n l u t) = too-small
+abbrev number-told : told.ReportStated → ℕ
+number-told (told.refused n l u t) = too-little-room
 number-told (told.its-length n) = n
 
-number-is : (a : ReportAnswer) → report-number a ≡ number-told (told.stated a)
+number-is : (a : ReportAnswer) → report-number a ≡ number-told (told.report-stated a)
 number-is (report.Refused r) = refl
 number-is (report.Written n) = refl
 
-reported : (lines b : List ℕ) (k : ℕ) (a : ReportAnswer) (b′ : List ℕ) → Outcome lines b k (told.stated a) b′ → HostReport lines b k (report-number a) b′
+reported : (lines b : List ℕ) (k : ℕ) (a : ReportAnswer) (b′ : List ℕ) → WrittenOr43 lines b k (told.report-stated a) b′ → HostReport lines b k (report-number a) b′
 reported lines b k a b′ (inl p) = inl (p .room, number-is a ∙ ap number-told (p .answer-is), p .buffer-is)
 reported lines b k a b′ (inr p) = inr (p .no-room, number-is a ∙ ap number-told (p .answer-is), p .buffer-is)
 
-module _ (s : State) (texts : List (List ℕ)) (h : Holds s (after texts)) (vs : List Verdict) (are : Are none texts vs) (b : List ℕ) (k : ℕ) where
+module _ (s : State) (texts : List (List ℕ)) (h : HoldsDocket s (after texts)) (vs : List Verdict) (are : Are none texts vs) (b : List ℕ) (k : ℕ) where
   pub report-due : (lines : List ℕ) × ReportDue vs lines × HostReport lines b k (report-answer (s .numbers) (s .rows) b k) (report-bytes (s .numbers) (s .rows) b k)
   report-due =
       let r = reports texts vs are b k in
@@ -89,7 +89,7 @@ module _ (s : State) (texts : List (List ℕ)) (h : Holds s (after texts)) (vs :
       (r .lines, r .lines-due, rw (← x, ← y) (reported (r .lines) b k (report-of (after texts) b k .answer) (buffer-of (after texts) b k) (r .outcome)))
 
 -- every report fits 256 bytes
-module _ (s : State) (texts : List (List ℕ)) (h : Holds s (after texts)) (b : List ℕ) (k : ℕ) where
+module _ (s : State) (texts : List (List ℕ)) (h : HoldsDocket s (after texts)) (b : List ℕ) (k : ℕ) where
   shown-there : k + 256 ≤ length b → report-number (report-of (after texts) b k .answer) ≡ length (text-shown (after texts))
   unfolding report-of written-at
   shown-there room = rw (le-leb (k + length (text-shown (after texts))) (length b) (omega (arith, reached-most texts, room))) refl
@@ -101,19 +101,19 @@ module _ (s : State) (texts : List (List ℕ)) (h : Holds s (after texts)) (b : 
 
   -- its length is at most 171, or it is refused
   most-by : (t : Bool) (r : Refusal) (n : ℕ) → n ≤ 171
-      → (report-number (pick t (report.Written n) (report.Refused r)) ≤ 171) ⊎ (report-number (pick t (report.Written n) (report.Refused r)) ≡ too-small)
+      → (report-number (cond t (report.Written n) (report.Refused r)) ≤ 171) ⊎ (report-number (cond t (report.Written n) (report.Refused r)) ≡ too-little-room)
   most-by true r n h = inl h
   most-by false r n h = inr refl
 
-  pub report-length : (report-answer (s .numbers) (s .rows) b k ≤ 171) ⊎ (report-answer (s .numbers) (s .rows) b k ≡ too-small)
+  pub report-length : (report-answer (s .numbers) (s .rows) b k ≤ 171) ⊎ (report-answer (s .numbers) (s .rows) b k ≡ too-little-room)
   unfolding report-of written-at
   report-length =
       let t = report-by (s .numbers) (s .rows) b k (h .room) (h .is) .0 in
-      rw (← t, h .docket-is) (most-by (has-room b k (text-shown (after texts))) (refusalOf 43 0 0 0) (length (text-shown (after texts))) (reached-most texts))
+      rw (← t, h .docket-is) (most-by (has-room b k (text-shown (after texts))) (refusal-of 43 0 0 0) (length (text-shown (after texts))) (reached-most texts))
 
 -- ---- the outputs
 
-module _ (s : State) (texts : List (List ℕ)) (h : Holds s (after texts)) (o : List ℕ) (room : 1536 ≤ length o) where
+module _ (s : State) (texts : List (List ℕ)) (h : HoldsDocket s (after texts)) (o : List ℕ) (room : 1536 ≤ length o) where
   outputs-room-is : outputs-room (s .numbers) (s .rows) o ≡ true
   outputs-room-is = rw (h .room, le-leb 1536 (length o) room) refl
 

@@ -1,22 +1,22 @@
 -- What the calls on an open docket answer, and what every slice that they are lent then holds. v and w are the two slices of its state.
-use mathlib.Core.Bool.{Bool, false}
+use mathlib.Core.Bool.{Bool, false, cond}
 use mathlib.Core.List.{List}
 use Prim.Native.Nat.{ℕ}
 use lib.Dec.{ltb, leb}
 use lib.ListN.{length}
 use Rattle.writer.specs.Written.{over}
-use Rattle.answer.specs.Answers.{Stated, stated}
+use Rattle.answer.specs.StatedAnswers.{Stated, stated}
 use Rattle.answer.specs.AnswerLines.{answer-line}
 use Rattle.answer.specs.AnswerNumbers.{answer-numbers}
 use Rattle.report.specs.declared.ReportAnswer.{ReportAnswer}
 use Rattle.report.specs.declared.ReportAnswer.the-variants as report
 use Rattle.docket.specs.declared.Lodged.{Lodged}
 use Rattle.docket.specs.Docket.{fresh-docket}
-use Rattle.docket.specs.Lodging.{pick, lodge-of}
+use Rattle.docket.specs.Lodging.{lodge-of}
 use Rattle.docket.specs.Report.{report-of, buffer-of}
 use Rattle.state.specs.Layout.{docket-in}
 use Rattle.state.specs.Kept.{long, holds, kept-numbers, kept-rows, lodged-numbers, lodged-rows, outputs-count, outputs-of}
-use Rattle.docket_host.specs.HostAnswer.{too-small}
+use Rattle.docket_host.specs.HostAnswer.{too-little-room}
 
 -- the number of the rules by which texts are judged: it goes up where some text gets another answer
 abbrev pub rules : ℕ
@@ -28,32 +28,32 @@ no-docket = 18446744073709551614
 
 -- what a call gives: by whether it was lent enough, and whether the state holds a docket
 abbrev pub guarded : {A : Type 0} → Bool → Bool → A → A → A → A
-guarded room is short none done = pick room (pick is done none) short
+guarded room is short none done = cond room (cond is done none) short
 
 -- ---- a docket begun
 
 unfoldable pub fresh-answer : List ℕ → List ℕ → ℕ
-fresh-answer v w = pick (long v w) 0 too-small
+fresh-answer v w = cond (long v w) 0 too-little-room
 
 unfoldable pub fresh-numbers : List ℕ → List ℕ → List ℕ
-fresh-numbers v w = pick (long v w) (kept-numbers fresh-docket v) v
+fresh-numbers v w = cond (long v w) (kept-numbers fresh-docket v) v
 
 unfoldable pub fresh-rows : List ℕ → List ℕ → List ℕ
-fresh-rows v w = pick (long v w) (kept-rows fresh-docket w) w
+fresh-rows v w = cond (long v w) (kept-rows fresh-docket w) w
 
 -- ---- a text lodged: the line of its answer and its values, each at the front of what is lent
 
 -- 128 bytes for a line and 16 values
 abbrev pub lends : List ℕ → List ℕ → Bool
-lends line values = pick (ltb (length line) 128) false (leb 16 (length values))
+lends line values = cond (ltb (length line) 128) false (leb 16 (length values))
 
 -- and room for a state
 abbrev pub lodge-room : List ℕ → List ℕ → List ℕ → List ℕ → Bool
-lodge-room v w line values = pick (long v w) (lends line values) false
+lodge-room v w line values = cond (long v w) (lends line values) false
 
 module _ (v w text line values : List ℕ) where
-  abbrev pub lodged : Lodged
-  lodged = lodge-of (docket-in v w) text
+  abbrev pub lodged-there : Lodged
+  lodged-there = lodge-of (docket-in v w) text
 
   abbrev pub answer-there : Stated
   answer-there = stated (lodge-of (docket-in v w) text .answer)
@@ -62,13 +62,13 @@ module _ (v w text line values : List ℕ) where
   lodging short none done = guarded (lodge-room v w line values) (holds v w) short none done
 
   unfoldable pub lodge-answer : ℕ
-  lodge-answer = lodging too-small no-docket (length (answer-line answer-there))
+  lodge-answer = lodging too-little-room no-docket (length (answer-line answer-there))
 
   unfoldable pub lodge-numbers : List ℕ
-  lodge-numbers = lodging v v (lodged-numbers lodged v)
+  lodge-numbers = lodging v v (lodged-numbers lodged-there v)
 
   unfoldable pub lodge-rows : List ℕ
-  lodge-rows = lodging w w (lodged-rows lodged w)
+  lodge-rows = lodging w w (lodged-rows lodged-there w)
 
   unfoldable pub lodge-line : List ℕ
   lodge-line = lodging line line (over (answer-line answer-there) line)
@@ -79,11 +79,11 @@ module _ (v w text line values : List ℕ) where
 -- ---- a report: too little room is 43
 
 abbrev pub report-number : ReportAnswer → ℕ
-report-number (report.Refused r) = too-small
+report-number (report.Refused r) = too-little-room
 report-number (report.Written n) = n
 
 unfoldable pub report-answer : List ℕ → List ℕ → List ℕ → ℕ → ℕ
-report-answer v w b k = guarded (long v w) (holds v w) too-small no-docket (report-number (report-of (docket-in v w) b k .answer))
+report-answer v w b k = guarded (long v w) (holds v w) too-little-room no-docket (report-number (report-of (docket-in v w) b k .answer))
 
 unfoldable pub report-bytes : List ℕ → List ℕ → List ℕ → ℕ → List ℕ
 report-bytes v w b k = guarded (long v w) (holds v w) b b (buffer-of (docket-in v w) b k)
@@ -91,10 +91,10 @@ report-bytes v w b k = guarded (long v w) (holds v w) b b (buffer-of (docket-in 
 -- ---- the outputs of the held schedule: room for 1,536 is asked for, whatever is held
 
 abbrev pub outputs-room : List ℕ → List ℕ → List ℕ → Bool
-outputs-room v w o = pick (long v w) (leb 1536 (length o)) false
+outputs-room v w o = cond (long v w) (leb 1536 (length o)) false
 
 unfoldable pub outputs-answer : List ℕ → List ℕ → List ℕ → ℕ
-outputs-answer v w o = guarded (outputs-room v w o) (holds v w) too-small no-docket (outputs-count (docket-in v w))
+outputs-answer v w o = guarded (outputs-room v w o) (holds v w) too-little-room no-docket (outputs-count (docket-in v w))
 
 unfoldable pub outputs-rows : List ℕ → List ℕ → List ℕ → List ℕ
 outputs-rows v w o = guarded (outputs-room v w o) (holds v w) o o (over (outputs-of (docket-in v w)) o)

@@ -4,10 +4,10 @@ use Rattle.list.specs.declared.Listed.{Listed}
 use Rattle.list.specs.declared.Listed.the-variants.{TooSmall, Written}
 
 -- too little room: the largest number of 64 bits, which no listing is as long as
-abbrev pub too-small : ℕ
-too-small = 18446744073709551615
+abbrev pub too-little-room : ℕ
+too-little-room = 18446744073709551615
 
 -- the length written, or the number that refuses the output
 abbrev pub host-answer : Listed → ℕ
-host-answer TooSmall = too-small
+host-answer TooSmall = too-little-room
 host-answer (Written n) = n

@@ -1,4 +1,4 @@
 -- Laws that the proofs of the functions cite.
 pub mod Parting
-pub mod Reading
+pub mod OrderNumbers
 pub mod Copies

@@ -5,8 +5,8 @@ use lib.ListN.{take, drop}
 use Rattle.bytes.specs.Bytes.{indexOf}
 
 -- the first word
-abbrev pub first-of : List ℕ → List ℕ
-first-of s = take (indexOf 32 s) s
+abbrev pub first-word : List ℕ → List ℕ
+first-word s = take (indexOf 32 s) s
 
 -- what follows it and a space
 abbrev pub rest-of : List ℕ → List ℕ

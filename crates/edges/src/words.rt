@@ -5,9 +5,9 @@ ghost use Prim.Native.Nat.{_+_, _-_, _*_, _≤_};
 ghost use lib.Dec.{ltb};
 ghost use lib.ListN.{length};
 ghost use Rattle.bytes.specs.Bytes.{indexOf};
-ghost use Rattle.decimal.specs.Decimal.{isDigit, canonical};
-ghost use Rattle.edges.specs.Words.{first-of, rest-of};
-ghost use Rattle.edges.specs.Numbers.{limit, value-of, number-of};
+ghost use Rattle.decimal.specs.Decimal.{is-digit, canonical};
+ghost use Rattle.edges.specs.Words.{first-word, rest-of};
+ghost use Rattle.edges.specs.Numbers.{limit, value-below, number-below};
 
 // No number, or its value.
 pub enum Numeral {
@@ -25,7 +25,7 @@ fn space(s: &[u8]) -> usize
 
 // The first word.
 pub fn first(s: &[u8]) -> &[u8]
-    ensures { λ r. ⌜ now r ≡ first-of (now (s .entry)) ⌝ }
+    ensures { λ r. ⌜ now r ≡ first-word (now (s .entry)) ⌝ }
 {
     let n = space(s);
     &s[..n]
@@ -53,7 +53,7 @@ pub fn after(s: &[u8], from: usize) -> &[u8] {
 
 // Whether the byte is a digit that can follow digits of this value, so that the value fits 64 bits.
 fn fits(v: u64, b: u8) -> bool
-    ensures { λ r. ⌜ r ≡ (isDigit b && ltb (v * 10 + (b - 48)) limit) ⌝ }
+    ensures { λ r. ⌜ r ≡ (is-digit b && ltb (v * 10 + (b - 48)) limit) ⌝ }
 {
     if b < 48 {
         return false;
@@ -82,7 +82,7 @@ fn is_canonical(s: &[u8]) -> bool
 
 // The value of the digits that s is, where it fits 64 bits.
 fn value(s: &[u8]) -> Numeral
-    ensures { λ r. ⌜ r ≡ value-of (now (s .entry)) ⌝ }
+    ensures { λ r. ⌜ r ≡ value-below (now (s .entry)) ⌝ }
 {
     let mut v: u64 = 0;
     let mut i = 0;
@@ -100,7 +100,7 @@ fn value(s: &[u8]) -> Numeral
 
 // The number that s is, where it fits 64 bits.
 pub fn number(s: &[u8]) -> Numeral
-    ensures { λ r. ⌜ r ≡ number-of (now (s .entry)) ⌝ }
+    ensures { λ r. ⌜ r ≡ number-below (now (s .entry)) ⌝ }
 {
     if is_canonical(s) {
         return value(s);

@@ -16,10 +16,10 @@ use Rattle.model.proofs.BoundExamples.{example-well-formed}
 use Rattle.judge.specs.declared.Judgement.{Judgement}
 use Rattle.judge.specs.declared.Judgement.the-variants.{Costs}
 use Rattle.judge.specs.Rows.{Fitting}
-use Rattle.judge.specs.Judgement.{named, judgement}
+use Rattle.judge.specs.Judgement.{breaks-at, judgement}
 
 abbrev breach : ℕ → ℕ → ℕ → Judgement
-breach k u t = named k (record { unit = u; period = t })
+breach k u t = breaks-at k (record { unit = u; period = t })
 
 -- two that break nothing, a rise of 31, 1 short of D, 1 below pL
 specimens : map (judgement example) (

@@ -13,5 +13,5 @@ pub mod Fuel
 pub mod Walk
 pub mod CostSize
 pub mod Tallied
-pub mod Answers
+pub mod RuleByRule
 pub mod Examples

@@ -14,7 +14,7 @@ use Rattle.model.specs.Instance.{Schedule}
 use Rattle.model.specs.Held.{blank-generator}
 use Rattle.model.specs.Breach.{first-unit, first-place}
 use Rattle.judge.specs.Rows.{schedule-of, Fitting}
-use Rattle.judge.proofs.Rows.{cut-long, cut-at}
+use Rattle.judge.proofs.Rows.{cut-long, cut-rows-at}
 use Rattle.judge.proofs.Units.{unit, part, units-long}
 
 -- ---- over the units of a period
@@ -66,7 +66,7 @@ module _ (q : ℕ → Generator → List ℕ → Bool) (p : Problem) (l : List �
     -- unit and row j, in the lists of the definition
     same : (t j : ℕ) → j < p .units
         → q t (getD (take (p .units) (p .generators)) j blank-generator) (getD (schedule-of p l) j []) ≡ q t (unit p j) (part p l j)
-    same t j h = rw (getD-take (p .units) (p .generators) j blank-generator h, cut-at (p .units) (p .periods) l j h) refl
+    same t j h = rw (getD-take (p .units) (p .generators) j blank-generator h, cut-rows-at (p .units) (p .periods) l j h) refl
 
     pub period-clear : (t : ℕ) → Passed t (p .units) → first-in t ≡ none
     period-clear t before =

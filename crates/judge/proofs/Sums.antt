@@ -15,7 +15,7 @@ use Rattle.model.specs.Rules.{on, if-on, output, capacity}
 use Rattle.model.specs.Cost.{row-cost, cost}
 use Rattle.model.proofs.PeriodSums.{sum-eq, sum-more}
 use Rattle.judge.specs.Rows.{schedule-of, Fitting}
-use Rattle.judge.proofs.Rows.{cut-long, cut-at}
+use Rattle.judge.proofs.Rows.{cut-long, cut-rows-at}
 use Rattle.judge.proofs.Units.{unit, part, units-long, part-at}
 
 -- one more, as a loop counts
@@ -43,7 +43,7 @@ module _ (p : Problem) (l : List ℕ) (F : Fitting p l) (many : length (p .gener
       let s = schedule-of p l in
       sum-units-at f blank-generator gs s (cut-long (p .units) (p .periods) l ∙ sym e)
       ∙ ap (λ (n : ℕ). sum n (λ i. f (getD gs i blank-generator) (getD s i []))) e
-      ∙ sum-eq (p .units) _ _ (λ i h. ap₂ f (getD-take (p .units) (p .generators) i blank-generator h) (cut-at (p .units) (p .periods) l i h))
+      ∙ sum-eq (p .units) _ _ (λ i h. ap₂ f (getD-take (p .units) (p .generators) i blank-generator h) (cut-rows-at (p .units) (p .periods) l i h))
 
   -- (2) and (3), over the whole list
   pub outputs-are : (t : ℕ) → t < p .periods

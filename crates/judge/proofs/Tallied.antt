@@ -8,7 +8,7 @@ use Rattle.model.specs.Held.{view}
 use Rattle.judge.specs.declared.breach.Rule.{Rule}
 use Rattle.judge.specs.declared.place.Found.the-variants.{Nothing}
 use Rattle.judge.specs.declared.tallies.Tallies.{Tallies}
-use Rattle.judge.specs.Judgement.{found}
+use Rattle.judge.specs.Judgement.{place-found}
 use Rattle.judge.specs.Rows.{schedule-of, Fitting}
 use Rattle.judge.specs.Counts.{all-breaches}
 use Rattle.judge.specs.Rule.{broken-by, place-of}
@@ -22,6 +22,6 @@ pub tallies-same : {a a′ b b′ c c′ d d′ : ℕ} → a ≡ a′ → b ≡ 
 tallies-same p q u v = cc
 
 module _ (p : Problem) (l : List ℕ) (F : Fitting p l) (many : length (p .generators) ≡ 32) where
-  pub none-broken : (rule : Rule) → all-breaches (broken-by rule) p l (p .units) ≡ 0 → found (place-of rule (view p) (schedule-of p l)) ≡ Nothing
+  pub none-broken : (rule : Rule) → all-breaches (broken-by rule) p l (p .units) ≡ 0 → place-found (place-of rule (view p) (schedule-of p l)) ≡ Nothing
   unfolding view
-  none-broken rule e = ap found (none-found (broken-by rule) p l F many e)
+  none-broken rule e = ap place-found (none-found (broken-by rule) p l F many e)

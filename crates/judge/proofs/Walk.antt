@@ -16,7 +16,7 @@ use Rattle.model.proofs.WalkSizes.{switch-cost-fits}
 use Rattle.judge.specs.declared.tallies.Walk.{Walk}
 use Rattle.judge.specs.Before.{status-before, spent-before}
 use Rattle.judge.specs.Counts.{bit, barred}
-use Rattle.judge.specs.Walk.{passed, Room, switch-in, walk-to}
+use Rattle.judge.specs.Walk.{one-further, Room, switch-in, walk-to}
 use Rattle.judge.proofs.Sums.{sum-next}
 use Rattle.judge.proofs.Counts.{breaches-most}
 use Rattle.judge.proofs.Before.{status-next, spent-next, permitted-by}
@@ -35,7 +35,7 @@ module _ (g : Generator) (r : List ℕ) where
     counted : bit (not (permits g (walk-to g r t .on) (walk-to g r t .spent) (on (r at t)))) ≡ bit (barred t g r)
     counted = ap (λ (b : Bool). bit (not b)) (sym (permitted-by g (g .on) (g .since) r t h)) ∙ ap bit (Bool·not-not (barred t g r))
 
-    pub walk-next : passed g (walk-to g r t) (on (r at t)) ≡ walk-to g r (t + 1)
+    pub walk-next : one-further g (walk-to g r t) (on (r at t)) ≡ walk-to g r (t + 1)
     walk-next =
         walk-same
         (rw (add-one t) (sym (status-next (g .on) r t h)))

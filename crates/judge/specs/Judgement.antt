@@ -12,18 +12,18 @@ use Rattle.judge.specs.declared.place.Found.{Found}
 use Rattle.judge.specs.declared.place.Found.the-variants.{Nothing, At}
 
 -- the answer for a first place, if there is one
-abbrev pub found : Option (breach.Place) → Found
-found none = Nothing
-found (some x) = At (record { unit = x .unit; period = x .period })
+abbrev pub place-found : Option (breach.Place) → Found
+place-found none = Nothing
+place-found (some x) = At (record { unit = x .unit; period = x .period })
 
 -- the judgement that the rule with a number is broken at a place
-abbrev pub named : ℕ → Place → Judgement
-named k x = Breaks (record { number = k; place = x })
+abbrev pub breaks-at : ℕ → Place → Judgement
+breaks-at k x = Breaks (record { number = k; place = x })
 
 -- the rule that is broken, or else the cost
-abbrev pub judged : Option Breach → ℕ → Judgement
-judged none c = Costs c
-judged (some b) c = named (b .number) (record { unit = b .unit; period = b .period })
+abbrev pub breach-or-cost : Option Breach → ℕ → Judgement
+breach-or-cost none c = Costs c
+breach-or-cost (some b) c = breaks-at (b .number) (record { unit = b .unit; period = b .period })
 
 unfoldable pub judgement : Instance → Schedule → Judgement
-judgement P s = judged (first-breach P s) (cost P s)
+judgement P s = breach-or-cost (first-breach P s) (cost P s)

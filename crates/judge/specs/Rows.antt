@@ -17,11 +17,6 @@ cut-rows (suc k) n l = take n l ∷ cut-rows k n (drop n l)
 abbrev pub schedule-of : Problem → List ℕ → Schedule
 schedule-of p l = cut-rows (p .units) (p .periods) l
 
--- and back: the rows one after the other
-unfoldable pub joined : Schedule → List ℕ
-joined [] = []
-joined (r ∷ s) = r ++ joined s
-
 -- the arrays hold a well-formed problem, and the list has a row of outputs in range for each of its units
 pub record Fitting (p : Problem) (l : List ℕ) : Type 0 where
   pub valid : Valid p

@@ -11,8 +11,8 @@ use Rattle.judge.specs.Before.{status-before, spent-before}
 use Rattle.judge.specs.Counts.{bit, barred, breaches}
 
 -- one status further
-abbrev pub passed : Generator → Walk → Bool → Walk
-passed g w d = record {
+abbrev pub one-further : Generator → Walk → Bool → Walk
+one-further g w d = record {
   on = d;
   spent = spent (w .on) (w .spent) d;
   barred = w .barred + bit (not (permits g (w .on) (w .spent) d));

@@ -4,7 +4,7 @@ ghost use Prim.Native.Nat.{_<_, _≤_};
 ghost use lib.ListN.{length};
 ghost use Rattle.model.specs.Held.{view};
 ghost use Rattle.model.specs.Ranges.{GoodUnit};
-ghost use Rattle.judge.specs.Judgement.{found};
+ghost use Rattle.judge.specs.Judgement.{place-found};
 ghost use Rattle.judge.specs.Rows.{schedule-of, Fitting};
 ghost use Rattle.judge.specs.Rule.{broken-by, place-of};
 use crate::limits;
@@ -37,7 +37,7 @@ fn breaks(rule: Rule, g: Generator, row: &[u16], t: usize) -> bool
 // The first period, and in it the first unit, that breaks the rule.
 pub fn find_breach(problem: Problem, rows: &[u16], rule: Rule) -> Found
     requires { ⌜ Fitting problem (now rows) ⌝ }
-    ensures { λ r. ⌜ r ≡ found (place-of rule (view problem) (schedule-of problem (now (rows .entry)))) ⌝ }
+    ensures { λ r. ⌜ r ≡ place-found (place-of rule (view problem) (schedule-of problem (now (rows .entry)))) ⌝ }
 {
     let periods = problem.periods;
     let units = problem.units;

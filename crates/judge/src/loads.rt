@@ -6,7 +6,7 @@ ghost use Rattle.model.specs.Held.{view};
 ghost use Rattle.model.specs.Ranges.{All, GoodOutput};
 ghost use Rattle.model.specs.Rules.{if-on, on};
 ghost use Rattle.model.specs.Breach.{place22, place23};
-ghost use Rattle.judge.specs.Judgement.{found};
+ghost use Rattle.judge.specs.Judgement.{place-found};
 ghost use Rattle.judge.specs.Rows.{schedule-of, Fitting};
 ghost use Rattle.judge.specs.Loads.{Standing, output-in, capacities, capacity-in};
 use crate::place::Found;
@@ -64,7 +64,7 @@ fn sum_capacities(capacities: &[u64], periods: usize, rows: &[u16], t: usize) ->
 // The first period whose outputs are less than its demand.
 pub fn find_unmet_demand(problem: Problem, rows: &[u16]) -> Found
     requires { ⌜ Fitting problem (now rows) ⌝ }
-    ensures { λ r. ⌜ r ≡ found (place22 (view problem) (schedule-of problem (now (rows .entry)))) ⌝ }
+    ensures { λ r. ⌜ r ≡ place-found (place22 (view problem) (schedule-of problem (now (rows .entry)))) ⌝ }
 {
     let periods = problem.periods;
     let units = problem.units;
@@ -83,7 +83,7 @@ pub fn find_unmet_demand(problem: Problem, rows: &[u16]) -> Found
 // The first period in which the units that are on could not give its demand and its spare.
 pub fn find_unmet_spare(problem: Problem, rows: &[u16]) -> Found
     requires { ⌜ Fitting problem (now rows) ⌝ }
-    ensures { λ r. ⌜ r ≡ found (place23 (view problem) (schedule-of problem (now (rows .entry)))) ⌝ }
+    ensures { λ r. ⌜ r ≡ place-found (place23 (view problem) (schedule-of problem (now (rows .entry)))) ⌝ }
 {
     let periods = problem.periods;
     let units = problem.units;

@@ -4,7 +4,7 @@ ghost use Prim.Native.Nat.{_≤_};
 ghost use lib.ListN.{length};
 ghost use Rattle.model.specs.Ranges.{GoodUnit, All, GoodOutput};
 ghost use Rattle.judge.specs.Rows.{Fitting};
-ghost use Rattle.judge.specs.Walk.{Room, passed, walk-to};
+ghost use Rattle.judge.specs.Walk.{Room, one-further, walk-to};
 ghost use Rattle.judge.specs.Tallied.{row-tallies, tallies};
 use crate::cost;
 use crate::limits;
@@ -33,7 +33,7 @@ pub struct Tallies {
 // The walk one status further.
 fn pass(g: Generator, walk: Walk, after: bool) -> Walk
     requires { ⌜ GoodUnit g × Room walk ⌝ }
-    ensures { λ r. ⌜ r ≡ passed g walk after ⌝ }
+    ensures { λ r. ⌜ r ≡ one-further g walk after ⌝ }
 {
     let before = walk.on;
     let k = walk.spent;

@@ -17,7 +17,7 @@ use Rattle.model.proofs.LeafSizes.{all-at}
 use Rattle.model.proofs.WalkSizes.{worth-fits, added-fits, price-walk-fits, offset-fits}
 use Rattle.model.proofs.WalkPeriods.{walk-ext}
 use Rattle.walk.specs.Limits.{GoodCosts}
-use Rattle.walk.specs.Steps.{costs-of}
+use Rattle.walk.specs.GoingBack.{costs-of}
 use Rattle.least.specs.Limits.{GoodPrices, GoodSlopes}
 use Rattle.least.specs.Priced.{Priced}
 

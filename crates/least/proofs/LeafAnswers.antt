@@ -8,7 +8,7 @@ use Rattle.model.specs.Above.{Marks}
 use Rattle.model.specs.Ranges.{WellFormed}
 use Rattle.model.specs.Leaf.{any-stuck, units-least, requirement, leaf-value}
 use Rattle.least.specs.declared.unit.Least.the-variants.{Stuck, Value}
-use Rattle.least.specs.Answers.{leasts-of, leaf-of}
+use Rattle.least.specs.LeafLeasts.{leasts-of, leaf-of}
 use Rattle.least.specs.Limits.{GoodPrices, Small}
 use Rattle.least.proofs.Units.{said-stuck, said-value, units-small}
 

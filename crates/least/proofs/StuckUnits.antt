@@ -14,7 +14,7 @@ use Rattle.model.proofs.Stuck.{is-stuck-is}
 use Rattle.model.proofs.Extents.{is-stuck-ext}
 use Rattle.walk.specs.Marks.{marks-of, all-marks}
 use Rattle.walk.specs.Limits.{GoodCosts}
-use Rattle.walk.specs.Steps.{costs-of}
+use Rattle.walk.specs.GoingBack.{costs-of}
 use Rattle.walk.proofs.Fronts.{front-length, front-at}
 use Rattle.least.proofs.Costs.{all-of}
 use Rattle.least.proofs.Units.{part-marks}

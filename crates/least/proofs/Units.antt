@@ -18,7 +18,7 @@ use Rattle.model.proofs.LeafSizes.{units-least-fits}
 use Rattle.model.proofs.Extents.{Same, is-stuck-ext, unit-least-ext}
 use Rattle.walk.specs.Marks.{mark-of, marks-of, all-marks}
 use Rattle.least.specs.declared.unit.Least.the-variants.{Stuck, Value}
-use Rattle.least.specs.Answers.{least-of, leasts-of}
+use Rattle.least.specs.LeafLeasts.{least-of, leasts-of}
 use Rattle.least.specs.Limits.{GoodPrices, Small}
 use Rattle.least.proofs.Costs.{price-in, reserve-in}
 use Rattle.least.proofs.Signed.{small-of}

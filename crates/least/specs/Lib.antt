@@ -1,4 +1,4 @@
 -- What the contracts of a price leaf cite, over the model's definitions.
-pub mod Answers
+pub mod LeafLeasts
 pub mod Limits
 pub mod Priced

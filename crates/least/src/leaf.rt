@@ -8,7 +8,7 @@ ghost use Rattle.model.specs.Ranges.{GoodLoad, GoodPrice};
 ghost use Rattle.model.specs.Leaf.{requirement};
 ghost use Rattle.numbers.specs.Numbers.{instance-in, Laid};
 ghost use Rattle.walk.specs.Marks.{all-marks};
-ghost use Rattle.least.specs.Answers.{leasts-of, leaf-of};
+ghost use Rattle.least.specs.LeafLeasts.{leasts-of, leaf-of};
 ghost use Rattle.least.specs.Limits.{GoodPrices, Small};
 use crate::unit::Least;
 use crate::unit::unit_least;

@@ -5,7 +5,7 @@ ghost use lib.ListN.{length};
 ghost use Rattle.model.specs.Leaf.{available, unless-off};
 ghost use Rattle.numbers.specs.Numbers.{instance-in, Laid};
 ghost use Rattle.walk.specs.Marks.{mark-of, all-marks};
-ghost use Rattle.least.specs.Answers.{short-at};
+ghost use Rattle.least.specs.LeafLeasts.{short-at};
 use numbers::demand_at;
 use numbers::pU_at;
 use numbers::periods_in;

@@ -6,7 +6,7 @@ ghost use Rattle.model.specs.Instance.{_at_};
 ghost use Rattle.model.specs.Ranges.{GoodUnit};
 ghost use Rattle.model.specs.Prices.{price-walk, offset};
 ghost use Rattle.walk.specs.Marks.{marks-of};
-ghost use Rattle.least.specs.Answers.{least-of};
+ghost use Rattle.least.specs.LeafLeasts.{least-of};
 ghost use Rattle.least.specs.Limits.{GoodPrices};
 ghost use Rattle.least.specs.Priced.{Priced};
 use crate::output::least_on;

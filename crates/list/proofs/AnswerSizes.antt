@@ -2,7 +2,7 @@
 -- small because its line is one of the text's and its unit and period are the problem's, a cost and a bound because they fit, split lines and leaves
 -- because each has its line.
 use mathlib.Core.Path.{_≡_, refl, ap, subst, _∙_}
-use mathlib.Core.Bool.{Bool, true, false}
+use mathlib.Core.Bool.{Bool, true, false, cond}
 use mathlib.Core.List.{List, [], _∷_, _++_}
 use mathlib.Core.Option.{Option, none, some}
 use Prim.Native.Nat.{ℕ, zero, suc, _+_, _≤_, _<_}
@@ -21,31 +21,31 @@ use Rattle.model.proofs.Valid.{valid-is}
 use Rattle.model.proofs.CostSizes.{meets-small, cost-fits}
 use Rattle.model.proofs.LeafSizes.{bound-fits}
 use Rattle.refusal.specs.declared.Refusal.{Refusal}
-use Rattle.refusal.specs.Refusals.{refusalOf, line-refusal}
+use Rattle.refusal.specs.Refusals.{refusal-of, line-refusal}
 use Rattle.refusal.proofs.Places.{nothing-high}
 use Rattle.problem.proofs.Refusals as problems
-use Rattle.schedule.specs.Answers.{RefusedFor, by-line, by-rule}
+use Rattle.schedule.specs.Acceptance.{RefusedFor, by-line, by-rule}
 use Rattle.schedule.proofs.LinesRefused as schedules
-use Rattle.text.specs.Lines.{Line, later, linesOf, lineAt, kindOf}
+use Rattle.text.specs.Lines.{Line, later, lines-of, line-at, kind-of}
 use Rattle.text.specs.declared.Kind.{Kind}
 use Rattle.text.specs.declared.Kind.the-variants as kind
 use Rattle.tree.specs.Coded.{bound-of}
-use Rattle.tree.specs.Reading.{coded}
+use Rattle.tree.specs.ReadAnswers.{coded}
 use Rattle.tree.specs.Rendering as trees
 use Rattle.tree.proofs.ReadAnswers as trees-read
 use Rattle.answer.specs.declared.Answer.the-variants.{ScheduleHeld, SchedulePassed, TreeHeld, TreePassed}
-use Rattle.answer.specs.Answers.{its-cost, its-bound, stated}
-use Rattle.answer.specs.Answers as answers
+use Rattle.answer.specs.StatedAnswers.{its-cost, its-bound, stated}
+use Rattle.answer.specs.StatedAnswers as answers
 use Rattle.answer.specs.AnswerLines.{answer-line}
 use Rattle.answer.proofs.Widths.{Small, SmallValues, line-fits}
 use Rattle.docket.specs.declared.Docket.{Docket}
 use Rattle.docket.specs.Docket.{fresh-docket, sound}
 use Rattle.docket.specs.Verdicts.{Verdict, refused, problem, schedule, tree}
 use Rattle.docket.specs.Texts.{Is, too-long, no-kind, second-problem, schedule-early, tree-early, problem-refused, a-problem, schedule-refused, a-schedule, tree-refused, a-tree}
-use Rattle.docket.specs.Lodging.{pick, refuse-whole, admit-kind, admit, by-lines, judged, lodged, with-schedule, with-bound, is-less, is-higher, given-figures, hold, lodge-of}
+use Rattle.docket.specs.Lodging.{refuse-whole, admit-kind, admit, verdict-by, text-judged, lodged, with-schedule, with-bound, is-less, is-higher, given-figures, hold, lodge-of}
 use Rattle.docket.proofs.OneVerdict.{Fine, verdict-of, verdict-is}
-use Rattle.docket.proofs.Steps.{given-is}
-use Rattle.docket.proofs.Following.{sound-valid, lodge-sound, lodge-unsound}
+use Rattle.docket.proofs.OneLodging.{given-is}
+use Rattle.docket.proofs.HoldingAnswers.{sound-valid, lodge-sound, lodge-unsound}
 use Rattle.list.proofs.LineCounts.{before-count, tree-count}
 
 -- ---- what each verdict gives
@@ -57,7 +57,7 @@ SmallVerdict (schedule s) = SmallValues (its-cost (s .cost))
 SmallVerdict (tree F) = SmallValues (its-bound (F .bound) (F .splits) (F .leaves))
 
 -- a number that carries its line is one of 11 to 35
-number-small : (n l : ℕ) → refusalOf n (suc l) 0 0 ≡ line-refusal n (suc l) → n < 100
+number-small : (n l : ℕ) → refusal-of n (suc l) 0 0 ≡ line-refusal n (suc l) → n < 100
 number-small n l e = go (decLt n 36)
   where
     go : Dec (n < 36) → n < 100
@@ -66,8 +66,8 @@ number-small n l e = go (decLt n 36)
         let z : 0 ≡ suc l = ap (λ (r : Refusal). r .line) (nothing-high n (suc l) 0 0 (omega (arith, h)) ∙ e) in
         absurd (omega (arith, z))
 
-carried : (n l k : ℕ) → l ≡ 2 + k → refusalOf n l 0 0 ≡ line-refusal n l → n < 100
-carried n l k e c = number-small n (suc k) (subst (λ (x : ℕ). refusalOf n x 0 0 ≡ line-refusal n x) (e ∙ two k) c)
+carried : (n l k : ℕ) → l ≡ 2 + k → refusal-of n l 0 0 ≡ line-refusal n l → n < 100
+carried n l k e c = number-small n (suc k) (subst (λ (x : ℕ). refusal-of n x 0 0 ≡ line-refusal n x) (e ∙ two k) c)
   where
     two : (k : ℕ) → 2 + k ≡ suc (suc k)
     two k = omega arith
@@ -78,7 +78,7 @@ at-line-small n l h k = (h, (k, (omega arith, omega arith)))
 
 -- of a line after some lines of the text
 module _ (text : List ℕ) (short : length text ≤ 1048576) where
-  line-small : (n l : ℕ) (before after : List Line) → n < 100 → l ≡ 2 + length before → later (linesOf text) ≡ before ++ after
+  line-small : (n l : ℕ) (before after : List Line) → n < 100 → l ≡ 2 + length before → later (lines-of text) ≡ before ++ after
       → Small (answers.refused n l 0 0)
   line-small n l before after h e p =
       at-line-small n l h (omega (arith, e, short, before-count text before after p))
@@ -138,7 +138,7 @@ answer-small was d (refused r) s = s
 answer-small was d (problem P) s = tt
 answer-small was d (schedule x) s = go (is-less (x .cost) (d .held .cost))
   where
-    go : (t : Bool) → Small (stated (pick t (lodged (with-schedule d x) (ScheduleHeld (x .cost))) (lodged was (SchedulePassed (x .cost))) .answer))
+    go : (t : Bool) → Small (stated (cond t (lodged (with-schedule d x) (ScheduleHeld (x .cost))) (lodged was (SchedulePassed (x .cost))) .answer))
     go true = s
     go false = s
 answer-small was d (tree F) s = go (is-higher (F .bound) (d .held .bound))
@@ -146,7 +146,7 @@ answer-small was d (tree F) s = go (is-higher (F .bound) (d .held .bound))
     b : SmallValues (its-bound (bound-of (coded (F .bound))) (F .splits) (F .leaves))
     b = rw (given-is (F .bound)) s
 
-    go : (t : Bool) → Small (stated (pick t (lodged (with-bound d F) (TreeHeld (given-figures F))) (lodged was (TreePassed (given-figures F))) .answer))
+    go : (t : Bool) → Small (stated (cond t (lodged (with-bound d F) (TreeHeld (given-figures F))) (lodged was (TreePassed (given-figures F))) .answer))
     go true = b
     go false = b
 
@@ -160,11 +160,11 @@ verdict-fits o W text was d =
 -- ---- by any docket, whose arrays have the lengths of the struct's
 
 -- where no problem is known none matters
-unknown-any : (P Q : Instance) (text : List ℕ) → judged false P text ≡ judged false Q text
-unfolding judged admit
-unknown-any P Q text = go (ltb 1048576 (length text)) (kindOf (lineAt text 0))
+unknown-any : (P Q : Instance) (text : List ℕ) → text-judged false P text ≡ text-judged false Q text
+unfolding text-judged admit
+unknown-any P Q text = go (ltb 1048576 (length text)) (kind-of (line-at text 0))
   where
-    go : (t : Bool) (k : Kind) → by-lines (pick t (refuse-whole 11 0) (admit-kind k false)) P text ≡ by-lines (pick t (refuse-whole 11 0) (admit-kind k false)) Q text
+    go : (t : Bool) (k : Kind) → verdict-by (cond t (refuse-whole 11 0) (admit-kind k false)) P text ≡ verdict-by (cond t (refuse-whole 11 0) (admit-kind k false)) Q text
     go true k = refl
     go false kind.Unknown = refl
     go false kind.Problem = refl
@@ -173,7 +173,7 @@ unknown-any P Q text = go (ltb 1048576 (length text)) (kindOf (lineAt text 0))
 
 module _ (d : Docket) (many : length (d .problem .demand) ≡ 48) (more : length (d .problem .spare) ≡ 48) (units : length (d .problem .generators) ≡ 32)
     (text : List ℕ) where
-  judged-fits : (known : Bool) → sound d ≡ true → d .known ≡ known → length (answer-line (stated (hold d d (judged known (view (d .problem)) text) .answer))) ≤ 64
+  judged-fits : (known : Bool) → sound d ≡ true → d .known ≡ known → length (answer-line (stated (hold d d (text-judged known (view (d .problem)) text) .answer))) ≤ 64
   judged-fits true e k =
       let ok = valid-is (d .problem) many more units .0 (sound-valid d e k) in
       verdict-fits (some (view (d .problem))) (ok .well-formed) text d d

@@ -7,17 +7,17 @@ use native.Mathlib.Omega.{arith}
 use lib.Dec.{eqb}
 use lib.ListN.{length, length-append}
 use Rattle.model.specs.Tree.{Tree, split, short, stuck, price, splits, leaves}
-use Rattle.text.specs.Lines.{Line, later, cutAt, linesOf, endTree}
+use Rattle.text.specs.Lines.{Line, later, cut-at, lines-of, end-tree}
 use Rattle.text.specs.Rendering.{text-of}
 use Rattle.tree.specs.Rendering.{node-lines, tree-lines, render}
 
 -- ---- the lines that a text is cut into
 
-pub line-count : (s : List ℕ) → length (linesOf s) ≤ length s
+pub line-count : (s : List ℕ) → length (lines-of s) ≤ length s
 line-count [] = omega arith
-line-count (b ∷ s) = go (eqb b 10) (linesOf s) (line-count s)
+line-count (b ∷ s) = go (eqb b 10) (lines-of s) (line-count s)
   where
-    go : (t : Bool) (ls : List Line) → length ls ≤ length s → length (cutAt t b ls) ≤ suc (length s)
+    go : (t : Bool) (ls : List Line) → length ls ≤ length s → length (cut-at t b ls) ≤ suc (length s)
     go true ls h = omega (arith, h)
     go false [] h = omega arith
     go false (l ∷ ls) h = omega (arith, h)
@@ -27,9 +27,9 @@ later-count [] = omega arith
 later-count (l ∷ ls) = omega arith
 
 -- the lines before one that is refused
-pub before-count : (s : List ℕ) (before after : List Line) → later (linesOf s) ≡ before ++ after → length before ≤ length s
+pub before-count : (s : List ℕ) (before after : List Line) → later (lines-of s) ≡ before ++ after → length before ≤ length s
 before-count s before after e =
-    omega (arith, ap length e, length-append before after, later-count (linesOf s), line-count s)
+    omega (arith, ap length e, length-append before after, later-count (lines-of s), line-count s)
 
 -- ---- the lines that render a tree
 
@@ -48,4 +48,4 @@ node-count (price q s) = omega arith
 
 pub tree-count : (w : ℕ) (t : Tree) → splits t + leaves t ≤ length (render w t)
 unfolding render
-tree-count w t = omega (arith, node-count t, length-append (node-lines t) (endTree ∷ []), ended-count (tree-lines w t))
+tree-count w t = omega (arith, node-count t, length-append (node-lines t) (end-tree ∷ []), ended-count (tree-lines w t))

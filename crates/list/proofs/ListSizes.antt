@@ -6,7 +6,7 @@ use Prim.Native.Nat.{ℕ, _*_, _≤_}
 use native.Mathlib.Omega.{arith}
 use lib.ListN.{length, length-append}
 use Rattle.model.specs.Instance.{Instance}
-use Rattle.answer.specs.Answers.{stated}
+use Rattle.answer.specs.StatedAnswers.{stated}
 use Rattle.answer.specs.AnswerLines.{answer-line}
 use Rattle.docket.specs.declared.Docket.{Docket}
 use Rattle.docket.specs.declared.Lodged.{Lodged}
@@ -18,7 +18,7 @@ use Rattle.docket.proofs.OneVerdict.{Fine, verdict-of}
 use Rattle.docket.proofs.ListVerdicts.{verdicts-of}
 use Rattle.docket.proofs.GoodVerdicts.{Proper}
 use Rattle.docket.proofs.Reached.{docket-of}
-use Rattle.docket.proofs.Steps.{lodge-is}
+use Rattle.docket.proofs.OneLodging.{lodge-is}
 use Rattle.docket.proofs.Lists.{lodges}
 use Rattle.list.specs.Listing.{answer-lines}
 use Rattle.list.proofs.AnswerSizes.{verdict-fits}

@@ -3,12 +3,12 @@
 use mathlib.Core.Path.{_≡_, refl, ap, _∙_}
 use mathlib.Core.List.{List, [], _∷_, _++_, map, flatten}
 use Prim.Native.Nat.{ℕ}
-use Rattle.decimal.specs.Decimal.{digits, digitsBy}
-use Rattle.writer.specs.Written.{figure, figureOf}
+use Rattle.decimal.specs.Decimal.{digits, digits-by}
+use Rattle.writer.specs.Written.{figure, figure-of}
 use Rattle.pieces.specs.Pieces.{pieces}
 use Rattle.report.specs.Report.{report-lines}
 use Rattle.answer.specs.declared.Answer.{Answer}
-use Rattle.answer.specs.Answers.{stated}
+use Rattle.answer.specs.StatedAnswers.{stated}
 use Rattle.answer.specs.AnswerLines.{answer-line}
 use Rattle.docket.specs.Docket.{fresh-docket}
 use Rattle.docket.specs.Lodging.{lodge-of}
@@ -30,7 +30,7 @@ lines-stated [] = refl
 lines-stated (a ∷ l) = ap (λ (x : List ℕ). answer-line (stated a) ++ x) (lines-stated l)
 
 texts-listed : listed listed-texts ≡ listed-output
-unfolding answer-line report-lines flatten figure figureOf digits digitsBy listed-output
+unfolding answer-line report-lines flatten figure figure-of digits digits-by listed-output
 texts-listed =
     let a = lines-stated (answers-to lodge-of fresh-docket listed-texts) ∙ ap stated-lines listing-answers in
     λ i. a i ++ report-text (listing-held i)

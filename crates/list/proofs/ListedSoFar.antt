@@ -13,9 +13,9 @@ use Rattle.writer.specs.Written.{over}
 use Rattle.writer.proofs.Parts as parts
 use Rattle.writer.proofs.Parts.{kept, next}
 use borrow.Rule.Slice.PartMut.{putMid}
-use Rattle.report.specs.Report.{placed}
+use Rattle.report.specs.Report.{put-at}
 use Rattle.answer.specs.declared.Answer.{Answer}
-use Rattle.answer.specs.Answers.{stated}
+use Rattle.answer.specs.StatedAnswers.{stated}
 use Rattle.answer.specs.AnswerLines.{answer-line}
 use Rattle.docket.specs.declared.Docket.{Docket}
 use Rattle.docket.specs.declared.Lodged.{Lodged}
@@ -162,7 +162,7 @@ module _ (input room : List ℕ) (limit : length input ≤ 65536) (large : 10485
 -- ---- all of it
 
 -- l after what is written
-pub place-on : (done l room : List ℕ) → placed (over done room) (length done) l ≡ over (done ++ l) room
+pub place-on : (done l room : List ℕ) → put-at (over done room) (length done) l ≡ over (done ++ l) room
 place-on done l room =
     (λ i. take-at done (drop (length done) room) (length done) refl i ++ (l ++ drop (length done + length l) (over done room)))
     ∙ ap (λ (r : List ℕ). done ++ (l ++ r)) (sym (drop-drop (length l) (length done) (over done room)) ∙ ap (drop (length l)) (drop-at done (drop (length done) room) (length done) refl)
@@ -175,7 +175,7 @@ pub record Done (input room : List ℕ) (d : Docket) (n : ℕ) (output : List �
   pub same : length output ≡ length room
   pub fits : n + length (report-text (d .held)) ≤ length output
   pub many : n + length (report-text (d .held)) ≡ length (listed (pieces input))
-  pub written : placed output n (report-text (d .held)) ≡ over (listed (pieces input)) room
+  pub written : put-at output n (report-text (d .held)) ≡ over (listed (pieces input)) room
 
 module _ (input room : List ℕ) (limit : length input ≤ 65536) (large : 1048576 ≤ length room)
     (d : Docket) (n place : ℕ) (output : List ℕ) (s : SoFar input room d n place output) (h : length input ≤ place) where
@@ -199,8 +199,8 @@ module _ (input room : List ℕ) (limit : length input ≤ 65536) (large : 10485
         fits = omega (arith, r, ap length (shown-reached (s .past)), reached-most (s .past), s .fits-last, s .within, k);
         many = omega (arith, s .many, ap length listed-is, length-append lines report);
         written =
-            ap (λ (x : List ℕ). placed x n report) (s .written)
-            ∙ ap (λ (x : ℕ). placed (over lines room) x report) (s .many)
+            ap (λ (x : List ℕ). put-at x n report) (s .written)
+            ∙ ap (λ (x : ℕ). put-at (over lines room) x report) (s .many)
             ∙ place-on lines report room
             ∙ ap (λ (x : List ℕ). over x room) listed-is;
       }

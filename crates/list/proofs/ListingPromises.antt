@@ -1,15 +1,15 @@
 -- The promises of the listing: what it writes into a lent output for every input, and what it answers. The pieces of the input are the one cut after
 -- each ended line that begins end= (`Cut`, crates/pieces); they are a list of texts, so all of crates/docket/proofs/Promises.antt holds of them.
 use mathlib.Core.Path.{_≡_, refl, sym, ap, subst, _∙_}
-use mathlib.Core.List.{List, [], _++_}
+use mathlib.Core.List.{List, [], _++_, flatten}
 use mathlib.Core.Option.{none}
 use Prim.Native.Nat.{ℕ, _≤_, _<_}
 use lib.ListN.{length}
 use Rattle.pieces.specs.Pieces.{pieces}
-use Rattle.pieces.specs.Cut.{Cut, joined}
+use Rattle.pieces.specs.Cut.{Cut}
 use Rattle.pieces.proofs.TheCut.{joined-pieces, pieces-cut, the-cut}
 use Rattle.writer.specs.Written.{over}
-use Rattle.answer.specs.Answers.{refused}
+use Rattle.answer.specs.StatedAnswers.{refused}
 use Rattle.answer.specs.AnswerLines.{answer-line}
 use Rattle.docket.specs.Docket.{nothing-held, fresh-docket}
 use Rattle.docket.specs.Verdicts.{Verdict}
@@ -48,11 +48,11 @@ shown-due texts vs are =
     (lines-due (given (verdicts-of none texts)) (verdicts-of none texts) (r .proper)))
 
 -- an input has one list of pieces: they are cut as document 01 says, and joined they are the input
-pub one-cut : (input : List ℕ) → (texts : List (List ℕ)) × (Cut texts × (joined texts ≡ input)) × ((ps : List (List ℕ)) → Cut ps → joined ps ≡ input → ps ≡ texts)
+pub one-cut : (input : List ℕ) → (texts : List (List ℕ)) × (Cut texts × (flatten texts ≡ input)) × ((ps : List (List ℕ)) → Cut ps → flatten ps ≡ input → ps ≡ texts)
 one-cut input = (pieces input, (pieces-cut input, joined-pieces input), the-cut input)
 
 -- of at most 65,536 bytes: a line for the answer due to each piece, then the report due after them; the bytes behind stay
-pub lists : (input output : List ℕ) (texts : List (List ℕ)) → Cut texts → joined texts ≡ input → (vs : List Verdict) → Are none texts vs
+pub lists : (input output : List ℕ) (texts : List (List ℕ)) → Cut texts → flatten texts ≡ input → (vs : List Verdict) → Are none texts vs
     → length input ≤ 65536 → 1048576 ≤ length output
     → (lines : List ℕ) × ReportDue vs lines × (output-of input output ≡ over (stated-lines (answers-due [] vs) ++ lines) output)
     × (listed-of input output ≡ Written (length (stated-lines (answers-due [] vs) ++ lines)))

@@ -4,7 +4,7 @@ ghost use mathlib.Core.Bool.{true};
 ghost use Prim.Native.Nat.{_+_, _≤_};
 ghost use lib.ListN.{length};
 ghost use Rattle.pieces.specs.Pieces.{pieces};
-ghost use Rattle.report.specs.Report.{placed};
+ghost use Rattle.report.specs.Report.{put-at};
 ghost use Rattle.writer.specs.Written.{over};
 ghost use Rattle.docket.specs.Docket.{sound};
 ghost use Rattle.docket.specs.Report.{report-text};
@@ -26,7 +26,7 @@ fn write_report(docket: Docket, output: &mut [u8], n: usize) -> usize
     requires { ⌜ sound docket ≡ true ⌝ }
     requires { ⌜ n + length (report-text (docket .held)) ≤ length (now output) ⌝ }
     ensures { λ r. ⌜ r ≡ n + length (report-text (docket .held)) ⌝ }
-    ensures { λ _. ⌜ now (output .exit) ≡ placed (now (output .entry)) n (report-text (docket .held)) ⌝ }
+    ensures { λ _. ⌜ now (output .exit) ≡ put-at (now (output .entry)) n (report-text (docket .held)) ⌝ }
 {
     let reported = docket.report(output, n);
     let answer = reported.answer;

@@ -10,7 +10,7 @@ use lib.Seq.{take-at, ext-getD}
 use Rattle.model.specs.declared.generator.Generator.{Generator}
 use Rattle.model.specs.declared.arrays.Problem.{Problem}
 use Rattle.model.specs.Held.{view, Valid, blank-generator}
-use Rattle.numbers.specs.Numbers.{numbers-of, all-numbers, laid-out, generator-of, generator-in, generators-in, problem-in, instance-in, Laid}
+use Rattle.numbers.specs.Numbers.{generator-numbers, all-numbers, laid-out, generator-of, generator-in, generators-in, problem-in, instance-in, Laid}
 use Rattle.numbers.proofs.Readings.{generators-long, generators-at, instance-is}
 use Rattle.numbers.proofs.Places.{laid-long, from-demand, from-spare, from-unit}
 
@@ -18,7 +18,7 @@ status-back : (b : Bool) → not (eqb (cond b 1 0) 0) ≡ b
 status-back true = refl
 status-back false = refl
 
-generator-back : (g : Generator) (l : List ℕ) → generator-of (numbers-of g ++ l) ≡ g
+generator-back : (g : Generator) (l : List ℕ) → generator-of (generator-numbers g ++ l) ≡ g
 generator-back g l = rw (status-back (g .on)) refl
 
 module _ (p : Problem) (demand-long : length (p .demand) ≡ 48) (spare-long : length (p .spare) ≡ 48) (units-long : length (p .generators) ≡ 32) where

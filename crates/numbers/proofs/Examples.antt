@@ -6,7 +6,7 @@ use Prim.Native.Nat.{ℕ}
 use Rattle.model.specs.declared.generator.Generator.{Generator}
 use Rattle.model.specs.Instance.{Instance}
 use Rattle.model.specs.Held.{pad, held}
-use Rattle.numbers.specs.Numbers.{numbers-of, problem-in, instance-in}
+use Rattle.numbers.specs.Numbers.{generator-numbers, problem-in, instance-in}
 
 -- a generator that has been on, and one that has been off
 abbrev first : Generator
@@ -16,7 +16,7 @@ abbrev second : Generator
 second = record { a = 40; b = 14; c = 0; pL = 10; pU = 50; TU = 1; TD = 1; on = false; since = 2; DR = 50; UR = 50; Hsc = 20; Csc = 60; Tcold = 0; Dc = 0; p0 = 0 }
 
 -- the sixteen numbers of a generator, in their order
-sixteen : numbers-of (record {
+sixteen : generator-numbers (record {
   a = 101;
   b = 102;
   c = 103;
@@ -40,7 +40,7 @@ abbrev two-units : Instance
 two-units = record { periods = 2; demand = 60 ∷ 100 ∷ []; spare = 10 ∷ 11 ∷ []; units = first ∷ second ∷ [] }
 
 abbrev two-numbers : List ℕ
-two-numbers = 2 ∷ 2 ∷ pad 0 48 (60 ∷ 100 ∷ []) ++ pad 0 48 (10 ∷ 11 ∷ []) ++ numbers-of first ++ numbers-of second
+two-numbers = 2 ∷ 2 ∷ pad 0 48 (60 ∷ 100 ∷ []) ++ pad 0 48 (10 ∷ 11 ∷ []) ++ generator-numbers first ++ generator-numbers second
 
 pub two-units-in : instance-in (pad 0 610 two-numbers) ≡ two-units
 unfolding pad instance-in

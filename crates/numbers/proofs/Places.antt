@@ -8,14 +8,14 @@ use lib.Seq.{drop-at, drop-drop}
 use Rattle.model.specs.declared.generator.Generator.{Generator}
 use Rattle.model.specs.declared.arrays.Problem.{Problem}
 use Rattle.model.specs.Held.{blank-generator}
-use Rattle.numbers.specs.Numbers.{numbers-of, all-numbers, laid-out}
+use Rattle.numbers.specs.Numbers.{generator-numbers, all-numbers, laid-out}
 
 pub all-long : (gs : List Generator) → length (all-numbers gs) ≡ length gs * 16
 all-long [] = refl
-all-long (g ∷ gs) = omega (arith, all-long gs, length-append (numbers-of g) (all-numbers gs))
+all-long (g ∷ gs) = omega (arith, all-long gs, length-append (generator-numbers g) (all-numbers gs))
 
 all-from : (gs : List Generator) (l : List ℕ) (u : ℕ) → u < length gs
-    → drop (u * 16) (all-numbers gs ++ l) ≡ numbers-of (getD gs u blank-generator) ++ (all-numbers (drop (suc u) gs) ++ l)
+    → drop (u * 16) (all-numbers gs ++ l) ≡ generator-numbers (getD gs u blank-generator) ++ (all-numbers (drop (suc u) gs) ++ l)
 all-from [] l u h = absurd (omega arith)
 all-from (g ∷ gs) l zero h = refl
 all-from (g ∷ gs) l (suc u) h =
@@ -51,6 +51,6 @@ module _ (p : Problem) (demand-long : length (p .demand) ≡ 48) (spare-long : l
         sym (drop-drop 48 50 (laid-out p ++ l)) ∙ ap (drop 48) from-spare ∙ drop-at (p .spare) (all-numbers (p .generators) ++ l) 48 spare-long
 
     pub from-unit : (u : ℕ) → u < 32
-        → drop (98 + u * 16) (laid-out p ++ l) ≡ numbers-of (getD (p .generators) u blank-generator) ++ (all-numbers (drop (suc u) (p .generators)) ++ l)
+        → drop (98 + u * 16) (laid-out p ++ l) ≡ generator-numbers (getD (p .generators) u blank-generator) ++ (all-numbers (drop (suc u) (p .generators)) ++ l)
     from-unit u h =
         sym (drop-drop (u * 16) 98 (laid-out p ++ l)) ∙ ap (drop (u * 16)) from-generators ∙ all-from (p .generators) l u (omega (arith, units-long))

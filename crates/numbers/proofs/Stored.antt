@@ -9,7 +9,7 @@ use lib.Seq.{paste, length-take-le, take-all, take-at, drop-length}
 use Rattle.model.specs.declared.generator.Generator.{Generator}
 use Rattle.model.specs.declared.arrays.Problem.{Problem}
 use Rattle.model.specs.Held.{blank-generator}
-use Rattle.numbers.specs.Numbers.{numbers-of, all-numbers, laid-out}
+use Rattle.numbers.specs.Numbers.{generator-numbers, all-numbers, laid-out}
 use Rattle.numbers.proofs.Fronts.{front, front-more}
 use Rattle.numbers.proofs.Places.{all-long, laid-long}
 
@@ -23,10 +23,10 @@ stored d k s = paste d k s (length s)
 abbrev pub begun : List ℕ → List Generator → ℕ → List ℕ
 begun d gs u = front (take 98 d ++ all-numbers (take u gs)) d
 
-all-more : (gs : List Generator) (u : ℕ) → u < length gs → all-numbers (take (suc u) gs) ≡ all-numbers (take u gs) ++ numbers-of (getD gs u blank-generator)
+all-more : (gs : List Generator) (u : ℕ) → u < length gs → all-numbers (take (suc u) gs) ≡ all-numbers (take u gs) ++ generator-numbers (getD gs u blank-generator)
 all-more [] u h = absurd (omega arith)
 all-more (g ∷ gs) zero h = refl
-all-more (g ∷ gs) (suc u) h = ap (λ (l : List ℕ). numbers-of g ++ l) (all-more gs u (omega arith))
+all-more (g ∷ gs) (suc u) h = ap (λ (l : List ℕ). generator-numbers g ++ l) (all-more gs u (omega arith))
 
 module _ (d : List ℕ) (gs : List Generator) (room : 98 ≤ length d) where
   first-long : length (take 98 d) ≡ 98
@@ -36,11 +36,11 @@ module _ (d : List ℕ) (gs : List Generator) (room : 98 ≤ length d) where
   begun-none = rw (append-nil (take 98 d), first-long) (sym (take-append-drop 98 d))
 
   -- a generator more
-  pub begun-more : (x w s : List ℕ) (u : ℕ) → u < length gs → x ≡ begun d gs u → s ≡ numbers-of (getD gs u blank-generator)
+  pub begun-more : (x w s : List ℕ) (u : ℕ) → u < length gs → x ≡ begun d gs u → s ≡ generator-numbers (getD gs u blank-generator)
       → w ≡ stored x (98 + u * 16) s → w ≡ begun d gs (u + 1)
   begun-more x w s u h is piece stores =
       let before = all-numbers (take u gs) in
-      let g = numbers-of (getD gs u blank-generator) in
+      let g = generator-numbers (getD gs u blank-generator) in
       let long : length (take 98 d ++ before) ≡ 98 + u * 16 =
       length-append (take 98 d) before ∙ omega (arith, first-long, all-long (take u gs), length-take-le u gs (omega arith)) in
       stores ∙ ap (stored x (98 + u * 16)) piece ∙ front-more (take 98 d ++ before) d x g (98 + u * 16) is long

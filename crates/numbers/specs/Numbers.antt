@@ -13,14 +13,14 @@ use Rattle.model.specs.Instance.{Instance, _at_}
 use Rattle.model.specs.Ranges.{WellFormed}
 
 -- a generator's numbers
-abbrev pub numbers-of : Generator → List ℕ
-numbers-of g =
+abbrev pub generator-numbers : Generator → List ℕ
+generator-numbers g =
     g .a ∷ g .b ∷ g .c ∷ g .pL ∷ g .pU ∷ g .TU ∷ g .TD ∷ cond (g .on) 1 0 ∷ g .since ∷ g .DR ∷ g .UR ∷ g .Hsc ∷ g .Csc ∷ g .Tcold ∷ g .Dc ∷ g .p0 ∷ []
 
 -- the generators' numbers, one after another
 abbrev pub all-numbers : List Generator → List ℕ
 all-numbers [] = []
-all-numbers (g ∷ gs) = numbers-of g ++ all-numbers gs
+all-numbers (g ∷ gs) = generator-numbers g ++ all-numbers gs
 
 -- the numbers that a problem's arrays hold, with what stands past its periods and units
 unfoldable pub laid-out : Problem → List ℕ

@@ -5,7 +5,7 @@ ghost use Prim.Native.Nat.{_≤_, _<_};
 ghost use lib.ListN.{length, getD};
 ghost use Rattle.model.specs.Instance.{_at_};
 ghost use Rattle.model.specs.Held.{view, Valid, blank-generator};
-ghost use Rattle.numbers.specs.Numbers.{numbers-of, laid-out, generator-of, instance-in, Laid};
+ghost use Rattle.numbers.specs.Numbers.{generator-numbers, laid-out, generator-of, instance-in, Laid};
 use crate::copies::store;
 use model::arrays::Problem;
 use model::generator::Generator;
@@ -25,7 +25,7 @@ fn status_number(on: bool) -> u64
 
 // The generator's 16 numbers.
 fn generator_numbers(g: Generator) -> [u64; 16]
-    ensures { λ r. ⌜ r ≡ numbers-of g ⌝ }
+    ensures { λ r. ⌜ r ≡ generator-numbers g ⌝ }
 {
     [
         g.a,

@@ -10,7 +10,7 @@ use lib.ListN.{length, take, drop, getD}
 use lib.Seq.{drop-cons, drop-drop}
 use lib.Dec.{eqb, leb, leb·zero, leb·suc-zero, leb·suc-suc}
 use borrow.Author.Tests.{ne-eqb, lt-leb}
-use Rattle.text.specs.Lines.{Line, missing, unended, ended, bytesOf, due, longer, cutAt, linesOf}
+use Rattle.text.specs.Lines.{Line, missing, unended, ended, bytes-of, due, longer, cut-at, lines-of}
 use Rattle.pieces.specs.Breaks.{bit, breaks}
 use Rattle.pieces.specs.Pieces.{line-bytes}
 use Rattle.pieces.proofs.LineCuts.{longer-bytes}
@@ -33,9 +33,9 @@ breaks-on s i h = rw (add-one, drop-cons s i 0) refl
 
 -- how many bytes the first line has before its end
 abbrev pub bare-size : List ℕ → ℕ
-bare-size t = length (bytesOf (due (linesOf t)))
+bare-size t = length (bytes-of (due (lines-of t)))
 
-longer-size : (c : ℕ) (l : Line) → length (bytesOf (longer c l)) ≡ suc (length (bytesOf l))
+longer-size : (c : ℕ) (l : Line) → length (bytes-of (longer c l)) ≡ suc (length (bytes-of l))
 longer-size c missing = refl
 longer-size c (unended b) = refl
 longer-size c (ended b) = refl
@@ -44,9 +44,9 @@ pub bare-most : (t : List ℕ) → bare-size t ≤ length t
 bare-most [] = omega arith
 bare-most (c ∷ t) = go (eqb c 10) (bare-most t)
   where
-    go : (x : Bool) → bare-size t ≤ length t → length (bytesOf (due (cutAt x c (linesOf t)))) ≤ suc (length t)
+    go : (x : Bool) → bare-size t ≤ length t → length (bytes-of (due (cut-at x c (lines-of t)))) ≤ suc (length t)
     go true h = omega arith
-    go false h = omega (arith, longer-size c (due (linesOf t)))
+    go false h = omega (arith, longer-size c (due (lines-of t)))
 
 -- fewer than n bytes have no n of a line
 pub part-short : (n : ℕ) (t : List ℕ) → length t < n → leb n (bare-size t) ≡ false
@@ -59,9 +59,9 @@ part-clear (suc n) [] h = absurd (omega arith)
 part-clear (suc n) (c ∷ t) h = go (eqb c 10) (part-clear n t (omega arith))
   where
     go : (x : Bool) → eqb (breaks (take n t)) 0 ≡ leb n (bare-size t)
-        → eqb (bit x + breaks (take n t)) 0 ≡ leb (suc n) (length (bytesOf (due (cutAt x c (linesOf t)))))
+        → eqb (bit x + breaks (take n t)) 0 ≡ leb (suc n) (length (bytes-of (due (cut-at x c (lines-of t)))))
     go true e = ne-eqb (1 + breaks (take n t)) 0 (λ q. omega arith) ∙ sym (leb·suc-zero n)
-    go false e = ap (λ (k : ℕ). eqb k 0) (zero-add (breaks (take n t))) ∙ e ∙ sym (ap (leb (suc n)) (longer-size c (due (linesOf t))) ∙ leb·suc-suc n (bare-size t))
+    go false e = ap (λ (k : ℕ). eqb k 0) (zero-add (breaks (take n t))) ∙ e ∙ sym (ap (leb (suc n)) (longer-size c (due (lines-of t))) ∙ leb·suc-suc n (bare-size t))
 
 -- what is left of a line, with and without its end
 pub line-later : (n : ℕ) (t : List ℕ) → n ≤ bare-size t → (bare-size t ≡ n + bare-size (drop n t)) × (line-size t ≡ n + line-size (drop n t))
@@ -70,11 +70,11 @@ line-later (suc n) [] h = absurd (omega arith)
 line-later (suc n) (c ∷ t) h = go (eqb c 10) (line-later n t) h
   where
     go : (x : Bool) → (n ≤ bare-size t → (bare-size t ≡ n + bare-size (drop n t)) × (line-size t ≡ n + line-size (drop n t)))
-        → suc n ≤ length (bytesOf (due (cutAt x c (linesOf t))))
-        → (length (bytesOf (due (cutAt x c (linesOf t)))) ≡ suc n + bare-size (drop n t)) × (length (line-bytes (due (cutAt x c (linesOf t)))) ≡ suc n + line-size (drop n t))
+        → suc n ≤ length (bytes-of (due (cut-at x c (lines-of t))))
+        → (length (bytes-of (due (cut-at x c (lines-of t)))) ≡ suc n + bare-size (drop n t)) × (length (line-bytes (due (cut-at x c (lines-of t)))) ≡ suc n + line-size (drop n t))
     go true rec h = absurd (omega arith)
     go false rec h =
-        let l = due (linesOf t) in
+        let l = due (lines-of t) in
         let r = rec (omega (arith, longer-size c l)) in
         (omega (arith, longer-size c l, r .0), omega (arith, ap length (longer-bytes c l), r .1))
 

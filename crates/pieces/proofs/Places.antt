@@ -4,14 +4,14 @@ use native.Mathlib.Numerals.{add-one}
 use native.Mathlib.Omega.{arith}
 use mathlib.Core.Path.{_≡_, refl, sym, ap, _∙_}
 use mathlib.Core.Bool.{Bool, true, false}
-use mathlib.Core.List.{List, [], _∷_, _++_, append-nil}
+use mathlib.Core.List.{List, [], _∷_, _++_, append-nil, flatten}
 use lib.ListN.{length, take, drop, getD, length-append, length-drop, drop-of-length-le}
 use lib.Seq.{drop-drop, drop-cons, drop-at, take-at}
 use borrow.Author.Tests.{eq-eqb, ne-eqb}
-use Rattle.text.specs.Lines.{Line, missing, unended, ended, due, later, cutAt, linesOf, begins}
+use Rattle.text.specs.Lines.{Line, missing, unended, ended, due, later, cut-at, lines-of, begins}
 use Rattle.text.proofs.Cuts.{later-lines, text-ended}
 use Rattle.pieces.specs.Pieces.{end-key, line-bytes, in-front, cut-after, pieces-of, pieces, first-of, piece-after}
-use Rattle.pieces.specs.Cut.{joined, Cut}
+use Rattle.pieces.specs.Cut.{Cut}
 use Rattle.pieces.proofs.LineCuts.{lines-bytes, bytes-lines, longer-bytes, Proper, lines-proper, key-in-line}
 use Rattle.pieces.proofs.TheCut.{joined-pieces, pieces-cut, cut-pieces, first-some, first-long, cut-later}
 
@@ -19,7 +19,7 @@ use Rattle.pieces.proofs.TheCut.{joined-pieces, pieces-cut, cut-pieces,
 
 -- how many bytes the first line has, with its byte 10
 abbrev pub line-size : List ℕ → ℕ
-line-size t = length (line-bytes (due (linesOf t)))
+line-size t = length (line-bytes (due (lines-of t)))
 
 module _ (s : List ℕ) (i : ℕ) where
   pub line-none : length s ≤ i → line-size (drop i s) ≡ 0
@@ -29,16 +29,16 @@ module _ (s : List ℕ) (i : ℕ) where
     pub line-stop : getD s i 0 ≡ 10 → line-size (drop i s) ≡ 1
     line-stop e =
         ap line-size (drop-cons s i 0 h)
-        ∙ ap (λ (x : Bool). length (line-bytes (due (cutAt x (getD s i 0) (linesOf (drop (suc i) s)))))) (eq-eqb (getD s i 0) 10 e)
+        ∙ ap (λ (x : Bool). length (line-bytes (due (cut-at x (getD s i 0) (lines-of (drop (suc i) s)))))) (eq-eqb (getD s i 0) 10 e)
 
     pub line-on : (getD s i 0 ≡ 10 → ⊥) → line-size (drop i s) ≡ suc (line-size (drop (i + 1) s))
     line-on e =
         ap line-size (drop-cons s i 0 h)
-        ∙ ap (λ (x : Bool). length (line-bytes (due (cutAt x (getD s i 0) (linesOf (drop (suc i) s)))))) (ne-eqb (getD s i 0) 10 e)
-        ∙ ap length (longer-bytes (getD s i 0) (due (linesOf (drop (suc i) s))))
+        ∙ ap (λ (x : Bool). length (line-bytes (due (cut-at x (getD s i 0) (lines-of (drop (suc i) s)))))) (ne-eqb (getD s i 0) 10 e)
+        ∙ ap length (longer-bytes (getD s i 0) (due (lines-of (drop (suc i) s))))
         ∙ ap (λ (n : ℕ). suc (line-size (drop n s))) (sym (add-one i))
 
-line-some-of : (t : List ℕ) (ls : List Line) → linesOf t ≡ ls → Proper ls → 0 < length t → 0 < length (line-bytes (due ls))
+line-some-of : (t : List ℕ) (ls : List Line) → lines-of t ≡ ls → Proper ls → 0 < length t → 0 < length (line-bytes (due ls))
 line-some-of t [] e p h = absurd (omega (arith, ap length (sym (bytes-lines t) ∙ ap lines-bytes e)))
 line-some-of t (missing ∷ ls) e p h = absurd p
 line-some-of t (unended b ∷ ls) e p h = p .1 .0
@@ -46,7 +46,7 @@ line-some-of t (ended b ∷ ls) e p h = omega (arith, length-append b (10 ∷ []
 
 -- a line has a byte
 pub line-some : (s : List ℕ) (i : ℕ) → i < length s → 0 < line-size (drop i s)
-line-some s i h = line-some-of (drop i s) (linesOf (drop i s)) refl (lines-proper (drop i s)) (omega (arith, length-drop i s))
+line-some s i h = line-some-of (drop i s) (lines-of (drop i s)) refl (lines-proper (drop i s)) (omega (arith, length-drop i s))
 
 -- ---- where a piece ends, by its lines
 
@@ -58,18 +58,18 @@ front-first b [] = sym (append-nil b)
 front-first b (p ∷ ps) = refl
 
 -- end= stands at an ended line exactly where the line begins with it
-key-at : (t b : List ℕ) → due (linesOf t) ≡ ended b → begins end-key t ≡ begins end-key b
+key-at : (t b : List ℕ) → due (lines-of t) ≡ ended b → begins end-key t ≡ begins end-key b
 key-at t b e = ap (begins end-key) (text-ended t b e) ∙ key-in-line end-key b (drop (length b + 1) t) refl
 
 module _ (t : List ℕ) where
-  empty : linesOf t ≡ [] → t ≡ []
+  empty : lines-of t ≡ [] → t ≡ []
   empty e = sym (bytes-lines t) ∙ ap lines-bytes e
 
-  alone : (b : List ℕ) → linesOf t ≡ unended b ∷ [] → t ≡ b
+  alone : (b : List ℕ) → lines-of t ≡ unended b ∷ [] → t ≡ b
   alone b e = sym (bytes-lines t) ∙ ap lines-bytes e ∙ append-nil b
 
   -- where a line begins end= the piece ends with it; an unended one is the last
-  on-of : (ls : List Line) → linesOf t ≡ ls → Proper ls → begins end-key t ≡ true → piece-size t ≡ line-size t
+  on-of : (ls : List Line) → lines-of t ≡ ls → Proper ls → begins end-key t ≡ true → piece-size t ≡ line-size t
   unfolding pieces
   on-of [] e p h = simp e
   on-of (missing ∷ ls) e p h = absurd p
@@ -81,10 +81,10 @@ module _ (t : List ℕ) where
       ∙ ap (λ (l : List Line). length (line-bytes (due l))) (sym e)
 
   pub first-on : begins end-key t ≡ true → piece-size t ≡ line-size t
-  first-on h = on-of (linesOf t) refl (lines-proper t) h
+  first-on h = on-of (lines-of t) refl (lines-proper t) h
 
   -- elsewhere it goes on after the line
-  off-of : (ls : List Line) → linesOf t ≡ ls → Proper ls → begins end-key t ≡ false → piece-size t ≡ line-size t + piece-size (drop (line-size t) t)
+  off-of : (ls : List Line) → lines-of t ≡ ls → Proper ls → begins end-key t ≡ false → piece-size t ≡ line-size t + piece-size (drop (line-size t) t)
   unfolding pieces
   off-of [] e p h = simp e
   off-of (missing ∷ ls) e p h = absurd p
@@ -98,8 +98,8 @@ module _ (t : List ℕ) where
   off-of (ended b ∷ ls) e p h =
       let k : begins end-key b ≡ false = sym (key-at t b (ap due e)) ∙ h in
       let n : line-size t ≡ length (b ++ (10 ∷ [])) = ap (λ (l : List Line). length (line-bytes (due l))) e in
-      let d : linesOf (drop (line-size t) t) ≡ ls =
-      ap (λ (x : ℕ). linesOf (drop x t)) (n ∙ length-append b (10 ∷ [])) ∙ later-lines t b (ap due e) ∙ ap later e in
+      let d : lines-of (drop (line-size t) t) ≡ ls =
+      ap (λ (x : ℕ). lines-of (drop x t)) (n ∙ length-append b (10 ∷ [])) ∙ later-lines t b (ap due e) ∙ ap later e in
       let m : piece-size (drop (line-size t) t) ≡ length (first-of (pieces-of ls)) = ap (λ (l : List Line). length (first-of (pieces-of l))) d in
       ap (λ (l : List Line). length (first-of (pieces-of l))) e
       ∙ ap (λ (x : Bool). length (first-of (cut-after x (b ++ (10 ∷ [])) (pieces-of ls)))) k
@@ -107,34 +107,36 @@ module _ (t : List ℕ) where
       ∙ omega (arith, length-append (b ++ (10 ∷ [])) (first-of (pieces-of ls)))
 
   pub first-off : begins end-key t ≡ false → piece-size t ≡ line-size t + piece-size (drop (line-size t) t)
-  first-off h = off-of (linesOf t) refl (lines-proper t) h
+  first-off h = off-of (lines-of t) refl (lines-proper t) h
 
   -- ---- the first piece and what is left after it
 
-  pub record First : Type 0 where
+  pub record FirstPiece : Type 0 where
     pub unfolds : pieces t ≡ take (piece-size t) t ∷ pieces (drop (piece-size t) t)
     pub some : 0 < piece-size t
     pub within : piece-size t ≤ length t
     pub long : piece-size t < length t → 5 ≤ piece-size t
 
-  long-of : (p : List ℕ) (ps : List (List ℕ)) → Cut (p ∷ ps) → length p < length (joined (p ∷ ps)) → 5 ≤ length p
+  long-of : (p : List ℕ) (ps : List (List ℕ)) → Cut (p ∷ ps) → length p < length (flatten (p ∷ ps)) → 5 ≤ length p
+  unfolding flatten
   long-of p [] k h = absurd (omega (arith, length-append p []))
   long-of p (q ∷ ps) k h = first-long p q ps k
 
-  first-of-cut : (ps : List (List ℕ)) → pieces t ≡ ps → Cut ps → joined ps ≡ t → 0 < length t → First
+  first-of-cut : (ps : List (List ℕ)) → pieces t ≡ ps → Cut ps → flatten ps ≡ t → 0 < length t → FirstPiece
+  unfolding flatten
   first-of-cut [] e k j h = absurd (omega (arith, ap length j))
   first-of-cut (p ∷ ps) e k j h =
       let n : piece-size t ≡ length p = ap (λ (l : List (List ℕ)). length (first-of l)) e in
-      let took : take (piece-size t) t ≡ p = ap (take (piece-size t)) (sym j) ∙ take-at p (joined ps) (piece-size t) (sym n) in
-      let left : drop (piece-size t) t ≡ joined ps = ap (drop (piece-size t)) (sym j) ∙ drop-at p (joined ps) (piece-size t) (sym n) in
+      let took : take (piece-size t) t ≡ p = ap (take (piece-size t)) (sym j) ∙ take-at p (flatten ps) (piece-size t) (sym n) in
+      let left : drop (piece-size t) t ≡ flatten ps = ap (drop (piece-size t)) (sym j) ∙ drop-at p (flatten ps) (piece-size t) (sym n) in
       record {
         unfolds = e ∙ (λ i. sym took i ∷ (sym (cut-pieces ps (cut-later p ps k)) ∙ ap pieces (sym left)) i);
         some = omega (arith, first-some p ps k);
-        within = omega (arith, ap length j, length-append p (joined ps));
+        within = omega (arith, ap length j, length-append p (flatten ps));
         long = λ l. omega (arith, long-of p ps k (omega (arith, ap length j)));
       }
 
-  pub first-piece : 0 < length t → First
+  pub first-piece : 0 < length t → FirstPiece
   first-piece h = first-of-cut (pieces t) refl (pieces-cut t) (joined-pieces t) h
 
 -- ---- at a place of the input
@@ -144,7 +146,7 @@ unfolding pieces
 pieces-none s i h = ap pieces (drop-of-length-le s h)
 
 module _ (s : List ℕ) (i : ℕ) (h : i < length s) where
-  at-place : First (drop i s)
+  at-place : FirstPiece (drop i s)
   at-place = first-piece (drop i s) (omega (arith, length-drop i s))
 
   -- the first piece from the place on is what stands up to its end, and after it come the pieces from there on

@@ -4,33 +4,36 @@ use Prim.Native.Nat.{ℕ, _+_, _≤_, _<_}
 use native.Mathlib.Omega.{arith}
 use mathlib.Core.Path.{_≡_, refl, sym, ap, _∙_}
 use mathlib.Core.Bool.{Bool, true, false, not}
-use mathlib.Core.List.{List, [], _∷_, _++_, append-assoc, append-nil}
+use mathlib.Core.List.{List, [], _∷_, _++_, append-assoc, append-nil, flatten}
 use lib.ListN.{length, length-append}
 use borrow.Author.Tests.{not-true}
-use Rattle.text.specs.Lines.{Line, missing, unended, ended, linesOf, oneLine, begins}
+use Rattle.text.specs.Lines.{Line, missing, unended, ended, lines-of, one-line, begins}
 use Rattle.text.proofs.Cuts.{and-both, cut-line}
 use Rattle.text.proofs.Keys.{begins-text}
 use Rattle.pieces.specs.Pieces.{end-key, ends-piece, line-bytes, in-front, cut-after, pieces-of, pieces}
-use Rattle.pieces.specs.Cut.{joined, none-ends, last-ends, Cut, none, rest, more}
+use Rattle.pieces.specs.Cut.{none-ends, last-ends, Cut, none, rest, more}
 use Rattle.pieces.proofs.LineCuts.{lines-bytes, bytes-lines, Proper, lines-proper, unended-line, all-ended, lines-append}
 
 -- ---- the pieces one after the other are the input
 
-front-joined : (b : List ℕ) (ps : List (List ℕ)) → joined (in-front b ps) ≡ b ++ joined ps
+front-joined : (b : List ℕ) (ps : List (List ℕ)) → flatten (in-front b ps) ≡ b ++ flatten ps
+unfolding flatten
 front-joined b [] = refl
-front-joined b (p ∷ ps) = append-assoc b p (joined ps)
+front-joined b (p ∷ ps) = append-assoc b p (flatten ps)
 
-cut-joined : (t : Bool) (b : List ℕ) (ps : List (List ℕ)) → joined (cut-after t b ps) ≡ b ++ joined ps
+cut-joined : (t : Bool) (b : List ℕ) (ps : List (List ℕ)) → flatten (cut-after t b ps) ≡ b ++ flatten ps
+unfolding flatten
 cut-joined true b ps = refl
 cut-joined false b ps = front-joined b ps
 
-joined-lines : (ls : List Line) → joined (pieces-of ls) ≡ lines-bytes ls
+joined-lines : (ls : List Line) → flatten (pieces-of ls) ≡ lines-bytes ls
+unfolding flatten
 joined-lines [] = refl
 joined-lines (l ∷ ls) = cut-joined (ends-piece l) (line-bytes l) (pieces-of ls) ∙ ap (λ (t : List ℕ). line-bytes l ++ t) (joined-lines ls)
 
-pub joined-pieces : (s : List ℕ) → joined (pieces s) ≡ s
+pub joined-pieces : (s : List ℕ) → flatten (pieces s) ≡ s
 unfolding pieces
-joined-pieces s = joined-lines (linesOf s) ∙ bytes-lines s
+joined-pieces s = joined-lines (lines-of s) ∙ bytes-lines s
 
 -- ---- they are a cut
 
@@ -39,15 +42,15 @@ more-ends b [] u e = absurd (let z : _≡_ {A = ℕ} 0 1 = cc in omega arith)
 more-ends b (l ∷ ls) u e = simp (u, e)
 
 -- the line b and byte 10 in front of bytes
-line-front : (b p : List ℕ) → oneLine b ≡ true → linesOf ((b ++ (10 ∷ [])) ++ p) ≡ ended b ∷ linesOf p
-line-front b p o = ap linesOf (append-assoc b (10 ∷ []) p) ∙ cut-line b p o
+line-front : (b p : List ℕ) → one-line b ≡ true → lines-of ((b ++ (10 ∷ [])) ++ p) ≡ ended b ∷ lines-of p
+line-front b p o = ap lines-of (append-assoc b (10 ∷ []) p) ∙ cut-line b p o
 
-cut-front : (b : List ℕ) (ps : List (List ℕ)) → oneLine b ≡ true → begins end-key b ≡ false → Cut ps → Cut (in-front (b ++ (10 ∷ [])) ps)
+cut-front : (b : List ℕ) (ps : List (List ℕ)) → one-line b ≡ true → begins end-key b ≡ false → Cut ps → Cut (in-front (b ++ (10 ∷ [])) ps)
 cut-front b [] o u none = rest {p = b ++ (10 ∷ [])} (omega (arith, length-append b (10 ∷ []))) (rw (cut-line b [] o) (simp u))
 cut-front b (p ∷ []) o u (rest h e) = rest {p = (b ++ (10 ∷ [])) ++ p} (omega (arith, length-append (b ++ (10 ∷ [])) p)) (rw (line-front b p o) (simp (u, e)))
-cut-front b (p ∷ ps) o u (more e k) = more {p = (b ++ (10 ∷ [])) ++ p} (rw (line-front b p o) (more-ends b (linesOf p) u e)) k
+cut-front b (p ∷ ps) o u (more e k) = more {p = (b ++ (10 ∷ [])) ++ p} (rw (line-front b p o) (more-ends b (lines-of p) u e)) k
 
-cut-line-after : (t : Bool) (b : List ℕ) (ps : List (List ℕ)) → begins end-key b ≡ t → oneLine b ≡ true → Cut ps → Cut (cut-after t (b ++ (10 ∷ [])) ps)
+cut-line-after : (t : Bool) (b : List ℕ) (ps : List (List ℕ)) → begins end-key b ≡ t → one-line b ≡ true → Cut ps → Cut (cut-after t (b ++ (10 ∷ [])) ps)
 cut-line-after true b ps u o k = more {p = b ++ (10 ∷ [])} (rw (cut-line b [] o) u) k
 cut-line-after false b ps u o k = cut-front b ps o u k
 
@@ -59,7 +62,7 @@ cut-lines (ended b ∷ ls) p = cut-line-after (begins end-key b) b (pieces-of ls
 
 pub pieces-cut : (s : List ℕ) → Cut (pieces s)
 unfolding pieces
-pieces-cut s = cut-lines (linesOf s) (lines-proper s)
+pieces-cut s = cut-lines (lines-of s) (lines-proper s)
 
 -- ---- there is no other
 
@@ -97,20 +100,20 @@ rest-lines : (ls : List Line) → 0 < length (lines-bytes ls) → none-ends ls �
 rest-lines [] h e = absurd (omega arith)
 rest-lines (l ∷ ls) h e = rest-one l ls e
 
-pub cut-pieces : (ps : List (List ℕ)) → Cut ps → pieces (joined ps) ≡ ps
-unfolding pieces
+pub cut-pieces : (ps : List (List ℕ)) → Cut ps → pieces (flatten ps) ≡ ps
+unfolding pieces flatten
 cut-pieces [] none = refl
 cut-pieces (p ∷ []) (rest h e) =
-    ap (λ (t : List ℕ). pieces-of (linesOf t)) (append-nil p)
-    ∙ rest-lines (linesOf p) (omega (arith, ap length (bytes-lines p))) e
+    ap (λ (t : List ℕ). pieces-of (lines-of t)) (append-nil p)
+    ∙ rest-lines (lines-of p) (omega (arith, ap length (bytes-lines p))) e
     ∙ ap (λ (b : List ℕ). b ∷ []) (bytes-lines p)
 cut-pieces (p ∷ ps) (more e k) =
-    ap pieces-of (lines-append p (joined ps) (ends-ended (linesOf p) (lines-proper p) e))
-    ∙ piece-front (linesOf p) (linesOf (joined ps)) e
+    ap pieces-of (lines-append p (flatten ps) (ends-ended (lines-of p) (lines-proper p) e))
+    ∙ piece-front (lines-of p) (lines-of (flatten ps)) e
     ∙ (λ i. bytes-lines p i ∷ cut-pieces ps k i)
 
 -- the pieces of an input are its cut, and any cut of it
-pub the-cut : (s : List ℕ) (ps : List (List ℕ)) → Cut ps → joined ps ≡ s → ps ≡ pieces s
+pub the-cut : (s : List ℕ) (ps : List (List ℕ)) → Cut ps → flatten ps ≡ s → ps ≡ pieces s
 the-cut s ps k e = sym (cut-pieces ps k) ∙ ap pieces e
 
 -- ---- sizes
@@ -128,8 +131,8 @@ ends-long (l ∷ m ∷ ls) e =
     omega (arith, ends-long (m ∷ ls) (p .1), length-append (line-bytes l) (lines-bytes (m ∷ ls)))
 
 -- end= and byte 10 at least
-whole-long : (p : List ℕ) → last-ends (linesOf p) ≡ true → 5 ≤ length p
-whole-long p e = omega (arith, ends-long (linesOf p) e, ap length (bytes-lines p))
+whole-long : (p : List ℕ) → last-ends (lines-of p) ≡ true → 5 ≤ length p
+whole-long p e = omega (arith, ends-long (lines-of p) e, ap length (bytes-lines p))
 
 -- a piece has a byte
 pub first-some : (p : List ℕ) (ps : List (List ℕ)) → Cut (p ∷ ps) → 0 < length p

@@ -4,13 +4,8 @@ use mathlib.Core.Bool.{Bool, true, false, not, _&&_}
 use mathlib.Core.List.{List, [], _∷_, _++_}
 use Prim.Native.Nat.{ℕ, _<_}
 use lib.ListN.{length}
-use Rattle.text.specs.Lines.{Line, linesOf}
+use Rattle.text.specs.Lines.{Line, lines-of}
 use Rattle.pieces.specs.Pieces.{ends-piece}
-
--- the pieces one after the other
-abbrev pub joined : List (List ℕ) → List ℕ
-joined [] = []
-joined (p ∷ ps) = p ++ joined ps
 
 -- none of the lines ends a piece
 abbrev pub none-ends : List Line → Bool
@@ -26,5 +21,5 @@ last-ends (l ∷ m ∷ ls) = not (ends-piece l) && last-ends (m ∷ ls)
 -- each piece ends after its first line that begins end=; the last one may be bytes left over, without such a line
 pub data Cut : List (List ℕ) → Type 0 where
   none : Cut []
-  rest : {p : List ℕ} → 0 < length p → none-ends (linesOf p) ≡ true → Cut (p ∷ [])
-  more : {p : List ℕ} {ps : List (List ℕ)} → last-ends (linesOf p) ≡ true → Cut ps → Cut (p ∷ ps)
+  rest : {p : List ℕ} → 0 < length p → none-ends (lines-of p) ≡ true → Cut (p ∷ [])
+  more : {p : List ℕ} {ps : List (List ℕ)} → last-ends (lines-of p) ≡ true → Cut ps → Cut (p ∷ ps)

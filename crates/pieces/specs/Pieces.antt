@@ -3,7 +3,7 @@ use mathlib.Core.Bool.{Bool, true, false}
 use mathlib.Core.List.{List, [], _∷_, _++_}
 use Prim.Native.Nat.{ℕ, _+_}
 use lib.ListN.{length, drop}
-use Rattle.text.specs.Lines.{Line, missing, unended, ended, linesOf, begins}
+use Rattle.text.specs.Lines.{Line, missing, unended, ended, lines-of, begins}
 
 -- end=
 abbrev pub end-key : List ℕ
@@ -37,7 +37,7 @@ pieces-of (l ∷ ls) = cut-after (ends-piece l) (line-bytes l) (pieces-of ls)
 
 -- the pieces; bytes left over are the last
 unfoldable pub pieces : List ℕ → List (List ℕ)
-pieces input = pieces-of (linesOf input)
+pieces input = pieces-of (lines-of input)
 
 -- the first piece, nothing where there is none
 abbrev pub first-of : List (List ℕ) → List ℕ

@@ -3,7 +3,7 @@ ghost use mathlib.Core.Path.{_≡_};
 ghost use Prim.Native.Nat.{_+_, _*_, _/_, _≤_};
 ghost use lib.Dec.{eqb, leb};
 ghost use lib.ListN.{length};
-ghost use Rattle.text.specs.Lines.{bytesOf, lineAt};
+ghost use Rattle.text.specs.Lines.{bytes-of, line-at};
 ghost use Rattle.pieces.specs.Breaks.{bit, breaks};
 ghost use Rattle.pieces.specs.Pieces.{line-bytes, piece-after};
 
@@ -34,7 +34,7 @@ fn count_breaks(part: &[u8]) -> u8
 
 // Whether the line that starts at `at` has 32 bytes or more before its end.
 fn spans_part(s: &[u8], at: usize) -> bool
-    ensures { λ r. ⌜ r ≡ leb 32 (length (bytesOf (lineAt (now (s .entry)) at))) ⌝ }
+    ensures { λ r. ⌜ r ≡ leb 32 (length (bytes-of (line-at (now (s .entry)) at))) ⌝ }
 {
     if s.len() < 32 {
         return false;
@@ -48,7 +48,7 @@ fn spans_part(s: &[u8], at: usize) -> bool
 
 // The place after the whole parts of 32 bytes that the line that starts at `at` has before its end.
 fn skip_parts(s: &[u8], at: usize) -> usize
-    ensures { λ r. ⌜ r ≡ at + length (bytesOf (lineAt (now (s .entry)) at)) / 32 * 32 ⌝ }
+    ensures { λ r. ⌜ r ≡ at + length (bytes-of (line-at (now (s .entry)) at)) / 32 * 32 ⌝ }
 {
     let mut i = at;
     while spans_part(s, i) {
@@ -59,7 +59,7 @@ fn skip_parts(s: &[u8], at: usize) -> usize
 
 // The place after the line that starts at `at`.
 fn line_end(s: &[u8], at: usize) -> usize
-    ensures { λ r. ⌜ r ≡ at + length (line-bytes (lineAt (now (s .entry)) at)) ⌝ }
+    ensures { λ r. ⌜ r ≡ at + length (line-bytes (line-at (now (s .entry)) at)) ⌝ }
 {
     let mut i = skip_parts(s, at);
     while i < s.len() {

@@ -7,7 +7,7 @@ use lib.ListN.{length}
 use Rattle.model.specs.declared.generator.Generator.{Generator}
 use Rattle.model.specs.Instance.{Instance}
 use Rattle.model.specs.Ranges.{All, GoodUnit, WellFormed}
-use Rattle.text.specs.Lines.{Line, ended, endProblem}
+use Rattle.text.specs.Lines.{Line, ended, end-problem}
 use Rattle.text.specs.Rendering.{plain-line}
 use Rattle.text.specs.Course.{good}
 use Rattle.text.specs.Tests.{Passed, none-yet}
@@ -49,24 +49,24 @@ module _ (P : Instance) where
   }
 
   from-fleet : (gs : List Generator) (u : ℕ) (Q : Instance) → u + length gs ≡ length (P .units) → All GoodUnit gs → (ls more : List Line)
-      → ls ++ more ≡ map ended (map unit-line gs ++ (endProblem ∷ [])) → Reached P (4 + u) (fleet-due (length gs) Q) ls
+      → ls ++ more ≡ map ended (map unit-line gs ++ (end-problem ∷ [])) → Reached P (4 + u) (fleet-due (length gs) Q) ls
   from-fleet [] u Q c a [] more e = here (4 + u) (end-due Q) (subst (λ (n : ℕ). Stands P n (end-due Q)) (omega (arith, c)) (at-end Q))
   from-fleet [] u Q c a (x ∷ []) more e =
-      let f : x ≡ ended endProblem = cc in
-      one-on (4 + u) (5 + u) (omega arith) (end-due Q) (nothing-due Q) x (ended endProblem) [] f (judge-end Q (ended endProblem) (same-self endProblem))
+      let f : x ≡ ended end-problem = cc in
+      one-on (4 + u) (5 + u) (omega arith) (end-due Q) (nothing-due Q) x (ended end-problem) [] f (judge-end Q (ended end-problem) (same-self end-problem))
       (here (5 + u) (nothing-due Q) (subst (λ (n : ℕ). Stands P n (nothing-due Q)) (omega (arith, c)) (at-nothing Q)))
   from-fleet [] u Q c a (x ∷ y ∷ ls) more e = absurd (let z : _≡_ {A = ℕ} 0 1 = cc in omega arith)
   from-fleet (g ∷ gs) u Q c a [] more e = here (4 + u) (unit-due (length gs) Q) (at-unit u (length gs) Q (omega (arith, c)))
   from-fleet (g ∷ gs) u Q c a (x ∷ ls) more e =
       let f : x ≡ ended (unit-line g) = cc in
-      let h : ls ++ more ≡ map ended (map unit-line gs ++ (endProblem ∷ [])) = cc in
+      let h : ls ++ more ≡ map ended (map unit-line gs ++ (end-problem ∷ [])) = cc in
       one-on (4 + u) (4 + suc u) (omega arith) (unit-due (length gs) Q) (fleet-due (length gs) (with-unit Q g)) x (ended (unit-line g)) ls f (unit-judged (length gs) Q g (a .0))
       (from-fleet gs (suc u) (with-unit Q g) (omega (arith, c)) (a .1) ls more h)
 
   module _ (W : WellFormed P) where
     -- after T and I, from the spare line on, from the demand line on, and so back to the first
     abbrev fleet-lines : List (List ℕ)
-    fleet-lines = map unit-line (P .units) ++ (endProblem ∷ [])
+    fleet-lines = map unit-line (P .units) ++ (end-problem ∷ [])
 
     from-spare : (ls more : List Line) → ls ++ more ≡ map ended (plain-line spare-key (P .spare) ∷ fleet-lines)
         → Reached P 3 (spare-due (P .periods) (length (P .units)) (P .demand)) ls

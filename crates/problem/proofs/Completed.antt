@@ -9,7 +9,7 @@ use lib.ListN.{length}
 use Rattle.model.specs.declared.generator.Generator.{Generator}
 use Rattle.model.specs.Instance.{Instance}
 use Rattle.model.specs.Ranges.{All, GoodLoad, GoodUnit}
-use Rattle.text.specs.Lines.{Line, ended, endProblem}
+use Rattle.text.specs.Lines.{Line, ended, end-problem}
 use Rattle.text.specs.Rendering.{plain-line}
 use Rattle.text.specs.Tests.{None, Passed, none-yet, one-more, AllPassed}
 use Rattle.text.proofs.Words.{same-self}
@@ -93,9 +93,9 @@ pub record Completes (s : Due) : Type 0 where
 
 from-fleet : (n : ℕ) (P : Instance) → Completes (fleet-due n P)
 from-fleet zero P = record {
-  lines = ended endProblem ∷ [];
+  lines = ended end-problem ∷ [];
   gives = P;
-  all = record { last = nothing-due P; passed = also (judge-end P (ended endProblem) (same-self endProblem)) none-yet; ends = refl };
+  all = record { last = nothing-due P; passed = also (judge-end P (ended end-problem) (same-self end-problem)) none-yet; ends = refl };
 }
 from-fleet (suc n) P =
     let c = from-fleet n (with-unit P some-unit) in

@@ -5,21 +5,21 @@ use mathlib.Core.Bool.{true}
 use mathlib.Core.List.{List}
 use lib.ListN.{drop}
 use Rattle.model.specs.Instance.{Instance}
-use Rattle.text.specs.Lines.{Line, linesOf, isLine, endProblem}
+use Rattle.text.specs.Lines.{Line, lines-of, is-line, end-problem}
 use Rattle.text.specs.Course.{good}
-use Rattle.text.specs.Ends.{endOf, endedBy, EndDue}
+use Rattle.text.specs.Ends.{end-of, ended-by, EndDue}
 use Rattle.text.specs.declared.End.{End}
 use Rattle.text.proofs.Ends.{end-judged}
 use Rattle.problem.specs.Course.{end-due, nothing-due, judge, end}
-use Rattle.problem.specs.Reading.{read-as}
-use Rattle.problem.specs.Following.{read-from}
+use Rattle.problem.specs.ReadAnswers.{read-as}
+use Rattle.problem.specs.Storing.{read-from}
 
-pub judge-end : (P : Instance) (l : Line) → isLine endProblem l ≡ true → judge (end-due P) l ≡ good (nothing-due P)
+pub judge-end : (P : Instance) (l : Line) → is-line end-problem l ≡ true → judge (end-due P) l ≡ good (nothing-due P)
 unfolding judge
 judge-end P l e = simp e
 
 module _ (P : Instance) where
-  ends : EndDue judge end endProblem (end-due P) P
+  ends : EndDue judge end end-problem (end-due P) P
   unfolding judge
   ends = record {
     then = nothing-due P;
@@ -32,6 +32,6 @@ module _ (P : Instance) where
   }
 
   -- what reading gives from the end line on, by what stands there
-  pub end-read : (text : List ℕ) (at l : ℕ) (e : End) → e ≡ endOf endProblem (linesOf (drop at text)) → read-as (endedBy l P e) ≡ read-from text at l (end-due P)
+  pub end-read : (text : List ℕ) (at l : ℕ) (e : End) → e ≡ end-of end-problem (lines-of (drop at text)) → read-as (ended-by l P e) ≡ read-from text at l (end-due P)
   unfolding read-from
-  end-read text at l e q = ap read-as (ap (endedBy l P) q ∙ sym (end-judged judge end endProblem (end-due P) P ends l (drop at text)))
+  end-read text at l e q = ap read-as (ap (ended-by l P) q ∙ sym (end-judged judge end end-problem (end-due P) P ends l (drop at text)))

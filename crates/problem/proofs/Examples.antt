@@ -4,20 +4,20 @@ use mathlib.Core.Path.{_≡_, refl}
 use mathlib.Core.Bool.{Bool, true, false}
 use mathlib.Core.List.{List, [], _∷_, _++_, map}
 use lib.ListN.{replicate}
-use Rattle.decimal.specs.Decimal.{digits, digitsBy}
+use Rattle.decimal.specs.Decimal.{digits, digits-by}
 use Rattle.model.specs.declared.generator.Generator.{Generator}
 use Rattle.model.specs.Instance.{Instance}
 use Rattle.model.specs.Ranges.{WellFormed, midnight-ordered, ordered}
 use Rattle.model.specs.Examples.{at-ends, beyond-ends}
-use Rattle.text.specs.Lines.{kindOf}
-use Rattle.text.specs.Forms.{malformed, wrongCount, outOfRange}
+use Rattle.text.specs.Lines.{kind-of}
+use Rattle.text.specs.Forms.{malformed, wrong-count, outside-range}
 use Rattle.text.specs.Rendering.{rendered, plain-line, text-of}
 use Rattle.text.specs.Course.{refused-at, accepted, judged-from}
 use Rattle.text.proofs.Examples.{lines}
 use Rattle.problem.specs.Units.{unit-key, Tini-place, unit-line, unit-of}
 use Rattle.problem.specs.Rendering.{periods-key, units-key, demand-key, spare-key, lines-after, render}
 use Rattle.problem.specs.Course.{judge, problem-judged}
-use Rattle.problem.specs.Reading.{IsProblem}
+use Rattle.problem.specs.ReadAnswers.{IsProblem}
 use Rattle.problem.proofs.Acceptance.{accepted-rendered}
 
 -- ---- the example of document 01, The listing program
@@ -68,15 +68,15 @@ abbrev pub example-text : List ℕ
 example-text = text-of (kind-line ∷ periods-line ∷ units-line ∷ demand-line ∷ spare-line ∷ first-unit ∷ second-unit ∷ end-line ∷ [])
 
 pub example-accepted : problem-judged example-text ≡ accepted example
-unfolding problem-judged judged-from judge malformed wrongCount outOfRange unit-of ordered midnight-ordered
+unfolding problem-judged judged-from judge malformed wrong-count outside-range unit-of ordered midnight-ordered
 example-accepted = refl
 
 pub example-kind : IsProblem example-text
-unfolding kindOf
+unfolding kind-of
 example-kind = refl
 
 pub example-rendered : render example ≡ example-text
-unfolding render lines-after unit-line digits digitsBy
+unfolding render lines-after unit-line digits digits-by
 example-rendered = refl
 
 pub example-formed : WellFormed example
@@ -86,32 +86,32 @@ example-formed = accepted-rendered example example-text example-kind example-acc
 
 -- the second line is missing: 12, line 2
 no-second-line : problem-judged (text-of (kind-line ∷ [])) ≡ refused-at 12 2
-unfolding problem-judged judged-from judge malformed wrongCount outOfRange unit-of ordered midnight-ordered
+unfolding problem-judged judged-from judge malformed wrong-count outside-range unit-of ordered midnight-ordered
 no-second-line = refl
 
 -- periods=49: 13, line 2
 too-many-periods : problem-judged (text-of (kind-line ∷ (112 ∷ 101 ∷ 114 ∷ 105 ∷ 111 ∷ 100 ∷ 115 ∷ 61 ∷ 52 ∷ 57 ∷ []) ∷ [])) ≡ refused-at 13 2
-unfolding problem-judged judged-from judge malformed wrongCount outOfRange unit-of ordered midnight-ordered
+unfolding problem-judged judged-from judge malformed wrong-count outside-range unit-of ordered midnight-ordered
 too-many-periods = refl
 
 -- fourteen values, of which Tini is 0: 14, line 6
 count-before-range : problem-judged (text-of (kind-line ∷ periods-line ∷ units-line ∷ demand-line ∷ spare-line ∷ (117 ∷ 110 ∷ 105 ∷ 116 ∷ 61 ∷ 49 ∷ 48 ∷ 48 ∷ 44 ∷ 49 ∷ 48 ∷ 44 ∷ 48 ∷ 44 ∷ 50 ∷ 48 ∷ 44 ∷ 56 ∷ 48 ∷ 44 ∷ 50 ∷ 44 ∷ 50 ∷ 44 ∷ 48 ∷ 44 ∷ 51 ∷ 48 ∷ 44 ∷ 51 ∷ 48 ∷ 44 ∷ 53 ∷ 48 ∷ 44 ∷ 57 ∷ 48 ∷ 44 ∷ 49 ∷ 44 ∷ 53 ∷ []) ∷ [])) ≡ refused-at 14 6
-unfolding problem-judged judged-from judge malformed wrongCount outOfRange unit-of ordered midnight-ordered
+unfolding problem-judged judged-from judge malformed wrong-count outside-range unit-of ordered midnight-ordered
 count-before-range = refl
 
 -- a minus at the seventh value: 12, line 6
 minus-misplaced : problem-judged (text-of (kind-line ∷ periods-line ∷ units-line ∷ demand-line ∷ spare-line ∷ (117 ∷ 110 ∷ 105 ∷ 116 ∷ 61 ∷ 49 ∷ 48 ∷ 48 ∷ 44 ∷ 49 ∷ 48 ∷ 44 ∷ 48 ∷ 44 ∷ 50 ∷ 48 ∷ 44 ∷ 56 ∷ 48 ∷ 44 ∷ 50 ∷ 44 ∷ 45 ∷ 50 ∷ 44 ∷ 51 ∷ 44 ∷ 51 ∷ 48 ∷ 44 ∷ 51 ∷ 48 ∷ 44 ∷ 53 ∷ 48 ∷ 44 ∷ 57 ∷ 48 ∷ 44 ∷ 49 ∷ 44 ∷ 53 ∷ 44 ∷ 54 ∷ 48 ∷ []) ∷ [])) ≡ refused-at 12 6
-unfolding problem-judged judged-from judge malformed wrongCount outOfRange unit-of ordered midnight-ordered
+unfolding problem-judged judged-from judge malformed wrong-count outside-range unit-of ordered midnight-ordered
 minus-misplaced = refl
 
 -- pL above pU: 15, line 7
 limits-crossed : problem-judged (text-of (kind-line ∷ periods-line ∷ units-line ∷ demand-line ∷ spare-line ∷ first-unit ∷ (117 ∷ 110 ∷ 105 ∷ 116 ∷ 61 ∷ 52 ∷ 48 ∷ 44 ∷ 49 ∷ 52 ∷ 44 ∷ 48 ∷ 44 ∷ 54 ∷ 48 ∷ 44 ∷ 53 ∷ 48 ∷ 44 ∷ 49 ∷ 44 ∷ 49 ∷ 44 ∷ 45 ∷ 50 ∷ 44 ∷ 53 ∷ 48 ∷ 44 ∷ 53 ∷ 48 ∷ 44 ∷ 50 ∷ 48 ∷ 44 ∷ 54 ∷ 48 ∷ 44 ∷ 48 ∷ 44 ∷ 48 ∷ 44 ∷ 48 ∷ []) ∷ [])) ≡ refused-at 15 7
-unfolding problem-judged judged-from judge malformed wrongCount outOfRange unit-of ordered midnight-ordered
+unfolding problem-judged judged-from judge malformed wrong-count outside-range unit-of ordered midnight-ordered
 limits-crossed = refl
 
 -- a byte 10 after the end line: 12, line 9
 one-byte-over : problem-judged (text-of (kind-line ∷ periods-line ∷ units-line ∷ demand-line ∷ spare-line ∷ first-unit ∷ second-unit ∷ end-line ∷ [] ∷ [])) ≡ refused-at 12 9
-unfolding problem-judged judged-from judge malformed wrongCount outOfRange unit-of ordered midnight-ordered
+unfolding problem-judged judged-from judge malformed wrong-count outside-range unit-of ordered midnight-ordered
 one-byte-over = refl
 
 -- ---- the ends of the ranges
@@ -136,7 +136,7 @@ pub range-ends : map (λ ls. problem-judged (text-of (kind-line ∷ ls))) (
     ≡ refused-at 12 3 ∷ refused-at 12 3 ∷ refused-at 13 2 ∷ refused-at 13 2
     ∷ refused-at 12 4 ∷ refused-at 12 4 ∷ refused-at 13 3 ∷ refused-at 13 3
     ∷ refused-at 12 5 ∷ refused-at 13 4 ∷ refused-at 12 6 ∷ refused-at 13 5 ∷ []
-unfolding problem-judged judged-from judge malformed wrongCount outOfRange digits digitsBy
+unfolding problem-judged judged-from judge malformed wrong-count outside-range digits digits-by
 range-ends = refl
 
 -- document 02, [3], on the line of the only unit; where it is good, the end line is missing, 12. On before, pL 2 and pU 9: p0 2, 9, 1, 10, 0; off before: p0 0, 1; p0
@@ -148,7 +148,7 @@ pub midnight-ends : map (λ l. problem-judged (text-of (kind-line ∷ periods 2 
     ≡ refused-at 12 7 ∷ refused-at 12 7 ∷ refused-at 15 6 ∷ refused-at 15 6 ∷ refused-at 15 6
     ∷ refused-at 12 7 ∷ refused-at 15 6
     ∷ refused-at 12 7 ∷ refused-at 13 6 ∷ refused-at 13 6 ∷ []
-unfolding problem-judged judged-from judge malformed wrongCount outOfRange unit-of ordered midnight-ordered digits digitsBy
+unfolding problem-judged judged-from judge malformed wrong-count outside-range unit-of ordered midnight-ordered digits digits-by
 midnight-ends = refl
 
 -- fourteen good values, a comma and these bytes
@@ -160,13 +160,13 @@ pub midnight-malformed : map (λ l. problem-judged (text-of (kind-line ∷ perio
     rendered unit-key Tini-place false (1000000001 ∷ 0 ∷ 0 ∷ 1 ∷ 1 ∷ 1 ∷ 1 ∷ 1 ∷ 1 ∷ 1 ∷ 0 ∷ 0 ∷ 0 ∷ 0 ∷ 1 ∷ 0 ∷ [])
     ∷ with-last (45 ∷ 49 ∷ []) ∷ with-last (48 ∷ 49 ∷ []) ∷ with-last [] ∷ [])
     ≡ refused-at 14 6 ∷ refused-at 12 6 ∷ refused-at 12 6 ∷ refused-at 12 6 ∷ []
-unfolding problem-judged judged-from judge malformed wrongCount outOfRange unit-of ordered midnight-ordered digits digitsBy
+unfolding problem-judged judged-from judge malformed wrong-count outside-range unit-of ordered midnight-ordered digits digits-by
 midnight-malformed = refl
 
 -- the fifteen numbers on the line of the only unit, at their ends and one beyond; where the line is good, the end line is missing, 12
 pub unit-ends : (map (λ g. problem-judged (text-of (kind-line ∷ periods 2 ∷ units 1 ∷ demand-line ∷ spare-line ∷ unit-line g ∷ []))) at-ends ≡ replicate 4 (refused-at 12 7))
     × (map (λ g. problem-judged (text-of (kind-line ∷ periods 2 ∷ units 1 ∷ demand-line ∷ spare-line ∷ unit-line g ∷ []))) beyond-ends ≡ replicate 23 (refused-at 13 6))
-unfolding problem-judged judged-from judge malformed wrongCount outOfRange unit-of unit-line ordered midnight-ordered digits digitsBy
+unfolding problem-judged judged-from judge malformed wrong-count outside-range unit-of unit-line ordered midnight-ordered digits digits-by
 unit-ends = (refl, refl)
 
 -- ---- the order of the numbers on a line: each breaks two, and the first of 12, 14, 13, 15 refuses it
@@ -180,7 +180,7 @@ pub plain-order : map (λ ls. problem-judged (lines ("kind=problem" ∷ ls))) (
     ∷ ("periods=2" ∷ "units=1" ∷ "demand=1,1" ∷ "spare=320001" ∷ []) ∷ [])
     ≡ refused-at 12 2 ∷ refused-at 12 2 ∷ refused-at 14 2 ∷ refused-at 12 3 ∷ refused-at 12 3 ∷ refused-at 14 3
     ∷ refused-at 12 4 ∷ refused-at 12 4 ∷ refused-at 14 4 ∷ refused-at 12 5 ∷ refused-at 12 5 ∷ refused-at 14 5 ∷ []
-unfolding problem-judged judged-from judge malformed wrongCount outOfRange
+unfolding problem-judged judged-from judge malformed wrong-count outside-range
 plain-order = refl
 
 -- the line of the only unit. 12 and 14: a leading zero and fourteen numbers; 12 and 13: a leading zero and c 10,001, and Tini -0; 12 and 15: a leading zero and pL above
@@ -193,7 +193,7 @@ pub unit-order : map (λ l. problem-judged (lines ("kind=problem" ∷ "periods=2
     ∷ "unit=0,0,0,10001,10000,1,1,1,1,1,0,0,0,0,1" ∷ "unit=0,0,0,1,1,1,1,1,1,1,1000000001,1000000000,0,0,1"
     ∷ "unit=0,0,10001,2,2,1,1,1,1,1,0,0,0,0,1" ∷ "unit=0,0,10001,1,1,1,1,-1,1,1,0,0,0,0,1" ∷ [])
     ≡ replicate 4 (refused-at 12 6) ++ (replicate 4 (refused-at 14 6) ++ replicate 4 (refused-at 13 6))
-unfolding problem-judged judged-from judge malformed wrongCount outOfRange unit-of ordered midnight-ordered
+unfolding problem-judged judged-from judge malformed wrong-count outside-range unit-of ordered midnight-ordered
 unit-order = refl
 
 -- an earlier line comes first, whatever the numbers: 14 or 13 at line 2, 13 at line 5 and 15 at line 6, each before a line that is not the one due
@@ -202,5 +202,5 @@ pub earlier-line : map (λ ls. problem-judged (lines ("kind=problem" ∷ ls))) (
     ∷ ("periods=1" ∷ "units=2" ∷ "demand=1" ∷ "spare=320001" ∷ "end=problem" ∷ [])
     ∷ ("periods=1" ∷ "units=2" ∷ "demand=1" ∷ "spare=1" ∷ "unit=0,0,0,2,1,1,1,1,1,1,0,0,0,0,1" ∷ "end=problem" ∷ []) ∷ [])
     ≡ refused-at 14 2 ∷ refused-at 13 2 ∷ refused-at 13 5 ∷ refused-at 15 6 ∷ []
-unfolding problem-judged judged-from judge malformed wrongCount outOfRange unit-of ordered midnight-ordered
+unfolding problem-judged judged-from judge malformed wrong-count outside-range unit-of ordered midnight-ordered
 earlier-line = refl

@@ -10,17 +10,17 @@ use Rattle.model.specs.declared.generator.Generator.{Generator}
 use Rattle.model.specs.declared.arrays.Problem.{Problem}
 use Rattle.model.specs.Instance.{Instance}
 use Rattle.model.specs.Held.{pad, held, view, blank-generator}
-use Rattle.text.specs.Lines.{linesOf, lineAt}
+use Rattle.text.specs.Lines.{lines-of, line-at}
 use Rattle.text.specs.Course.{refused-at}
 use Rattle.text.specs.declared.Verdict.the-variants as verdict
 use Rattle.text.proofs.Verdicts.{good-next}
 use Rattle.problem.specs.Units.{unit-form}
 use Rattle.problem.specs.Course.{unit-due, end-due, fleet-due}
-use Rattle.problem.specs.Reading.{read-as}
-use Rattle.problem.specs.Following.{Holds, read-from, unit-row}
+use Rattle.problem.specs.ReadAnswers.{read-as}
+use Rattle.problem.specs.Storing.{FilledTo, read-from, unit-row}
 use Rattle.problem.specs.declared.ProblemRead.{ProblemRead}
 use Rattle.problem.specs.declared.unit.UnitRow.{UnitRow}
-use Rattle.problem.proofs.Following.{read-refused, read-on}
+use Rattle.problem.proofs.LineByLine.{read-refused, read-on}
 use Rattle.problem.proofs.UnitRows.{row-number, row-unit}
 
 -- a problem with these units
@@ -34,7 +34,7 @@ abbrev pub remains : List ℕ → ℕ → ℕ → ℕ → List ℕ → List ℕ 
 remains text T n i D R k gs = read-from text i (k + 6) (fleet-due (n - k) (some-units T D R (take k gs)))
 
 module _ (text : List ℕ) (T n i : ℕ) (D R : List ℕ) (k : ℕ) (gs : List Generator) (whole : ProblemRead) (so-far : remains text T n i D R k gs ≡ whole) where
-  module _ (h : k < n) (row : UnitRow) (is : row ≡ unit-row (lineAt text i) i) where
+  module _ (h : k < n) (row : UnitRow) (is : row ≡ unit-row (line-at text i) i) where
     due-more : (P : Instance) → fleet-due (n - k) P ≡ unit-due (n - (k + 1)) P
     due-more P = let e : n - k ≡ suc (n - (k + 1)) = omega arith in ap (λ (m : ℕ). fleet-due m P) e
 
@@ -43,7 +43,7 @@ module _ (text : List ℕ) (T n i : ℕ) (D R : List ℕ) (k : ℕ) (gs : List G
     fleet-refused r m v a =
         let P = some-units T D R (take k gs) in
         a
-        ∙ read-refused text i (k + 6) (unit-due (n - (k + 1)) P) m refl (row-number (lineAt text i) i (n - (k + 1)) m P (ap (λ (x : UnitRow). x .verdict) (sym is) ∙ v))
+        ∙ read-refused text i (k + 6) (unit-due (n - (k + 1)) P) m refl (row-number (line-at text i) i (n - (k + 1)) m P (ap (λ (x : UnitRow). x .verdict) (sym is) ∙ v))
         ∙ ap (read-from text i (k + 6)) (sym (due-more P))
         ∙ so-far
 
@@ -51,13 +51,13 @@ module _ (text : List ℕ) (T n i : ℕ) (D R : List ℕ) (k : ℕ) (gs : List G
     pub fleet-on : (next : ℕ) → row .verdict ≡ verdict.Good next → k < length gs → remains text T n next D R (k + 1) (set gs k (row .generator)) ≡ whole
     fleet-on next v b =
         let P = some-units T D R (take k gs) in
-        let u = row-unit (lineAt text i) i next (ap (λ (x : UnitRow). x .verdict) (sym is) ∙ v) in
-        let g : row .generator ≡ unit-row (lineAt text i) i .generator = ap (λ (x : UnitRow). x .generator) is in
-        let t : take (k + 1) (set gs k (row .generator)) ≡ take k gs ++ (unit-row (lineAt text i) i .generator ∷ []) = ap (λ (m : ℕ). take m (set gs k (row .generator))) (add-one k) ∙ take-suc-set gs k (row .generator) b ∙ ap (λ (x : Generator). take k gs ++ (x ∷ [])) g in
+        let u = row-unit (line-at text i) i next (ap (λ (x : UnitRow). x .verdict) (sym is) ∙ v) in
+        let g : row .generator ≡ unit-row (line-at text i) i .generator = ap (λ (x : UnitRow). x .generator) is in
+        let t : take (k + 1) (set gs k (row .generator)) ≡ take k gs ++ (unit-row (line-at text i) i .generator ∷ []) = ap (λ (m : ℕ). take m (set gs k (row .generator))) (add-one k) ∙ take-suc-set gs k (row .generator) b ∙ ap (λ (x : Generator). take k gs ++ (x ∷ [])) g in
         let l : k + 1 + 6 ≡ suc (k + 6) = omega arith in
         (λ j. read-from text next (l j) (fleet-due (n - (k + 1)) (some-units T D R (t j))))
         ∙ read-on text i (k + 6) (unit-due (n - (k + 1)) P) next _ (u .judged (n - (k + 1)) P)
-        (ap (λ (m : ℕ). linesOf (drop m text)) (u .place) ∙ good-next unit-form text i (u .formed))
+        (ap (λ (m : ℕ). lines-of (drop m text)) (u .place) ∙ good-next unit-form text i (u .formed))
         ∙ ap (read-from text i (k + 6)) (sym (due-more P))
         ∙ so-far
 
@@ -68,7 +68,7 @@ module _ (T n : ℕ) (D R : List ℕ) (gs : List Generator) where
   abbrev pub arrays : Problem
   arrays = record { periods = T; units = n; demand = D; spare = R; generators = gs }
 
-  pub arrays-held : Holds T D → Holds T R → length gs ≡ 32 → n ≤ 32 → pad blank-generator 32 (take n gs) ≡ gs → held (view arrays) ≡ arrays
+  pub arrays-held : FilledTo T D → FilledTo T R → length gs ≡ 32 → n ≤ 32 → pad blank-generator 32 (take n gs) ≡ gs → held (view arrays) ≡ arrays
   unfolding held view pad
   arrays-held d r l h e =
       λ i. record { periods = T; units = length-take-le n gs (omega arith) i; demand = d i; spare = r i; generators = e i }

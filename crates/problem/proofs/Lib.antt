@@ -1,5 +1,5 @@
 pub mod Refusals
-pub mod Following
+pub mod LineByLine
 pub mod UnitRows
 pub mod Padding
 pub mod Fleets
@@ -15,7 +15,7 @@ pub mod Completed
 pub mod Beginnings
 pub mod WhichLine
 pub mod Acceptance
-pub mod Answers
+pub mod ReadAnswers
 pub mod Sizes
 pub mod Examples
 pub mod WrongTests

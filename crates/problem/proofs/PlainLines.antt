@@ -11,18 +11,18 @@ use Rattle.text.specs.Forms.{plain, numbers-of, form-tests}
 use Rattle.text.specs.Rendering.{plain-line}
 use Rattle.text.specs.Course.{good}
 use Rattle.text.specs.Tests.{Test, found}
-use Rattle.text.proofs.Plain.{Between, plain-good, plain-numbers}
+use Rattle.text.proofs.Plain.{AllBetween, plain-good, plain-numbers}
 use Rattle.text.proofs.Verdicts.{form-found}
 use Rattle.problem.specs.Course.{Due, tests, next-due, judge}
 
 -- ---- ranges of lists, said in two ways
 
-pub all-between : (lo hi : ℕ) (vs : List ℕ) → All (λ v. ranges.Between lo v hi) vs → Between lo hi vs
+pub all-between : (lo hi : ℕ) (vs : List ℕ) → All (λ v. ranges.Between lo v hi) vs → AllBetween lo hi vs
 all-between lo hi [] a i h = absurd (omega arith)
 all-between lo hi (v ∷ vs) a zero h = a .0
 all-between lo hi (v ∷ vs) a (suc i) h = all-between lo hi vs (a .1) i (omega arith)
 
-pub between-all : (lo hi : ℕ) (vs : List ℕ) → Between lo hi vs → All (λ v. ranges.Between lo v hi) vs
+pub between-all : (lo hi : ℕ) (vs : List ℕ) → AllBetween lo hi vs → All (λ v. ranges.Between lo v hi) vs
 between-all lo hi [] b = tt
 between-all lo hi (v ∷ vs) b = (b 0 (omega arith), between-all lo hi vs (λ i h. b (suc i) (omega arith)))
 

@@ -5,13 +5,14 @@ use mathlib.Core.Path.{_≡_, refl}
 use mathlib.Core.Bool.{true}
 use mathlib.Core.Logic.{_↔_}
 use mathlib.Core.List.{List}
-use Rattle.refusal.specs.Refusals.{carriesLine, refusalOf, line-refusal}
+use Rattle.refusal.specs.Refusals.{carries-line, refusal-of, line-refusal}
 use Rattle.refusal.proofs.Places.{line-only}
-use Rattle.text.specs.Lines.{Line, missing, later, linesOf}
+use Rattle.text.specs.Lines.{Line, missing, later, lines-of}
 use Rattle.text.specs.Forms.{malformed}
 use Rattle.text.specs.Course.{refused, refused-at}
 use Rattle.text.proofs.Tests.{Every}
-use Rattle.text.proofs.Courses.{refused-is, number-every}
+use Rattle.text.proofs.Courses as courses
+use Rattle.text.proofs.Courses.{number-every}
 use Rattle.problem.specs.Course.{Due, periods-due, units-due, demand-due, spare-due, unit-due, end-due, nothing-due, next-due, tests, judge, end, problem-judged}
 use Rattle.problem.specs.Refusals.{RefusedAt}
 use Rattle.problem.proofs.WhichLine.{refused-line-is}
@@ -28,15 +29,15 @@ judge-missing (end-due P) = refl
 judge-missing (nothing-due P) = refl
 
 -- refused by n at line m
-pub problem-refused : (n m : ℕ) (text : List ℕ) → (problem-judged text ≡ refused-at n m) ↔ RefusedAt text n m
+pub refused-is : (n m : ℕ) (text : List ℕ) → (problem-judged text ≡ refused-at n m) ↔ RefusedAt text n m
 unfolding problem-judged judge
-problem-refused n m text =
-    let c = refused-is tests next-due end n m 2 periods-due (later (linesOf text)) in
+refused-is n m text =
+    let c = courses.refused-is tests next-due end n m 2 periods-due (later (lines-of text)) in
     let w = refused-line-is n m text in
     (λ e. w .0 (c .0 e), λ r. c .1 (w .1 r))
 
-all-lined : (s : Due) (l : Line) → Every (λ n. carriesLine n ≡ true) (tests s l)
-unfolding carriesLine
+all-lined : (s : Due) (l : Line) → Every (λ n. carries-line n ≡ true) (tests s l)
+unfolding carries-line
 all-lined periods-due l = (refl, (refl, (refl, tt)))
 all-lined (units-due T) l = (refl, (refl, (refl, tt)))
 all-lined (demand-due T I) l = (refl, (refl, (refl, tt)))
@@ -45,7 +46,7 @@ all-lined (unit-due n P) l = (refl, (refl, (refl, (refl, tt))))
 all-lined (end-due P) l = (refl, tt)
 all-lined (nothing-due P) l = (refl, tt)
 
-pub refused-carries : (n m : ℕ) (text : List ℕ) → RefusedAt text n m → refusalOf n m 0 0 ≡ line-refusal n m
-unfolding carriesLine
+pub refused-carries : (n m : ℕ) (text : List ℕ) → RefusedAt text n m → refusal-of n m 0 0 ≡ line-refusal n m
+unfolding carries-line
 refused-carries n m text r =
-    line-only n m (number-every tests next-due end (λ k. carriesLine k ≡ true) refl all-lined n m 2 periods-due (later (linesOf text)) (refused-line-is n m text .1 r))
+    line-only n m (number-every tests next-due end (λ k. carries-line k ≡ true) refl all-lined n m 2 periods-due (later (lines-of text)) (refused-line-is n m text .1 r))

@@ -8,7 +8,7 @@ use lib.ListN.{length, getD}
 use Rattle.model.specs.declared.generator.Generator.{Generator}
 use Rattle.model.specs.Instance.{Instance}
 use Rattle.model.specs.Ranges.{Between, All, GoodLoad, GoodUnit, WellFormed, ordered}
-use Rattle.text.specs.Lines.{Line, ended, endProblem}
+use Rattle.text.specs.Lines.{Line, ended, end-problem}
 use Rattle.text.specs.Course.{good}
 use Rattle.text.specs.Tests.{_if_, found, Passed, none-yet, AllPassed}
 use Rattle.text.specs.Rendering.{plain-line}
@@ -46,12 +46,12 @@ unit-judged n P g G =
     ∙ rw (of-ordered g (G .ordered)) refl
 
 pub fleet-good : (gs : List Generator) (P : Instance) → All GoodUnit gs
-    → Passed tests next-due (fleet-due (length gs) P) (map ended (map unit-line gs ++ (endProblem ∷ []))) (nothing-due (with-units P gs))
+    → Passed tests next-due (fleet-due (length gs) P) (map ended (map unit-line gs ++ (end-problem ∷ []))) (nothing-due (with-units P gs))
 fleet-good [] P a =
-    subst (λ (gs : List Generator). Passed tests next-due (end-due P) (ended endProblem ∷ []) (nothing-due (having P gs))) (sym (append-nil (P .units)))
-    (also (judge-end P (ended endProblem) (same-self endProblem)) none-yet)
+    subst (λ (gs : List Generator). Passed tests next-due (end-due P) (ended end-problem ∷ []) (nothing-due (having P gs))) (sym (append-nil (P .units)))
+    (also (judge-end P (ended end-problem) (same-self end-problem)) none-yet)
 fleet-good (g ∷ gs) P a =
-    subst (λ (hs : List Generator). Passed tests next-due (unit-due (length gs) P) (map ended (map unit-line (g ∷ gs) ++ (endProblem ∷ []))) (nothing-due (having P hs))) (append-assoc (P .units) (g ∷ []) gs)
+    subst (λ (hs : List Generator). Passed tests next-due (unit-due (length gs) P) (map ended (map unit-line (g ∷ gs) ++ (end-problem ∷ []))) (nothing-due (having P hs))) (append-assoc (P .units) (g ∷ []) gs)
     (also (unit-judged (length gs) P g (a .0)) (fleet-good gs (with-unit P g) (a .1)))
 
 -- ---- the lines before them

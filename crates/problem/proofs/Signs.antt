@@ -11,9 +11,9 @@ use Rattle.model.specs.Instance.{Tini}
 use Rattle.model.specs.Ranges.{InRange, ordered}
 use Rattle.text.specs.Lines.{Line}
 use Rattle.text.specs.Forms as forms
-use Rattle.text.specs.Forms.{valuesOf}
+use Rattle.text.specs.Forms.{values-of}
 use Rattle.text.proofs.Accepted.{values-rendered}
-use Rattle.problem.specs.Units.{numbers, unit-values, unit-line, unit-form, unit-of}
+use Rattle.problem.specs.Units.{unit-numbers, unit-values, unit-line, unit-form, unit-of}
 use Rattle.problem.proofs.UnitLines.{unit-fits, unit-line-was}
 
 -- a generator with another Tini
@@ -47,12 +47,12 @@ Tini-shown g R = go (g .on) (g .since) (R .since-in .0)
     go false (suc n) h = refl
 
 -- on a good line, of the generator that is read from it
-pub Tini-read : (l : Line) → forms.good unit-form l ≡ true → ordered (unit-of l) ≡ true → getD (valuesOf unit-form l) 7 [] ≡ shown-whole (Tini (unit-of l))
+pub Tini-read : (l : Line) → forms.good-line unit-form l ≡ true → ordered (unit-of l) ≡ true → getD (values-of unit-form l) 7 [] ≡ shown-whole (Tini (unit-of l))
 unfolding unit-line
 Tini-read l g o =
     let u = unit-line-was l g o in
     let h = unit-of l in
     let R = u .good .in-range in
-    ap (λ (x : Line). getD (valuesOf unit-form x) 7 []) (u .line)
-    ∙ ap (λ (vs : List (List ℕ)). getD vs 7 []) (values-rendered unit-form (not (h .on)) (numbers h) (unit-fits h R))
+    ap (λ (x : Line). getD (values-of unit-form x) 7 []) (u .line)
+    ∙ ap (λ (vs : List (List ℕ)). getD vs 7 []) (values-rendered unit-form (not (h .on)) (unit-numbers h) (unit-fits h R))
     ∙ Tini-shown h R

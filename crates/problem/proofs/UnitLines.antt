@@ -14,12 +14,12 @@ use Rattle.model.proofs.Tests.{true-T, T-true}
 use Rattle.model.proofs.RangeTests.{ordered-is}
 use Rattle.text.specs.Lines.{Line, ended}
 use Rattle.text.specs.Forms as forms
-use Rattle.text.specs.Forms.{withinAll, valuesOf, sizes, anyMinus}
+use Rattle.text.specs.Forms.{all-within, values-of, sizes, any-minus}
 use Rattle.text.specs.Rendering.{rendered}
 use Rattle.text.proofs.Cuts.{and-both}
-use Rattle.text.proofs.Shown.{sizes-shown, any-minus}
+use Rattle.text.proofs.Shown.{sizes-shown, all-shown-minus}
 use Rattle.text.proofs.Accepted.{Fits, values-rendered, rendered-good, good-rendered}
-use Rattle.problem.specs.Units.{unit-key, Tini-place, numbers, generator, unit-values, unit-line, unit-lows, unit-highs, unit-form, unit-of}
+use Rattle.problem.specs.Units.{unit-key, Tini-place, unit-numbers, generator, unit-values, unit-line, unit-lows, unit-highs, unit-form, unit-of}
 
 -- ---- a generator and its numbers
 
@@ -37,11 +37,11 @@ all-from zero k vs e = sym (drop-of-length-le vs {i = k} (omega arith))
 all-from (suc n) k vs e = ap (λ (l : List ℕ). getD vs k 0 ∷ l) (all-from n (suc k) vs (omega arith)) ∙ sym (drop-cons vs k 0 (omega arith))
 
 -- the numbers of a generator that is built from fifteen are these
-pub numbers-generator : (minus : Bool) (vs : List ℕ) → length vs ≡ 15 → numbers (generator minus vs) ≡ vs
+pub numbers-generator : (minus : Bool) (vs : List ℕ) → length vs ≡ 15 → unit-numbers (generator minus vs) ≡ vs
 numbers-generator minus vs e = all-from 15 0 vs e
 
 -- the generator that is built from a generator's numbers and sign is that generator
-pub generator-numbers : (g : Generator) → generator (not (g .on)) (numbers g) ≡ g
+pub generator-numbers : (g : Generator) → generator (not (g .on)) (unit-numbers g) ≡ g
 generator-numbers g = λ i. record {
   a = g .a;
   b = g .b;
@@ -73,7 +73,7 @@ within-is : (l x h : ℕ) (b : Bool) → Between l x h → b ≡ true → (leb l
 within-is l x h b p e = simp (le-leb l x (p .0), le-leb x h (p .1), e)
 
 module _ (g : Generator) where
-  pub in-range-of : withinAll (numbers g) unit-lows unit-highs ≡ true → InRange g
+  pub in-range-of : all-within (unit-numbers g) unit-lows unit-highs ≡ true → InRange g
   in-range-of e =
       let a = is-within 0 (g .a) 1000000000 _ e in
       let b = is-within 0 (g .b) 10000000 _ (a .1) in
@@ -108,7 +108,7 @@ module _ (g : Generator) where
         p0-in = p0 .0;
       }
 
-  pub of-in-range : InRange g → withinAll (numbers g) unit-lows unit-highs ≡ true
+  pub of-in-range : InRange g → all-within (unit-numbers g) unit-lows unit-highs ≡ true
   of-in-range R =
       within-is 0 (g .a) 1000000000 _ (R .a-in) (within-is 0 (g .b) 10000000 _ (R .b-in) (within-is 0 (g .c) 10000 _ (R .c-in)
       (within-is 1 (g .pL) 10000 _ (R .pL-in) (within-is 1 (g .pU) 10000 _ (R .pU-in) (within-is 1 (g .TU) 48 _ (R .TU-in)
@@ -124,7 +124,7 @@ module _ (g : Generator) where
 
   -- ---- the line of a generator
 
-  pub unit-fits : InRange g → Fits unit-form (not (g .on)) (numbers g)
+  pub unit-fits : InRange g → Fits unit-form (not (g .on)) (unit-numbers g)
   unit-fits R = record {
     some = omega arith;
     count = refl;
@@ -132,40 +132,40 @@ module _ (g : Generator) where
     sign = λ e. (omega arith, (omega arith, R .since-in .0));
   }
 
-  pub unit-line-good : InRange g → forms.good unit-form (ended (unit-line g)) ≡ true
+  pub unit-line-good : InRange g → forms.good-line unit-form (ended (unit-line g)) ≡ true
   unfolding unit-line
-  unit-line-good R = rendered-good unit-form (not (g .on)) (numbers g) (unit-fits R)
+  unit-line-good R = rendered-good unit-form (not (g .on)) (unit-numbers g) (unit-fits R)
 
   -- reading it gives the generator
   pub unit-line-of : InRange g → unit-of (ended (unit-line g)) ≡ g
   unfolding unit-line unit-of
   unit-line-of R =
       let F = unit-fits R in
-      let v = values-rendered unit-form (not (g .on)) (numbers g) F in
-      let m : anyMinus (unit-values g) ≡ not (g .on) = any-minus Tini-place (not (g .on)) 1 (numbers g) (λ e. (F .sign e .0, F .sign e .1 .0)) in
-      ap (λ (x : List (List ℕ)). generator (anyMinus x) (sizes x)) v
-      ∙ (λ i. generator (m i) (sizes-shown Tini-place (not (g .on)) 1 (numbers g) i))
+      let v = values-rendered unit-form (not (g .on)) (unit-numbers g) F in
+      let m : any-minus (unit-values g) ≡ not (g .on) = all-shown-minus Tini-place (not (g .on)) 1 (unit-numbers g) (λ e. (F .sign e .0, F .sign e .1 .0)) in
+      ap (λ (x : List (List ℕ)). generator (any-minus x) (sizes x)) v
+      ∙ (λ i. generator (m i) (sizes-shown Tini-place (not (g .on)) 1 (unit-numbers g) i))
       ∙ generator-numbers g
 
 -- ---- a line that is good
 
 -- its form is good: it is the line of a generator whose numbers are in range
-pub unit-line-formed : (l : Line) → forms.good unit-form l ≡ true → (l ≡ ended (unit-line (unit-of l))) × InRange (unit-of l)
+pub unit-line-formed : (l : Line) → forms.good-line unit-form l ≡ true → (l ≡ ended (unit-line (unit-of l))) × InRange (unit-of l)
 unfolding unit-line unit-of
 unit-line-formed l g =
     let A = good-rendered unit-form l g in
-    let minus = anyMinus (valuesOf unit-form l) in
-    let vs = sizes (valuesOf unit-form l) in
-    let n : numbers (generator minus vs) ≡ vs = numbers-generator minus vs (A .fits .count) in (
+    let minus = any-minus (values-of unit-form l) in
+    let vs = sizes (values-of unit-form l) in
+    let n : unit-numbers (generator minus vs) ≡ vs = numbers-generator minus vs (A .fits .count) in (
       A .line ∙ (λ i. ended (rendered unit-key Tini-place (sym (not-not minus) i) (sym n i))),
-      in-range-of (generator minus vs) (ap (λ (x : List ℕ). withinAll x unit-lows unit-highs) n ∙ A .fits .range),
+      in-range-of (generator minus vs) (ap (λ (x : List ℕ). all-within x unit-lows unit-highs) n ∙ A .fits .range),
     )
 
 pub record IsUnitLine (l : Line) : Type 0 where
   pub line : l ≡ ended (unit-line (unit-of l))
   pub good : GoodUnit (unit-of l)
 
-pub unit-line-was : (l : Line) → forms.good unit-form l ≡ true → ordered (unit-of l) ≡ true → IsUnitLine l
+pub unit-line-was : (l : Line) → forms.good-line unit-form l ≡ true → ordered (unit-of l) ≡ true → IsUnitLine l
 unit-line-was l g o =
     let f = unit-line-formed l g in
     record { line = f .0; good = record { in-range = f .1; ordered = ordered-of (unit-of l) o } }

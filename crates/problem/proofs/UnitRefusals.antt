@@ -9,10 +9,10 @@ use lib.ListN.{length}
 use Rattle.model.specs.declared.generator.Generator.{Generator}
 use Rattle.model.specs.Instance.{Instance}
 use Rattle.model.specs.Ranges.{InRange, Ordered, WellFormed}
-use Rattle.text.specs.Lines.{Line, ended, due, later, linesOf, endProblem}
+use Rattle.text.specs.Lines.{Line, ended, due, later, lines-of, end-problem}
 use Rattle.text.specs.Forms.{Form}
-use Rattle.text.specs.LineRefused.{Renders, InRanges, Unfit, no-values, miscounted, out-of-range, Beginning, Refuses, at-numbers, at-last, behind-last}
-use Rattle.problem.specs.Units.{numbers, generator, unit-line, unit-lows, unit-highs, unit-form, unit-of}
+use Rattle.text.specs.LineRefused.{Renders, InRanges, Unfit, shows-none, miscounted, out-of-range, Beginning, Refuses, at-numbers, at-last, behind-last}
+use Rattle.problem.specs.Units.{unit-numbers, generator, unit-line, unit-lows, unit-highs, unit-form, unit-of}
 use Rattle.problem.specs.Rendering.{lines-after}
 use Rattle.problem.specs.Refusals.{FormAt, Breaks, unfit, disordered, RefusedAt, InLimits}
 use Rattle.problem.proofs.UnitLines.{numbers-generator, unit-line-of}
@@ -20,7 +20,7 @@ use Rattle.problem.proofs.UnitLines.{numbers-generator, unit-line-of}
 -- ---- one line
 
 -- values in the ranges of a unit line are the numbers of a generator in range
-in-ranges : (g : Generator) → InRanges (numbers g) unit-lows unit-highs → InRange g
+in-ranges : (g : Generator) → InRanges (unit-numbers g) unit-lows unit-highs → InRange g
 in-ranges g h =
     let b = h .1 .1 in
     let c = b .1 .1 in
@@ -59,7 +59,7 @@ one-generator : (g h : Generator) → InRange g → InRange h → ended (unit-li
 one-generator g h R S e = sym (unit-line-of g R) ∙ ap unit-of e ∙ unit-line-of h S
 
 unfit-below-15 : {f : Form} {l : Line} {n : ℕ} → Unfit f l n → n ≡ 15 → ⊥
-unfit-below-15 (no-values never) e = omega (arith, e)
+unfit-below-15 (shows-none never) e = omega (arith, e)
 unfit-below-15 (miscounted neg vs r never) e = omega (arith, e)
 unfit-below-15 (out-of-range neg vs r c never) e = omega (arith, e)
 
@@ -91,7 +91,7 @@ same-left [] (y ∷ b) c d e q = absurd (omega (arith, e))
 same-left (x ∷ a) [] c d e q = absurd (omega (arith, e))
 same-left (x ∷ a) (y ∷ b) c d e q = same-left a b c d (omega (arith, e)) (let r : a ++ c ≡ b ++ d = cc in r)
 
-module _ (text : List ℕ) (before rest : List Line) (x : Line) (lines : later (linesOf text) ≡ before ++ (x ∷ rest)) (P : Instance)
+module _ (text : List ℕ) (before rest : List Line) (x : Line) (lines : later (lines-of text) ≡ before ++ (x ∷ rest)) (P : Instance)
     (b : Beginning lines-after InLimits before P) where
   pub line-refused : (n : ℕ) → Breaks P (length before) x n → RefusedAt text n (2 + length before)
   line-refused n h = record { value = P; before = before; left = x ∷ rest; parts = lines; begins = b; place = refl; refuses = at-numbers h }
@@ -105,7 +105,7 @@ module _ (text : List ℕ) (before rest : List Line) (x : Line) (lines : later (
     λ n. line-refused 15 (disordered F g e R n),
   )
     where
-      ordered-not : (Q : Instance) (k : ℕ) (left : List Line) → left ≡ x ∷ rest → (n : ℕ) → Refuses lines-after endProblem (λ P k. WellFormed P) Breaks Q k left n → n ≡ 15
+      ordered-not : (Q : Instance) (k : ℕ) (left : List Line) → left ≡ x ∷ rest → (n : ℕ) → Refuses lines-after end-problem (λ P k. WellFormed P) Breaks Q k left n → n ≡ 15
           → Ordered g → ⊥
       ordered-not Q k left q n (at-numbers h) f = breaks-order Q k n (due left) h f g R (ap due q ∙ e)
       ordered-not Q k left q n (at-last p h) f = λ O. omega (arith, f)

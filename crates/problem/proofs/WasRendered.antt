@@ -10,7 +10,7 @@ use borrow.Author.Tests.{not-false}
 use Rattle.model.specs.declared.generator.Generator.{Generator}
 use Rattle.model.specs.Instance.{Instance}
 use Rattle.model.specs.Ranges.{Between, All, GoodLoad, GoodUnit, WellFormed, ordered}
-use Rattle.text.specs.Lines.{Line, ended, isLine, endProblem}
+use Rattle.text.specs.Lines.{Line, ended, is-line, end-problem}
 use Rattle.text.specs.Forms.{numbers-of}
 use Rattle.text.specs.Rendering.{plain-line}
 use Rattle.text.specs.Tests.{_if_, None, Passed, none-yet, one-more, AllPassed}
@@ -63,12 +63,12 @@ pub record IsFleet (n : ℕ) (Q P : Instance) (ls : List Line) : Type 0 where
   pub count : length units ≡ n
   pub all-good : All GoodUnit units
   pub whole : P ≡ with-units Q units
-  pub lines : ls ≡ map ended (map unit-line units ++ (endProblem ∷ []))
+  pub lines : ls ≡ map ended (map unit-line units ++ (end-problem ∷ []))
 
 pub fleet-was : (n : ℕ) (Q P : Instance) (ls : List Line) → AllPassed tests next-due end P (fleet-due n Q) ls → IsFleet n Q P ls
 fleet-was zero Q P ls a =
     let t = take-line P (end-due Q) ls refl a in
-    let e = word-is endProblem (t .first) (not-false (isLine endProblem (t .first)) (t .passes .0)) in
+    let e = word-is end-problem (t .first) (not-false (is-line end-problem (t .first)) (t .passes .0)) in
     let r = take-none P Q (t .rest) (t .after) in
     record {
       units = [];
@@ -101,7 +101,7 @@ record FromSpare (T I : ℕ) (D : List ℕ) (P : Instance) (ls : List Line) : Ty
   spare-long : length (P .spare) ≡ P .periods
   spare-in : All GoodLoad (P .spare)
   units-good : All GoodUnit (P .units)
-  lines : ls ≡ ended (plain-line spare-key (P .spare)) ∷ map ended (map unit-line (P .units) ++ (endProblem ∷ []))
+  lines : ls ≡ ended (plain-line spare-key (P .spare)) ∷ map ended (map unit-line (P .units) ++ (end-problem ∷ []))
 
 spare-was : (T I : ℕ) (D : List ℕ) (P : Instance) (ls : List Line) → AllPassed tests next-due end P (spare-due T I D) ls → FromSpare T I D P ls
 spare-was T I D P ls a =

@@ -8,15 +8,15 @@ use mathlib.Core.List.{List, [], _∷_}
 use mathlib.Core.Logic.{_↔_}
 use lib.Dec.{ltb}
 use lib.ListN.{length}
-use Rattle.decimal.specs.Decimal.{digits, digitsBy}
+use Rattle.decimal.specs.Decimal.{digits, digits-by}
 use Rattle.model.specs.Instance.{Instance}
 use Rattle.model.specs.Ranges.{every, midnight-ordered, ordered}
-use Rattle.text.specs.Lines.{Line, ended, later, linesOf, isLine, kindProblem, endProblem}
-use Rattle.text.specs.Forms.{Form, unsigned, valuesOf, malformed, wrongCount, outOfRange, form-tests, word-tests, nothing-tests}
+use Rattle.text.specs.Lines.{Line, ended, later, lines-of, is-line, kind-problem, end-problem}
+use Rattle.text.specs.Forms.{Form, unsigned, values-of, malformed, wrong-count, outside-range, form-tests, word-tests, nothing-tests}
 use Rattle.text.specs.Rendering.{rendered, plain-line, text-of}
 use Rattle.text.specs.Course.{Judged, refused-at, accepted, judged-from}
-use Rattle.text.specs.Tests.{Test, _if_, First, this}
-use Rattle.text.specs.LineRefused.{Renders, Unfit, no-values, miscounted, out-of-range}
+use Rattle.text.specs.Tests.{Test, _if_, FirstTrue, this}
+use Rattle.text.specs.LineRefused.{Renders, Unfit, shows-none, miscounted, out-of-range}
 use Rattle.text.proofs.Courses.{judge}
 use Rattle.text.proofs.Partition.{twelve-is}
 use Rattle.problem.specs.Units.{unit-key, Tini-place, unit-form, unit-of}
@@ -24,13 +24,13 @@ use Rattle.problem.specs.Rendering.{periods-key, units-key, demand-key, 
 use Rattle.problem.specs.Course as course
 use Rattle.problem.specs.Course.{Due, periods-due, units-due, demand-due, spare-due, unit-due, end-due, nothing-due, periods-form, units-form, demand-form, spare-form, next-due, end, tests, problem-judged}
 use Rattle.problem.specs.Refusals.{RefusedAt}
-use Rattle.problem.proofs.Refusals.{problem-refused}
+use Rattle.problem.proofs.Refusals.{refused-is}
 
 -- ---- the law of refused lines, were lines tested otherwise
 
 -- a problem's text whose lines are tested so
 abbrev judged-by : (Due → Line → List Test) → List ℕ → Judged Instance
-judged-by tests text = judged-from (judge tests next-due end) end 2 periods-due (later (linesOf text))
+judged-by tests text = judged-from (judge tests next-due end) end 2 periods-due (later (lines-of text))
 
 abbrev pub RefusesLines : (Due → Line → List Test) → Type 0
 RefusesLines tests = (n m : ℕ) (text : List ℕ) → (judged-by tests text ≡ refused-at n m) ↔ RefusedAt text n m
@@ -38,7 +38,7 @@ RefusesLines tests = (n m : ℕ) (text : List ℕ) → (judged-by tests text ≡
 -- it holds as they are tested
 pub tests-refuse : RefusesLines tests
 unfolding problem-judged course.judge
-tests-refuse = problem-refused
+tests-refuse = refused-is
 
 refused-number : Judged Instance → ℕ
 refused-number (refused-at n m) = n
@@ -56,22 +56,22 @@ late-tests (units-due T) l = form-tests units-form l []
 late-tests (demand-due T I) l = form-tests (demand-form T) l []
 late-tests (spare-due T I D) l = form-tests (spare-form T) l []
 late-tests (unit-due n P) l = form-tests unit-form l []
-late-tests (end-due P) l = 12 if not (isLine endProblem l) ∷ 15 if not (every ordered (P .units)) ∷ []
+late-tests (end-due P) l = 12 if not (is-line end-problem l) ∷ 15 if not (every ordered (P .units)) ∷ []
 late-tests (nothing-due P) l = nothing-tests
 
 -- one period and one unit, whose pL is 2 and pU 1
 abbrev crossed-text : List ℕ
 crossed-text = text-of (
-    kindProblem ∷ plain-line periods-key (1 ∷ []) ∷ plain-line units-key (1 ∷ []) ∷ plain-line demand-key (0 ∷ []) ∷ plain-line spare-key (0 ∷ [])
-    ∷ rendered unit-key Tini-place false (0 ∷ 0 ∷ 0 ∷ 2 ∷ 1 ∷ 1 ∷ 1 ∷ 1 ∷ 1 ∷ 1 ∷ 0 ∷ 0 ∷ 0 ∷ 0 ∷ 1 ∷ []) ∷ endProblem ∷ []
+    kind-problem ∷ plain-line periods-key (1 ∷ []) ∷ plain-line units-key (1 ∷ []) ∷ plain-line demand-key (0 ∷ []) ∷ plain-line spare-key (0 ∷ [])
+    ∷ rendered unit-key Tini-place false (0 ∷ 0 ∷ 0 ∷ 2 ∷ 1 ∷ 1 ∷ 1 ∷ 1 ∷ 1 ∷ 1 ∷ 0 ∷ 0 ∷ 0 ∷ 0 ∷ 1 ∷ []) ∷ end-problem ∷ []
     )
 
 crossed-late : judged-by late-tests crossed-text ≡ refused-at 15 7
-unfolding judged-from malformed wrongCount outOfRange unit-of ordered midnight-ordered digits digitsBy
+unfolding judged-from malformed wrong-count outside-range unit-of ordered midnight-ordered digits digits-by
 crossed-late = refl
 
 crossed-due : judged-by tests crossed-text ≡ refused-at 15 6
-unfolding judged-from malformed wrongCount outOfRange unit-of ordered midnight-ordered digits digitsBy
+unfolding judged-from malformed wrong-count outside-range unit-of ordered midnight-ordered digits digits-by
 crossed-due = refl
 
 -- its line is not the one that is refused by renderings
@@ -86,7 +86,7 @@ any-long [] = false
 any-long (f ∷ fs) = ltb 20 (length (unsigned f)) || any-long fs
 
 abbrev long-form-tests : Form → Line → List Test → List Test
-long-form-tests f l ts = 12 if (malformed f l || any-long (valuesOf f l)) ∷ 14 if wrongCount f l ∷ 13 if outOfRange f l ∷ ts
+long-form-tests f l ts = 12 if (malformed f l || any-long (values-of f l)) ∷ 14 if wrong-count f l ∷ 13 if outside-range f l ∷ ts
 
 abbrev long-tests : Due → Line → List Test
 long-tests periods-due l = long-form-tests periods-form l []
@@ -94,7 +94,7 @@ long-tests (units-due T) l = long-form-tests units-form l []
 long-tests (demand-due T I) l = long-form-tests (demand-form T) l []
 long-tests (spare-due T I D) l = long-form-tests (spare-form T) l []
 long-tests (unit-due n P) l = long-form-tests unit-form l (15 if not (ordered (unit-of l)) ∷ [])
-long-tests (end-due P) l = word-tests endProblem l
+long-tests (end-due P) l = word-tests end-problem l
 long-tests (nothing-due P) l = nothing-tests
 
 -- periods=100000000000000000000000
@@ -102,14 +102,14 @@ abbrev long-line : List ℕ
 long-line = plain-line periods-key (100000000000000000000000 ∷ [])
 
 abbrev long-text : List ℕ
-long-text = text-of (kindProblem ∷ long-line ∷ [])
+long-text = text-of (kind-problem ∷ long-line ∷ [])
 
 long-twelve : judged-by long-tests long-text ≡ refused-at 12 2
-unfolding judged-from malformed wrongCount outOfRange digits digitsBy
+unfolding judged-from malformed wrong-count outside-range digits digits-by
 long-twelve = refl
 
 long-due : judged-by tests long-text ≡ refused-at 13 2
-unfolding judged-from malformed wrongCount outOfRange digits digitsBy
+unfolding judged-from malformed wrong-count outside-range digits digits-by
 long-due = refl
 
 -- its number is not the one that refuses the line by renderings
@@ -118,20 +118,20 @@ unfolding refused-number
 long-refuted law = omega (arith, ap refused-number (sym long-due ∙ tests-refuse 12 2 long-text .1 (law 12 2 long-text .0 long-twelve)))
 
 -- so too of one line: it is 12 by these tests, and it shows a value
-called-12 : (malformed periods-form (ended long-line) || any-long (valuesOf periods-form (ended long-line))) ≡ true
-unfolding malformed digits digitsBy
+called-12 : (malformed periods-form (ended long-line) || any-long (values-of periods-form (ended long-line))) ≡ true
+unfolding malformed digits digits-by
 called-12 = refl
 
 not-12 : malformed periods-form (ended long-line) ≡ false
-unfolding malformed digits digitsBy
+unfolding malformed digits digits-by
 not-12 = refl
 
 shows-no-values : (f : Form) (l : Line) (n : ℕ) → Unfit f l n → n ≡ 12 → (neg : Bool) (vs : List ℕ) → Renders f l neg vs → ⊥
-shows-no-values f l n (no-values never) e = never
+shows-no-values f l n (shows-none never) e = never
 shows-no-values f l n (miscounted neg vs r never) e = λ _ _ _. omega (arith, e)
 shows-no-values f l n (out-of-range neg vs r c never) e = λ _ _ _. omega (arith, e)
 
-pub long-line-refuted : ((n : ℕ) (f : Form) (l : Line) → First n (long-form-tests f l []) ↔ Unfit f l n) → ⊥
+pub long-line-refuted : ((n : ℕ) (f : Form) (l : Line) → FirstTrue n (long-form-tests f l []) ↔ Unfit f l n) → ⊥
 long-line-refuted law =
     let r = twelve-is periods-form (ended long-line) .0 not-12 in
     shows-no-values periods-form (ended long-line) 12 (law 12 periods-form (ended long-line) .0 (this called-12)) refl (r .0) (r .1) (r .2)

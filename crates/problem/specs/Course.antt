@@ -6,7 +6,7 @@ use mathlib.Core.Option.{Option, none, some}
 use Rattle.model.specs.declared.generator.Generator.{Generator}
 use Rattle.model.specs.Instance.{Instance, _at_}
 use Rattle.model.specs.Ranges.{ordered}
-use Rattle.text.specs.Lines.{Line, later, linesOf, endProblem}
+use Rattle.text.specs.Lines.{Line, later, lines-of, end-problem}
 use Rattle.text.specs.Forms.{Form, plain, numbers-of, form-tests, word-tests, nothing-tests}
 use Rattle.text.specs.Course.{Found, Judged, judged-from}
 use Rattle.text.specs.Tests.{Test, _if_, found}
@@ -72,7 +72,7 @@ tests (units-due T) l = form-tests units-form l []
 tests (demand-due T I) l = form-tests (demand-form T) l []
 tests (spare-due T I D) l = form-tests (spare-form T) l []
 tests (unit-due n P) l = form-tests unit-form l (15 if not (ordered (unit-of l)) ∷ [])
-tests (end-due P) l = word-tests endProblem l
+tests (end-due P) l = word-tests end-problem l
 tests (nothing-due P) l = nothing-tests
 
 -- refused by the first of them that holds, or good, with what is due then
@@ -91,4 +91,4 @@ end (nothing-due P) = some P
 
 -- a text whose first line is kind=problem
 unfoldable pub problem-judged : List ℕ → Judged Instance
-problem-judged text = judged-from judge end 2 periods-due (later (linesOf text))
+problem-judged text = judged-from judge end 2 periods-due (later (lines-of text))

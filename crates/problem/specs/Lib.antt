@@ -3,5 +3,5 @@ pub mod Units
 pub mod Rendering
 pub mod Course
 pub mod Refusals
-pub mod Reading
-pub mod Following
+pub mod ReadAnswers
+pub mod Storing

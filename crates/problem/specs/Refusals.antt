@@ -6,7 +6,7 @@ use lib.ListN.{length}
 use Rattle.model.specs.declared.generator.Generator.{Generator}
 use Rattle.model.specs.Instance.{Instance}
 use Rattle.model.specs.Ranges.{InRange, Ordered, WellFormed}
-use Rattle.text.specs.Lines.{Line, ended, later, linesOf, endProblem}
+use Rattle.text.specs.Lines.{Line, ended, later, lines-of, end-problem}
 use Rattle.text.specs.Forms.{Form}
 use Rattle.text.specs.LineRefused.{Unfit, LineRefused}
 use Rattle.problem.specs.Units.{unit-form, unit-line}
@@ -35,4 +35,4 @@ InLimits P k = WellFormed P
 
 -- the lines before line m begin the text of a well-formed problem, and n refuses line m there
 abbrev pub RefusedAt : List ℕ → ℕ → ℕ → Type 0
-RefusedAt text n m = LineRefused lines-after endProblem InLimits Breaks n m (later (linesOf text))
+RefusedAt text n m = LineRefused lines-after end-problem InLimits Breaks n m (later (lines-of text))

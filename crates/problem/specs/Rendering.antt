@@ -3,7 +3,7 @@ use Prim.Native.Nat.{ℕ}
 use mathlib.Core.List.{List, [], _∷_, _++_, map}
 use lib.ListN.{length}
 use Rattle.model.specs.Instance.{Instance}
-use Rattle.text.specs.Lines.{kindProblem, endProblem}
+use Rattle.text.specs.Lines.{kind-problem, end-problem}
 use Rattle.text.specs.Rendering.{plain-line, text-of}
 use Rattle.problem.specs.Units.{unit-line}
 
@@ -34,8 +34,8 @@ lines-after P =
     ∷ plain-line units-key (length (P .units) ∷ [])
     ∷ plain-line demand-key (P .demand)
     ∷ plain-line spare-key (P .spare)
-    ∷ (map unit-line (P .units) ++ (endProblem ∷ []))
+    ∷ (map unit-line (P .units) ++ (end-problem ∷ []))
 
 -- the whole text
 unfoldable pub render : Instance → List ℕ
-render P = text-of (kindProblem ∷ lines-after P)
+render P = text-of (kind-problem ∷ lines-after P)

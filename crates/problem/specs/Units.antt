@@ -5,8 +5,8 @@ use mathlib.Core.List.{List, [], _∷_}
 use Rattle.model.specs.declared.generator.Generator.{Generator}
 use Rattle.model.specs.Instance.{_at_}
 use Rattle.text.specs.Lines.{Line}
-use Rattle.text.specs.Forms.{Form, form, valuesOf, numbers-of, anyMinus}
-use Rattle.text.specs.Rendering.{rendered, shownAll}
+use Rattle.text.specs.Forms.{Form, form, values-of, numbers-of, any-minus}
+use Rattle.text.specs.Rendering.{rendered, all-shown}
 
 -- ---- document 01, Texts, and document 02, [3]: unit=a,b,c,pL,pU,TU,TD,Tini,DR,UR,Hsc,Csc,Tcold,Dc,p0
 
@@ -19,8 +19,8 @@ abbrev pub Tini-place : ℕ
 Tini-place = 8
 
 -- the numbers of a generator in the order of its line, Tini without its sign
-abbrev pub numbers : Generator → List ℕ
-numbers g =
+abbrev pub unit-numbers : Generator → List ℕ
+unit-numbers g =
     g .a ∷ g .b ∷ g .c ∷ g .pL ∷ g .pU ∷ g .TU ∷ g .TD ∷ g .since ∷ g .DR ∷ g .UR ∷ g .Hsc ∷ g .Csc ∷ g .Tcold ∷ g .Dc ∷ g .p0 ∷ []
 
 -- the generator of numbers in that order, of which Tini carries a minus or not
@@ -48,11 +48,11 @@ generator minus v = record {
 
 -- its values as they stand between the commas: Tini has a minus where the generator was off before period 1
 abbrev pub unit-values : Generator → List (List ℕ)
-unit-values g = shownAll Tini-place (not (g .on)) 1 (numbers g)
+unit-values g = all-shown Tini-place (not (g .on)) 1 (unit-numbers g)
 
 -- the line without its byte 10
 unfoldable pub unit-line : Generator → List ℕ
-unit-line g = rendered unit-key Tini-place (not (g .on)) (numbers g)
+unit-line g = rendered unit-key Tini-place (not (g .on)) (unit-numbers g)
 
 -- ---- document 01, Texts, and document 02, [3]: the ranges of a unit line, Tini's without its sign
 
@@ -70,4 +70,4 @@ unit-form = form unit-key Tini-place unit-lows unit-highs
 -- ---- the generator of a line
 
 unfoldable pub unit-of : Line → Generator
-unit-of l = generator (anyMinus (valuesOf unit-form l)) (numbers-of unit-form l)
+unit-of l = generator (any-minus (values-of unit-form l)) (numbers-of unit-form l)

@@ -7,8 +7,8 @@ ghost use lib.ListN.{take};
 ghost use Rattle.model.specs.Held.{held, view};
 ghost use Rattle.text.specs.Course.{refused-at};
 ghost use Rattle.problem.specs.Course.{units-due, demand-due, spare-due, end-due, fleet-due, no-units};
-ghost use Rattle.problem.specs.Reading.{IsProblem, read-as, problem-read};
-ghost use Rattle.problem.specs.Following.{Holds, read-from};
+ghost use Rattle.problem.specs.ReadAnswers.{IsProblem, read-as, problem-read};
+ghost use Rattle.problem.specs.Storing.{FilledTo, read-from};
 use model::arrays::Problem;
 use model::generator::Generator;
 use model::ranges::Fleet;
@@ -108,7 +108,7 @@ fn read_from_spare(
     units: usize,
     demand: [u64; 48],
 ) -> ProblemRead
-    requires { ⌜ (periods ≤ 48) × ((units ≤ 32) × Holds periods demand) ⌝ }
+    requires { ⌜ (periods ≤ 48) × ((units ≤ 32) × FilledTo periods demand) ⌝ }
     ensures { λ r. ⌜ r ≡ read-from (now (s .entry)) at 5 (spare-due periods units (take periods demand)) ⌝ }
 {
     let row = text::read_row(s, at, b"spare=", periods, Load::LEAST, Load::MOST);
@@ -131,7 +131,7 @@ fn read_from_fleet(
     demand: [u64; 48],
     spare: [u64; 48],
 ) -> ProblemRead
-    requires { ⌜ (periods ≤ 48) × ((units ≤ 32) × (Holds periods demand × Holds periods spare)) ⌝ }
+    requires { ⌜ (periods ≤ 48) × ((units ≤ 32) × (FilledTo periods demand × FilledTo periods spare)) ⌝ }
     ensures { λ r. ⌜ r ≡ read-from (now (s .entry)) at 6 (fleet-due units (no-units periods (take periods demand) (take periods spare))) ⌝ }
 {
     let blank = Generator::blank();

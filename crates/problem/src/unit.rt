@@ -1,8 +1,8 @@
 // The line of a unit.
 ghost use mathlib.Core.Path.{_≡_};
-ghost use Rattle.text.specs.Lines.{lineAt};
+ghost use Rattle.text.specs.Lines.{line-at};
 ghost use Rattle.problem.specs.Units.{generator};
-ghost use Rattle.problem.specs.Following.{no-unit, unit-row};
+ghost use Rattle.problem.specs.Storing.{no-unit-row, unit-row};
 use model::generator::Generator;
 use text::Verdict;
 
@@ -51,7 +51,7 @@ pub struct UnitRow {
 
 // The row of a unit line that a number refuses.
 fn refuse_unit(number: u64) -> UnitRow
-    ensures { λ r. ⌜ r ≡ no-unit number ⌝ }
+    ensures { λ r. ⌜ r ≡ no-unit-row number ⌝ }
 {
     let generator = Generator::blank();
     UnitRow {
@@ -86,7 +86,7 @@ fn make_generator(minus: bool, v: [u64; 48]) -> Generator
 
 // The unit line that starts at `at`.
 pub fn read_unit(s: &[u8], at: usize) -> UnitRow
-    ensures { λ r. ⌜ r ≡ unit-row (lineAt (now (s .entry)) at) at ⌝ }
+    ensures { λ r. ⌜ r ≡ unit-row (line-at (now (s .entry)) at) at ⌝ }
 {
     let row = text::read_line(s, at, b"unit=", 8, &LOWS, &HIGHS);
     let verdict = row.verdict;

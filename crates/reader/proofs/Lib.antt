@@ -1,3 +1,3 @@
-pub mod Answers
+pub mod KindsAndEnds
 pub mod Holding
 pub mod WriterLines

@@ -2,10 +2,10 @@
 ghost use mathlib.Core.Path.{_≡_};
 ghost use mathlib.Core.Bool.{true};
 ghost use lib.ListN.{drop};
-ghost use Rattle.text.specs.Lines.{oneLine, linesOf, lineAt, kindOf, due};
-ghost use Rattle.text.specs.Ends.{endOf};
-ghost use Rattle.reader.specs.Places.{placed, linesLeft};
-ghost use Rattle.reader.specs.Written.{writerLine, writerRead};
+ghost use Rattle.text.specs.Lines.{one-line, lines-of, line-at, kind-of, due};
+ghost use Rattle.text.specs.Ends.{end-of};
+ghost use Rattle.reader.specs.Places.{placed, lines-left};
+ghost use Rattle.reader.specs.Written.{writer-line, writer-read};
 use model::ranges::Writer;
 use text::End;
 use text::Kind;
@@ -56,22 +56,22 @@ impl<'a> Reader<'a> {
 
     // The kind of text that the next line says.
     pub fn kind(self) -> Kind
-        ensures { λ r. ⌜ r ≡ kindOf (due (linesLeft (self .entry))) ⌝ }
+        ensures { λ r. ⌜ r ≡ kind-of (due (lines-left (self .entry))) ⌝ }
     {
         kind_at(self.text, self.at)
     }
 
     // Whether the next line is the end line, this word, and the last.
     pub fn end<'b>(self, word: &'b [u8]) -> End
-        requires { ⌜ oneLine (now word) ≡ true ⌝ }
-        ensures { λ r. ⌜ r ≡ endOf (now (word .entry)) (linesLeft (self .entry)) ⌝ }
+        requires { ⌜ one-line (now word) ≡ true ⌝ }
+        ensures { λ r. ⌜ r ≡ end-of (now (word .entry)) (lines-left (self .entry)) ⌝ }
     {
         end_at(self.text, self.at, word)
     }
 
     // What the next line says as the writer's, and the reader past it.
     pub fn writer(self) -> WriterRead<'a>
-        ensures { λ r. ⌜ r ≡ writerRead (self .entry) ⌝ }
+        ensures { λ r. ⌜ r ≡ writer-read (self .entry) ⌝ }
     {
         let line = writer_at(self.text, self.at);
         WriterRead {
@@ -86,7 +86,7 @@ impl<'a> Reader<'a> {
 
 // The kind of text that the line says which starts at `at`.
 fn kind_at(s: &[u8], at: usize) -> Kind
-    ensures { λ r. ⌜ r ≡ kindOf (lineAt (now (s .entry)) at) ⌝ }
+    ensures { λ r. ⌜ r ≡ kind-of (line-at (now (s .entry)) at) ⌝ }
 {
     if is_line(s, at, b"kind=problem") {
         return Kind::Problem;
@@ -102,8 +102,8 @@ fn kind_at(s: &[u8], at: usize) -> Kind
 
 // Whether the line that starts at `at` is the end line, this word, and the last.
 fn end_at(s: &[u8], at: usize, word: &[u8]) -> End
-    requires { ⌜ oneLine (now word) ≡ true ⌝ }
-    ensures { λ r. ⌜ r ≡ endOf (now (word .entry)) (linesOf (drop at (now (s .entry)))) ⌝ }
+    requires { ⌜ one-line (now word) ≡ true ⌝ }
+    ensures { λ r. ⌜ r ≡ end-of (now (word .entry)) (lines-of (drop at (now (s .entry)))) ⌝ }
 {
     if is_line(s, at, word) {
         let next = at + word.len() + 1;
@@ -117,7 +117,7 @@ fn end_at(s: &[u8], at: usize, word: &[u8]) -> End
 
 // What the line that starts at `at` says as the writer's, and the next line's start.
 fn writer_at(s: &[u8], at: usize) -> WriterLine
-    ensures { λ r. ⌜ r ≡ writerLine (lineAt (now (s .entry)) at) at ⌝ }
+    ensures { λ r. ⌜ r ≡ writer-line (line-at (now (s .entry)) at) at ⌝ }
 {
     let row = text::read_row(s, at, b"writer=", 1, Writer::LEAST, Writer::MOST);
     let verdict = row.verdict;
@@ -139,22 +139,22 @@ fn writer_at(s: &[u8], at: usize) -> WriterLine
 
 // What the first line of a text says.
 pub fn read_kind(s: &[u8]) -> Kind
-    ensures { λ r. ⌜ r ≡ kindOf (lineAt (now (s .entry)) 0) ⌝ }
+    ensures { λ r. ⌜ r ≡ kind-of (line-at (now (s .entry)) 0) ⌝ }
 {
     Reader::open(s).kind()
 }
 
 // Whether the line that starts at `at` is the end line, this word, and the last.
 pub fn read_end(s: &[u8], at: usize, word: &[u8]) -> End
-    requires { ⌜ oneLine (now word) ≡ true ⌝ }
-    ensures { λ r. ⌜ r ≡ endOf (now (word .entry)) (linesOf (drop at (now (s .entry)))) ⌝ }
+    requires { ⌜ one-line (now word) ≡ true ⌝ }
+    ensures { λ r. ⌜ r ≡ end-of (now (word .entry)) (lines-of (drop at (now (s .entry)))) ⌝ }
 {
     Reader::open(s).moved(at).end(word)
 }
 
 // What the line that starts at `at` says as the writer's, and the next line's start.
 pub fn read_writer(s: &[u8], at: usize) -> WriterLine
-    ensures { λ r. ⌜ r ≡ writerLine (lineAt (now (s .entry)) at) at ⌝ }
+    ensures { λ r. ⌜ r ≡ writer-line (line-at (now (s .entry)) at) at ⌝ }
 {
     let read = Reader::open(s).moved(at).writer();
     WriterLine {

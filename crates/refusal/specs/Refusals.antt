@@ -7,31 +7,31 @@ use Rattle.refusal.specs.declared.Refusal.{Refusal}
 -- ---- document 01, Numbers that come from the text: what each number carries
 
 abbrev pub between : ℕ → ℕ → ℕ → Bool
-between lo hi n = leb lo n && leb n hi
+between lo n hi = leb lo n && leb n hi
 
 -- 11 to 15 and 31 to 35
-unfoldable pub carriesLine : ℕ → Bool
-carriesLine n = between 11 15 n || between 31 35 n
+unfoldable pub carries-line : ℕ → Bool
+carries-line n = between 11 n 15 || between 31 n 35
 
 -- 21 to 25
-unfoldable pub carriesPeriod : ℕ → Bool
-carriesPeriod n = between 21 25 n
+unfoldable pub carries-period : ℕ → Bool
+carries-period n = between 21 n 25
 
 -- 21 to 25 without 22 and 23, which carry a period only
-unfoldable pub carriesUnit : ℕ → Bool
-carriesUnit n = between 21 25 n && not (between 22 23 n)
+unfoldable pub carries-unit : ℕ → Bool
+carries-unit n = between 21 n 25 && not (between 22 n 23)
 
 -- what does not apply is 0
 abbrev pub applied : Bool → ℕ → ℕ
 applied true x = x
 applied false x = 0
 
-unfoldable pub refusalOf : ℕ → ℕ → ℕ → ℕ → Refusal
-refusalOf n line unit period = record {
+unfoldable pub refusal-of : ℕ → ℕ → ℕ → ℕ → Refusal
+refusal-of n line unit period = record {
   number = n;
-  line = applied (carriesLine n) line;
-  unit = applied (carriesUnit n) unit;
-  period = applied (carriesPeriod n) period;
+  line = applied (carries-line n) line;
+  unit = applied (carries-unit n) unit;
+  period = applied (carries-period n) period;
 }
 
 -- a refusal that carries its line and no more

@@ -1,6 +1,6 @@
 // Refusals: a number, and the place that the number carries.
 ghost use mathlib.Core.Path.{_≡_};
-ghost use Rattle.refusal.specs.Refusals.{refusalOf};
+ghost use Rattle.refusal.specs.Refusals.{refusal-of};
 
 // A refusal. What does not apply to its number is 0.
 pub struct Refusal {
@@ -12,7 +12,7 @@ pub struct Refusal {
 
 // The refusal of this number, with as much of the place as the number carries.
 pub fn refuse(number: u64, line: usize, unit: usize, period: usize) -> Refusal
-    ensures { λ r. ⌜ r ≡ refusalOf number line unit period ⌝ }
+    ensures { λ r. ⌜ r ≡ refusal-of number line unit period ⌝ }
 {
     match number {
         11..=15 | 31..=35 => Refusal {

@@ -2,8 +2,8 @@
 use mathlib.Core.Path.{_≡_, refl}
 use mathlib.Core.List.{List, [], _∷_, flatten}
 use Prim.Native.Nat.{ℕ}
-use Rattle.decimal.specs.Decimal.{digits, digitsBy}
-use Rattle.refusal.specs.Refusals.{refusalOf}
+use Rattle.decimal.specs.Decimal.{digits, digits-by}
+use Rattle.refusal.specs.Refusals.{refusal-of}
 use Rattle.writer.specs.Written.{figure}
 use Rattle.writer.specs.declared.Figure.the-variants.{Missing, Never, Number, Minus}
 use Rattle.report.specs.Report.{report-lines, written-at, placed-at}
@@ -28,7 +28,7 @@ example-text =
     ∷ 101 ∷ 110 ∷ 100 ∷ 61 ∷ 114 ∷ 101 ∷ 112 ∷ 111 ∷ 114 ∷ 116 ∷ 10 ∷ []
 
 pub example : report-lines (record { cost = Number 1980; costwriter = Number 7; bound = Number 1980; boundwriter = Number 3; gap = Number 0 }) ≡ example-text
-unfolding report-lines flatten figure digits digitsBy
+unfolding report-lines flatten figure digits digits-by
 example = refl
 
 -- nothing is held:
@@ -50,7 +50,7 @@ nothing-held-text =
     ∷ 101 ∷ 110 ∷ 100 ∷ 61 ∷ 114 ∷ 101 ∷ 112 ∷ 111 ∷ 114 ∷ 116 ∷ 10 ∷ []
 
 pub nothing-held : report-lines (record { cost = Missing; costwriter = Missing; bound = Missing; boundwriter = Missing; gap = Missing }) ≡ nothing-held-text
-unfolding report-lines flatten figure digits digitsBy
+unfolding report-lines flatten figure digits digits-by
 nothing-held = refl
 
 -- a bound of never, by 3:
@@ -72,7 +72,7 @@ never-held-text =
     ∷ 101 ∷ 110 ∷ 100 ∷ 61 ∷ 114 ∷ 101 ∷ 112 ∷ 111 ∷ 114 ∷ 116 ∷ 10 ∷ []
 
 pub never-held : report-lines (record { cost = Missing; costwriter = Missing; bound = Never; boundwriter = Number 3; gap = Missing }) ≡ never-held-text
-unfolding report-lines flatten figure digits digitsBy
+unfolding report-lines flatten figure digits digits-by
 never-held = refl
 
 -- a gap below 0, as no docket that lodging reaches has:
@@ -94,7 +94,7 @@ negative-gap-text =
     ∷ 101 ∷ 110 ∷ 100 ∷ 61 ∷ 114 ∷ 101 ∷ 112 ∷ 111 ∷ 114 ∷ 116 ∷ 10 ∷ []
 
 pub negative-gap : report-lines (record { cost = Number 5; costwriter = Number 7; bound = Number 35; boundwriter = Number 3; gap = Minus 30 }) ≡ negative-gap-text
-unfolding report-lines flatten figure digits digitsBy
+unfolding report-lines flatten figure digits digits-by
 negative-gap = refl
 
 -- a negative bound:
@@ -116,7 +116,7 @@ negative-bound-text =
     ∷ 101 ∷ 110 ∷ 100 ∷ 61 ∷ 114 ∷ 101 ∷ 112 ∷ 111 ∷ 114 ∷ 116 ∷ 10 ∷ []
 
 pub negative-bound : report-lines (record { cost = Number 5; costwriter = Number 7; bound = Minus 30; boundwriter = Number 3; gap = Number 35 }) ≡ negative-bound-text
-unfolding report-lines flatten figure digits digitsBy
+unfolding report-lines flatten figure digits digits-by
 negative-bound = refl
 
 -- ---- two bytes in a buffer of four
@@ -130,6 +130,6 @@ unfolding written-at placed-at
 up-to-the-end = (refl, refl)
 
 -- one byte too few
-past-the-end : (written-at (1 ∷ 2 ∷ 3 ∷ 4 ∷ []) 3 (8 ∷ 9 ∷ []) ≡ Refused (refusalOf 43 0 0 0)) × (placed-at (1 ∷ 2 ∷ 3 ∷ 4 ∷ []) 3 (8 ∷ 9 ∷ []) ≡ 1 ∷ 2 ∷ 3 ∷ 4 ∷ [])
+past-the-end : (written-at (1 ∷ 2 ∷ 3 ∷ 4 ∷ []) 3 (8 ∷ 9 ∷ []) ≡ Refused (refusal-of 43 0 0 0)) × (placed-at (1 ∷ 2 ∷ 3 ∷ 4 ∷ []) 3 (8 ∷ 9 ∷ []) ≡ 1 ∷ 2 ∷ 3 ∷ 4 ∷ [])
 unfolding written-at placed-at
 past-the-end = (refl, refl)

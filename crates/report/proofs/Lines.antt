@@ -8,7 +8,7 @@ use Rattle.writer.specs.Written.{figure, line}
 use Rattle.writer.proofs.Figures.{line-length}
 use Rattle.writer.specs.declared.Figure.{Figure}
 use Rattle.report.specs.declared.Figures.{Figures}
-use Rattle.report.specs.Report.{kind-line, cost-key, cost-writer-key, bound-key, bound-writer-key, gap-key, end-line, lines-of, report-lines}
+use Rattle.report.specs.Report.{kind-line, cost-key, cost-writer-key, bound-key, bound-writer-key, gap-key, end-line, seven-lines, report-lines}
 
 none-length : length (flatten {A = ℕ} []) ≡ 0
 unfolding flatten
@@ -33,7 +33,7 @@ report-length f =
     let from3 = line bound-key (f .bound) ∷ from4 in
     let from2 = line cost-writer-key (f .costwriter) ∷ from3 in
     let from1 = line cost-key (f .cost) ∷ from2 in
-    let all : length (report-lines f) ≡ length (flatten (lines-of f)) = refl in
+    let all : length (report-lines f) ≡ length (flatten (seven-lines f)) = refl in
     let l6 = flatten-length end-line [] in
     let l5 = line-first gap-key (f .gap) from6 in
     let l4 = line-first bound-writer-key (f .boundwriter) from5 in

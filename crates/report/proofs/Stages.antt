@@ -8,7 +8,7 @@ use borrow.Rule.Slice.PartMut.{putMid}
 use Rattle.writer.specs.Written.{over}
 use Rattle.writer.proofs.Parts.{next, room, kept}
 use Rattle.report.specs.declared.Figures.{Figures}
-use Rattle.report.specs.Report.{lines-of, report-lines}
+use Rattle.report.specs.Report.{seven-lines, report-lines}
 
 -- ---- the first j lines, and the next one
 
@@ -77,10 +77,10 @@ module _ {b b₁ : List ℕ} {lines : List (List ℕ)} {j k : ℕ} (s : Stage b 
 -- ---- all seven lines of a report
 
 module _ (f : Figures) where
-  pub lines-fit : (b : List ℕ) → length (report-lines f) ≤ length b → length (flatten (lines-of f)) ≤ length b
+  pub lines-fit : (b : List ℕ) → length (report-lines f) ≤ length b → length (flatten (seven-lines f)) ≤ length b
   unfolding report-lines
   lines-fit b h = h
 
-  pub all-written : {b b₁ : List ℕ} {k : ℕ} → Stage b b₁ (lines-of f) 7 k → (k ≡ length (report-lines f)) × (b₁ ≡ over (report-lines f) b)
+  pub all-written : {b b₁ : List ℕ} {k : ℕ} → Stage b b₁ (seven-lines f) 7 k → (k ≡ length (report-lines f)) × (b₁ ≡ over (report-lines f) b)
   unfolding report-lines
   all-written s = (s .many, s .written)

@@ -1,10 +1,10 @@
 -- Document 01, The docket and its report: the seven lines of five figures, and what a lent buffer then holds.
-use mathlib.Core.Bool.{Bool, true, false}
+use mathlib.Core.Bool.{Bool, cond}
 use mathlib.Core.List.{List, [], _∷_, _++_, flatten}
 use Prim.Native.Nat.{ℕ, _+_}
 use lib.Dec.{leb}
 use lib.ListN.{length, take, drop}
-use Rattle.refusal.specs.Refusals.{refusalOf}
+use Rattle.refusal.specs.Refusals.{refusal-of}
 use Rattle.writer.specs.Written.{line}
 use Rattle.report.specs.declared.Figures.{Figures}
 use Rattle.report.specs.declared.ReportAnswer.{ReportAnswer}
@@ -41,8 +41,8 @@ abbrev pub end-line : List ℕ
 end-line = 101 ∷ 110 ∷ 100 ∷ 61 ∷ 114 ∷ 101 ∷ 112 ∷ 111 ∷ 114 ∷ 116 ∷ 10 ∷ []
 
 -- the lines in their order
-abbrev pub lines-of : Figures → List (List ℕ)
-lines-of f =
+abbrev pub seven-lines : Figures → List (List ℕ)
+seven-lines f =
     kind-line
     ∷ line cost-key (f .cost)
     ∷ line cost-writer-key (f .costwriter)
@@ -53,26 +53,22 @@ lines-of f =
     ∷ []
 
 unfoldable pub report-lines : Figures → List ℕ
-report-lines f = flatten (lines-of f)
+report-lines f = flatten (seven-lines f)
 
 -- ---- from the place that the caller gives
-
-abbrev pick : {A : Type 0} → Bool → A → A → A
-pick true a b = a
-pick false a b = b
 
 -- whether l fits into b from the place k on
 abbrev pub has-room : List ℕ → ℕ → List ℕ → Bool
 has-room b k l = leb (k + length l) (length b)
 
 -- b with l from the place k on; the bytes outside stay
-abbrev pub placed : List ℕ → ℕ → List ℕ → List ℕ
-placed b k l = take k b ++ (l ++ drop (k + length l) b)
+abbrev pub put-at : List ℕ → ℕ → List ℕ → List ℕ
+put-at b k l = take k b ++ (l ++ drop (k + length l) b)
 
 -- the length; or 43, where the place is beyond the end or too few bytes follow it
 unfoldable pub written-at : List ℕ → ℕ → List ℕ → ReportAnswer
-written-at b k l = pick (has-room b k l) (Written (length l)) (Refused (refusalOf 43 0 0 0))
+written-at b k l = cond (has-room b k l) (Written (length l)) (Refused (refusal-of 43 0 0 0))
 
 -- the buffer after it, which 43 leaves alone
 unfoldable pub placed-at : List ℕ → ℕ → List ℕ → List ℕ
-placed-at b k l = pick (has-room b k l) (placed b k l) b
+placed-at b k l = cond (has-room b k l) (put-at b k l) b

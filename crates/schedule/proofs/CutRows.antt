@@ -3,12 +3,12 @@ use Prim.Native.Nat.{ℕ, zero, suc, _+_, _*_}
 use native.Mathlib.Nat.{zero-mul, zero-add, suc-add}
 use native.Mathlib.Omega.{arith}
 use mathlib.Core.Path.{_≡_, refl, sym, ap, _∙_}
-use mathlib.Core.List.{List, [], _∷_, _++_, append-assoc}
+use mathlib.Core.List.{List, [], _∷_, _++_, append-assoc, flatten}
 use lib.ListN.{length, take, drop}
 use lib.Seq.{take-take, take-add, drop-drop, take-at, drop-at, take-nil}
 use Rattle.model.specs.Instance.{Schedule}
 use Rattle.model.specs.Ranges.{All}
-use Rattle.judge.specs.Rows.{cut-rows, joined}
+use Rattle.judge.specs.Rows.{cut-rows}
 use Rattle.judge.proofs.Rows.{row}
 
 drop-take : {A : Type 0} (n m : ℕ) (l : List A) → drop n (take (n + m) l) ≡ take m (drop n l)
@@ -24,8 +24,8 @@ unfolding cut-rows
 cut-take zero n l = refl
 cut-take (suc k) n l = rw (more k n, take-take n (n + k * n) l (omega arith), drop-take n (k * n) l, cut-take k n (drop n l)) refl
 
-pub joined-front : (k n : ℕ) (l : List ℕ) → joined (cut-rows k n l) ≡ take (k * n) l
-unfolding cut-rows joined
+pub joined-front : (k n : ℕ) (l : List ℕ) → flatten (cut-rows k n l) ≡ take (k * n) l
+unfolding cut-rows flatten
 joined-front zero n l = rw zero-mul refl
 joined-front (suc k) n l = rw (more k n, take-add n (k * n) l, joined-front k n (drop n l)) refl
 
@@ -38,8 +38,8 @@ cut-last (suc k) n l =
     ap (λ (s : Schedule). take n l ∷ s) (cut-last k n (drop n l) ∙ ap (λ (r : List ℕ). cut-rows k n (drop n l) ++ (take n r ∷ [])) e)
 
 -- rows that are joined, with anything after them, are cut out again
-pub cut-front : (n : ℕ) (s : Schedule) (z : List ℕ) → All (λ r. length r ≡ n) s → cut-rows (length s) n (joined s ++ z) ≡ s
-unfolding cut-rows joined
+pub cut-front : (n : ℕ) (s : Schedule) (z : List ℕ) → All (λ r. length r ≡ n) s → cut-rows (length s) n (flatten s ++ z) ≡ s
+unfolding cut-rows flatten
 cut-front n [] z h = refl
 cut-front n (r ∷ s) z h =
-    rw (append-assoc r (joined s) z, take-at r (joined s ++ z) n (h .0), drop-at r (joined s ++ z) n (h .0), cut-front n s z (h .1))
+    rw (append-assoc r (flatten s) z, take-at r (flatten s ++ z) n (h .0), drop-at r (flatten s ++ z) n (h .0), cut-front n s z (h .1))

@@ -3,7 +3,7 @@ use Prim.Native.Nat.{ℕ, suc, _+_, _-_, _*_, _≤_}
 use native.Mathlib.Nat.{zero-mul}
 use native.Mathlib.Omega.{arith}
 use mathlib.Core.Path.{_≡_, refl, sym, ap, _∙_}
-use mathlib.Core.List.{List, [], _∷_, _++_, append-assoc}
+use mathlib.Core.List.{List, [], _∷_, _++_, append-assoc, flatten}
 use lib.ListN.{length, take, drop, replicate, length-append}
 use lib.Seq.{drop-drop, take-at, drop-at, length-take-le, paste, take-paste}
 use Rattle.model.specs.Instance.{Instance, Schedule}
@@ -11,7 +11,7 @@ use Rattle.model.specs.Ranges.{All, GoodOutput, Shaped}
 use Rattle.model.specs.Held.{pad}
 use Rattle.model.proofs.Held.{length-pad}
 use Rattle.text.proofs.Plain.{drop-replicate}
-use Rattle.judge.specs.Rows.{cut-rows, joined}
+use Rattle.judge.specs.Rows.{cut-rows}
 use Rattle.judge.proofs.Rows.{row, all-append}
 use Rattle.schedule.specs.Storing.{Filled}
 use Rattle.schedule.proofs.CutRows.{cut-take, joined-front, cut-last, cut-front}
@@ -79,10 +79,10 @@ pub filled-length : (k T : ℕ) (l : List ℕ) → Filled k T l → k * T ≤ 15
 filled-length k T l f h = ap length (f .zeros-after) ∙ length-pad 0 1536 (take (k * T) l) (omega (arith, f .long))
 
 -- it is the rows, joined, and zeros
-pub filled-joined : (k T : ℕ) (l : List ℕ) → Filled k T l → pad 0 1536 (joined (cut-rows k T l)) ≡ l
+pub filled-joined : (k T : ℕ) (l : List ℕ) → Filled k T l → pad 0 1536 (flatten (cut-rows k T l)) ≡ l
 filled-joined k T l f = ap (pad 0 1536) (joined-front k T l) ∙ sym (f .zeros-after)
 
 -- the array of an accepted schedule gives its rows back
-pub rows-held : (P : Instance) (s : Schedule) → Shaped P s → cut-rows (length (P .units)) (P .periods) (pad 0 1536 (joined s)) ≡ s
+pub rows-held : (P : Instance) (s : Schedule) → Shaped P s → cut-rows (length (P .units)) (P .periods) (pad 0 1536 (flatten s)) ≡ s
 unfolding pad
-rows-held P s h = rw (← h .0) (cut-front (P .periods) s (replicate (1536 - length (joined s)) 0) (h .1))
+rows-held P s h = rw (← h .0) (cut-front (P .periods) s (replicate (1536 - length (flatten s)) 0) (h .1))

@@ -1,7 +1,7 @@
 -- What the definitions imply.
 pub mod Alls
 pub mod LinesRefused
-pub mod Steps
+pub mod LineByLine
 pub mod Ends
 pub mod CutRows
 pub mod Filling

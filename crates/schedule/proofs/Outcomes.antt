@@ -13,20 +13,21 @@ use Rattle.model.specs.Breach.{Breach, first-breach}
 use Rattle.model.specs.Broken.{Broken, limits, demand, spare, updown, ramps, midnight}
 use Rattle.model.proofs.Judging.{judge-none, judge-some}
 use Rattle.refusal.specs.declared.Refusal.{Refusal}
-use Rattle.refusal.specs.Refusals.{refusalOf, carriesLine, carriesUnit, carriesPeriod, line-refusal}
+use Rattle.refusal.specs.Refusals.{refusal-of, carries-line, carries-unit, carries-period, line-refusal}
 use Rattle.text.specs.Course.{Judged, refused-at, accepted}
 use Rattle.schedule.specs.Course.{Written, written, schedule-judged}
-use Rattle.schedule.specs.Reading.{IsSchedule, Outcome, refused-by, accepted-as, by-rules, schedule-outcome}
+use Rattle.schedule.specs.ReadAnswers.{IsSchedule, Outcome, refused-by, accepted-as, by-rules, schedule-outcome}
 use Rattle.schedule.specs.Refusals.{RefusedAt}
-use Rattle.schedule.specs.Answers.{rule-refusal, Accepts, AcceptsSome, BreaksFirst, RefusedFor, by-line, by-rule}
+use Rattle.schedule.specs.Acceptance.{rule-refusal, Accepts, AcceptsSome, BreaksFirst, RefusedFor, by-line, by-rule}
 use Rattle.schedule.proofs.Wholes.{judged-is}
-use Rattle.schedule.proofs.LinesRefused.{judged-refused-is, refused-carries}
+use Rattle.schedule.proofs.LinesRefused as lines
+use Rattle.schedule.proofs.LinesRefused.{refused-carries}
 
 -- ---- what a broken rule's number carries
 
 module _ (P : Instance) (s : Schedule) where
-  breach-carries : (b : Breach) → Broken P s b → refusalOf (b .number) 0 (b .unit) (b .period) ≡ rule-refusal b
-  unfolding refusalOf carriesLine carriesUnit carriesPeriod
+  breach-carries : (b : Breach) → Broken P s b → refusal-of (b .number) 0 (b .unit) (b .period) ≡ rule-refusal b
+  unfolding refusal-of carries-line carries-unit carries-period
   breach-carries b (limits u t h k) = refl
   breach-carries b (demand t h k) = refl
   breach-carries b (spare t h k) = refl
@@ -49,15 +50,15 @@ module _ (P : Instance) (text : List ℕ) where
   unfolding schedule-outcome
   outcome-accepted v e = rw e refl
 
-  outcome-refused : (n l : ℕ) → schedule-judged P text ≡ refused-at n l → schedule-outcome P text ≡ refused-by (refusalOf n l 0 0)
+  outcome-refused : (n l : ℕ) → schedule-judged P text ≡ refused-at n l → schedule-outcome P text ≡ refused-by (refusal-of n l 0 0)
   unfolding schedule-outcome
   outcome-refused n l e = rw e refl
 
   -- what a text is found to be, by the lines and then by the rules
   pub data Found : Outcome → Type 0 where
-    at-a-line : (n l : ℕ) → schedule-judged P text ≡ refused-at n l → Found (refused-by (refusalOf n l 0 0))
+    at-a-line : (n l : ℕ) → schedule-judged P text ≡ refused-at n l → Found (refused-by (refusal-of n l 0 0))
     at-a-rule : (v : Written) (b : Breach) → schedule-judged P text ≡ accepted v → first-breach P (v .rows) ≡ some b
-        → Found (refused-by (refusalOf (b .number) 0 (b .unit) (b .period)))
+        → Found (refused-by (refusal-of (b .number) 0 (b .unit) (b .period)))
     at-no-fault : (v : Written) → schedule-judged P text ≡ accepted v → first-breach P (v .rows) ≡ none
         → Found (accepted-as (v .writer) (cost P (v .rows)) (v .rows))
 
@@ -105,7 +106,7 @@ module _ (P : Instance) (W : WellFormed P) (text : List ℕ) (is : IsSchedule te
 
   -- the first rule that the rows break
   breach-refuses : (v : Written) (b : Breach) → schedule-judged P text ≡ accepted v → first-breach P (v .rows) ≡ some b
-      → RefusedFor P text (refusalOf (b .number) 0 (b .unit) (b .period))
+      → RefusedFor P text (refusal-of (b .number) 0 (b .unit) (b .period))
   breach-refuses v b e f =
       let p = judged-is P W text is (v .writer) (v .rows) .0 e in
       let q = judge-some P (v .rows) b .0 f in
@@ -124,14 +125,14 @@ module _ (P : Instance) (W : WellFormed P) (text : List ℕ) (is : IsSchedule te
     where
       forth : (o : Outcome) → Found P text o → (r : Refusal) → o ≡ refused-by r → RefusedFor P text r
       forth o (at-a-line n l e) r q =
-          let k : refusalOf n l 0 0 ≡ r = cc in
-          let t = judged-refused-is P (W .periods-in .0) text n l .0 e in
+          let k : refusal-of n l 0 0 ≡ r = cc in
+          let t = lines.refused-is P (W .periods-in .0) text n l .0 e in
           subst (RefusedFor P text) (sym (refused-carries P (W .periods-in .0) text n l t) ∙ k) (by-line n l t)
-      forth o (at-a-rule v b e f) r q = let k : refusalOf (b .number) 0 (b .unit) (b .period) ≡ r = cc in subst (RefusedFor P text) k (breach-refuses v b e f)
+      forth o (at-a-rule v b e f) r q = let k : refusal-of (b .number) 0 (b .unit) (b .period) ≡ r = cc in subst (RefusedFor P text) k (breach-refuses v b e f)
       forth o (at-no-fault v e f) r q = absurd (let z : _≡_ {A = ℕ} 0 1 = cc in omega arith)
 
       back : (r : Refusal) → RefusedFor P text r → schedule-outcome P text ≡ refused-by r
-      back r (by-line n l t) = outcome-refused P text n l (judged-refused-is P (W .periods-in .0) text n l .1 t) ∙ ap refused-by (refused-carries P (W .periods-in .0) text n l t)
+      back r (by-line n l t) = outcome-refused P text n l (lines.refused-is P (W .periods-in .0) text n l .1 t) ∙ ap refused-by (refused-carries P (W .periods-in .0) text n l t)
       back r (by-rule b t) =
           let e = judged-is P W text is (t .writer) (t .rows) .1 (t .renders, (t .writer-in, t .rows-in)) in
           outcome-accepted P text (written (t .writer) (t .rows)) e

@@ -2,13 +2,12 @@
 use Prim.Native.Nat.{ℕ}
 use native.Mathlib.Omega.{arith}
 use mathlib.Core.Path.{_≡_, refl, ap}
-use mathlib.Core.List.{List}
+use mathlib.Core.List.{List, flatten}
 use lib.ListN.{replicate}
 use Rattle.model.specs.Instance.{Instance, Schedule}
 use Rattle.model.specs.Held.{pad}
 use Rattle.refusal.specs.declared.Refusal.{Refusal}
-use Rattle.judge.specs.Rows.{joined}
-use Rattle.schedule.specs.Reading.{Outcome, refused-by, accepted-as, schedule-outcome, in-arrays, schedule-read}
+use Rattle.schedule.specs.ReadAnswers.{Outcome, refused-by, accepted-as, schedule-outcome, in-arrays, schedule-read}
 use Rattle.schedule.specs.declared.Priced.{Priced}
 use Rattle.schedule.specs.declared.ScheduleAnswer.the-variants.{Refused, Accepted}
 
@@ -23,7 +22,7 @@ refused-was r (accepted-as w c s) e = absurd (let z : _≡_ {A = ℕ} 0 1 = cc i
 pub record Holds (a : Priced) (o : Outcome) : Type 0 where
   pub schedule : Schedule
   pub outcome : o ≡ accepted-as (a .writer) (a .cost) schedule
-  pub array : in-arrays o .rows ≡ pad 0 1536 (joined schedule)
+  pub array : in-arrays o .rows ≡ pad 0 1536 (flatten schedule)
 
 accepted-was : (a : Priced) (o : Outcome) → in-arrays o .answer ≡ Accepted a → Holds a o
 unfolding in-arrays

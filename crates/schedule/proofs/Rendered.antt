@@ -11,7 +11,7 @@ use lib.Seq.{append-snoc}
 use borrow.Author.Tests.{not-false}
 use Rattle.model.specs.Instance.{Instance, Schedule}
 use Rattle.model.specs.Ranges.{All, GoodOutput, GoodWriter, GoodRows}
-use Rattle.text.specs.Lines.{Line, ended, isLine, endSchedule}
+use Rattle.text.specs.Lines.{Line, ended, is-line, end-schedule}
 use Rattle.text.specs.Forms.{numbers-of}
 use Rattle.text.specs.Rendering.{plain-line}
 use Rattle.text.specs.Writer.{writer-key, writer-form}
@@ -47,7 +47,7 @@ module _ (P : Instance) where
       form-found (run-form (P .periods)) x [] (next-due P (run-due n v) x) (plain-good run-key (P .periods) 0 10000 r h long each)
       ∙ ap (λ (vs : List ℕ). good (runs-due n (with-row v vs))) (plain-numbers run-key (P .periods) 0 10000 r h long each)
 
-  pub line-end : (v : Written) → judge P (end-due v) (ended endSchedule) ≡ good (nothing-due v)
+  pub line-end : (v : Written) → judge P (end-due v) (ended end-schedule) ≡ good (nothing-due v)
   unfolding judge
   line-end v = refl
 
@@ -80,7 +80,7 @@ module _ (P : Instance) where
   good-rows : (n : ℕ) (w v : Written) (ls : List Line) (last : Due) → Passes P (runs-due n w) ls last → end last ≡ some v → RowLines P n ls w v
   good-rows zero w v [] last none-yet e = absurd (let z : _≡_ {A = ℕ} 0 1 = cc in omega arith)
   good-rows zero w v (x ∷ ls) last (one-more h d g) e =
-      let k : x ≡ ended endSchedule = word-is endSchedule x (not-false (isLine endSchedule x) (h .0)) in
+      let k : x ≡ ended end-schedule = word-is end-schedule x (not-false (is-line end-schedule x) (h .0)) in
       let z = ended-there w v ls last (subst (λ (s : Due). Passes P s ls last) (sym d) g) e in
       record {
         rows = [];

@@ -3,21 +3,21 @@ use Prim.Native.Nat.{ℕ}
 use mathlib.Core.Path.{_≡_, ap, sym, _∙_}
 use mathlib.Core.List.{List}
 use Rattle.model.specs.Instance.{Instance, Schedule}
-use Rattle.refusal.specs.Refusals.{refusalOf}
+use Rattle.refusal.specs.Refusals.{refusal-of}
 use Rattle.judge.specs.declared.Broken.{Broken}
 use Rattle.judge.specs.declared.Judgement.the-variants.{Breaks, Costs}
 use Rattle.judge.specs.Judgement.{judgement}
 use Rattle.judge.specs.Rows.{cut-rows}
-use Rattle.judge.proofs.Answers.{refused-is, accepted-is}
+use Rattle.judge.proofs.RuleByRule.{refused-is, accepted-is}
 use Rattle.schedule.specs.Course.{written}
-use Rattle.schedule.specs.Reading.{refused-by, accepted-as, by-rules, ruled, in-arrays}
+use Rattle.schedule.specs.ReadAnswers.{refused-by, accepted-as, by-rules, ruled, in-arrays}
 use Rattle.schedule.specs.Storing.{Filled}
 use Rattle.schedule.specs.declared.ScheduleAnswer.the-variants.{Accepted}
 use Rattle.schedule.proofs.Filling.{filled-joined}
 
 module _ (P : Instance) (s : Schedule) (w : ℕ) where
   pub ruled-breaks : (b : Broken) → judgement P s ≡ Breaks b
-      → refused-by (refusalOf (b .number) 0 (b .place .unit) (b .place .period)) ≡ ruled P (written w s)
+      → refused-by (refusal-of (b .number) 0 (b .place .unit) (b .place .period)) ≡ ruled P (written w s)
   ruled-breaks b e = sym (ap (by-rules P (written w s)) (refused-is P s b e))
 
   pub ruled-costs : (c : ℕ) → judgement P s ≡ Costs c → accepted-as w c s ≡ ruled P (written w s)

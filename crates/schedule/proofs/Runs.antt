@@ -12,8 +12,8 @@ use Rattle.model.specs.declared.arrays.Problem.{Problem}
 use Rattle.model.specs.Instance.{Instance}
 use Rattle.model.specs.Held.{view, Valid}
 use Rattle.model.specs.Ranges.{All, GoodOutput}
-use Rattle.text.specs.Lines.{Line, lineAt}
-use Rattle.text.specs.Forms.{Form, numbers-of, refusedBy, after}
+use Rattle.text.specs.Lines.{Line, line-at}
+use Rattle.text.specs.Forms.{Form, numbers-of, form-refusal, place-after}
 use Rattle.text.specs.Forms as forms
 use Rattle.text.proofs.Fills.{PlainFilled}
 use Rattle.judge.specs.Rows.{cut-rows}
@@ -21,7 +21,7 @@ use Rattle.schedule.specs.Rendering.{run-key}
 use Rattle.schedule.specs.Course.{Written, written, run-due, end-due, runs-due, with-row, run-form}
 use Rattle.schedule.specs.Storing.{refused-read, read-from, Filled}
 use Rattle.schedule.specs.declared.ScheduleRead.{ScheduleRead}
-use Rattle.schedule.proofs.Steps.{row-passed, row-stopped}
+use Rattle.schedule.proofs.LineByLine.{row-passed, row-stopped}
 use Rattle.schedule.proofs.Alls.{all-from}
 use Rattle.schedule.proofs.Filling.{filled-none, filled-more, filled-length, cut-more}
 
@@ -43,7 +43,7 @@ rows-fit p valid k h =
 
 module _ (P : Instance) (text : List ℕ) (i k units : ℕ) (v : Written) (left : k < units) where
   abbrev here : Line
-  here = lineAt text i
+  here = line-at text i
 
   abbrev run : Form
   run = run-form (P .periods)
@@ -51,12 +51,12 @@ module _ (P : Instance) (text : List ℕ) (i k units : ℕ) (v : Written) (left 
   one-due : runs-due (units - k) v ≡ run-due (units - suc k) v
   one-due = let e : units - k ≡ suc (units - suc k) = omega arith in rw e refl
 
-  run-stopped : forms.good run here ≡ false → read-from P text i (k + 3) (runs-due (units - k) v) ≡ refused-read (refusedBy run here) (k + 3)
+  run-stopped : forms.good-line run here ≡ false → read-from P text i (k + 3) (runs-due (units - k) v) ≡ refused-read (form-refusal run here) (k + 3)
   run-stopped g = rw one-due (row-stopped P text i (k + 3) (run-due (units - suc k) v) refl run refl g)
 
-  run-passed : forms.good run here ≡ true
+  run-passed : forms.good-line run here ≡ true
       → read-from P text i (k + 3) (runs-due (units - k) v)
-      ≡ read-from P text (after here i) (suc k + 3) (runs-due (units - suc k) (with-row v (numbers-of run here)))
+      ≡ read-from P text (place-after here i) (suc k + 3) (runs-due (units - suc k) (with-row v (numbers-of run here)))
   run-passed g =
       let e : suc (k + 3) ≡ suc k + 3 = omega arith in
       rw (one-due, ← e) (row-passed P text i (k + 3) (run-due (units - suc k) v) refl run refl g)
@@ -92,14 +92,14 @@ module _ {P : Instance} {text : List ℕ} {T w units : ℕ} {whole : ScheduleRea
 
     module _ (long : P .periods ≡ T) (left : k < units) where
       -- at a line that is refused
-      pub reading-stopped : {number : ℕ} → (forms.good (run-form T) (lineAt text i) ≡ false) × (refusedBy (run-form T) (lineAt text i) ≡ number) → whole ≡ refused-read number (k + 3)
+      pub reading-stopped : {number : ℕ} → (forms.good-line (run-form T) (line-at text i) ≡ false) × (form-refusal (run-form T) (line-at text i) ≡ number) → whole ≡ refused-read number (k + 3)
       reading-stopped g =
           reading .same
           ∙ run-stopped P text i k units (written w (cut-rows k T rows)) left (rw long (g .0))
           ∙ ap (λ (n : ℕ). refused-read n (k + 3)) (rw long (g .1))
 
       -- past a good line, whose numbers are stored
-      pub reading-more : {out : List ℕ} {next : ℕ} → PlainFilled run-key T 0 10000 (lineAt text i) i next out
+      pub reading-more : {out : List ℕ} {next : ℕ} → PlainFilled run-key T 0 10000 (line-at text i) i next out
           → suc k * T ≤ 1536 → {stored : List ℕ} → stored ≡ paste rows (k * T) out (length out) → Reading P text T w units whole stored next (k + 1)
       reading-more {out} g fits e =
           let room : suc k * T ≤ length rows = omega (arith, filled-length k T rows (reading .filled) (omega arith)) in

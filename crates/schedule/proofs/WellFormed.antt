@@ -9,7 +9,7 @@ use lib.ListN.{length}
 use Rattle.model.specs.Instance.{Instance, Schedule}
 use Rattle.model.specs.Ranges as ranges
 use Rattle.model.specs.Ranges.{GoodWriter, GoodRows}
-use Rattle.text.specs.Lines.{Line, later, linesOf, lineAt}
+use Rattle.text.specs.Lines.{Line, later, lines-of, line-at}
 use Rattle.text.specs.Tests.{RefusedAt}
 use Rattle.text.specs.WellFormed.{of-form}
 use Rattle.text.proofs.Tests.{Every}
@@ -19,7 +19,7 @@ use Rattle.text.proofs.WellFormed.{unrefused-passed, passed-unrefused}
 use Rattle.schedule.specs.Rendering.{render}
 use Rattle.schedule.specs.Course.{written, Due, writer-due, run-due, end-due, nothing-due, tests, next-due, end}
 use Rattle.schedule.specs.Refusals.{BrokenAt}
-use Rattle.schedule.specs.Reading.{IsSchedule}
+use Rattle.schedule.specs.ReadAnswers.{IsSchedule}
 use Rattle.schedule.specs.WellFormed.{WellFormed}
 use Rattle.schedule.proofs.Rendered.{lines-good-is}
 use Rattle.schedule.proofs.WhichLine.{line-refused-is}
@@ -36,23 +36,23 @@ module _ (P : Instance) where
       → WellFormed P text ↔ ((length text ≤ 1048576) × ((w : ℕ) × (s : Schedule) × ((text ≡ render w s) × GoodWriter w × GoodRows P s)))
   well-formed-is W text = (forth, back)
     where
-      which : (n m : ℕ) → RefusedAt (tests P) (next-due P) end n m 2 writer-due (later (linesOf text)) ↔ BrokenAt P n m (later (linesOf text))
-      which n m = line-refused-is P (W .periods-in .0) n m (later (linesOf text))
+      which : (n m : ℕ) → RefusedAt (tests P) (next-due P) end n m 2 writer-due (later (lines-of text)) ↔ BrokenAt P n m (later (lines-of text))
+      which n m = line-refused-is P (W .periods-in .0) n m (later (lines-of text))
 
       forth : WellFormed P text → (length text ≤ 1048576) × ((w : ℕ) × (s : Schedule) × ((text ≡ render w s) × GoodWriter w × GoodRows P s))
       forth f =
-          let p = unrefused-passed (tests P) (next-due P) end 2 writer-due (later (linesOf text))
-          (λ n m r. f .unbroken n m (number-every (tests P) (next-due P) end (λ k. of-form k ≡ true) refl all-of-form n m 2 writer-due (later (linesOf text)) r) (which n m .0 r)) in
+          let p = unrefused-passed (tests P) (next-due P) end 2 writer-due (later (lines-of text))
+          (λ n m r. f .unbroken n m (number-every (tests P) (next-due P) end (λ k. of-form k ≡ true) refl all-of-form n m 2 writer-due (later (lines-of text)) r) (which n m .0 r)) in
           let v = p .0 in
-          let g = lines-good-is P (W .periods-in .0) (v .writer) (v .rows) (later (linesOf text)) .0 (p .1) in
-          (f .short, (v .writer, v .rows, (rendered-is text (schedule-is (lineAt text 0) .1 (f .first)) (v .writer) (v .rows) .0 (g .0), g .1 .0, g .1 .1)))
+          let g = lines-good-is P (W .periods-in .0) (v .writer) (v .rows) (later (lines-of text)) .0 (p .1) in
+          (f .short, (v .writer, v .rows, (rendered-is text (schedule-is (line-at text 0) .1 (f .first)) (v .writer) (v .rows) .0 (g .0), g .1 .0, g .1 .1)))
 
       back : (length text ≤ 1048576) × ((w : ℕ) × (s : Schedule) × ((text ≡ render w s) × GoodWriter w × GoodRows P s)) → WellFormed P text
       back (short, (w, s, (e, ok, rows))) =
           let is = subst IsSchedule (sym e) (render-is-schedule w s) in
-          let a = lines-good-is P (W .periods-in .0) w s (later (linesOf text)) .1 (rendered-is text is w s .1 e, (ok, rows)) in
+          let a = lines-good-is P (W .periods-in .0) w s (later (lines-of text)) .1 (rendered-is text is w s .1 e, (ok, rows)) in
           record {
             short = short;
-            first = schedule-is (lineAt text 0) .0 is;
-            unbroken = λ n m k r. passed-unrefused (tests P) (next-due P) end 2 writer-due (later (linesOf text)) (written w s) a n m (which n m .1 r);
+            first = schedule-is (line-at text 0) .0 is;
+            unbroken = λ n m k r. passed-unrefused (tests P) (next-due P) end 2 writer-due (later (lines-of text)) (written w s) a n m (which n m .1 r);
           }

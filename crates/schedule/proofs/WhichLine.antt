@@ -10,11 +10,11 @@ use mathlib.Core.Option.{none, some}
 use lib.ListN.{length, length-append, length-map}
 use Rattle.model.specs.Instance.{Instance, _at_}
 use Rattle.model.specs.Ranges.{All, GoodOutput, GoodRows}
-use Rattle.text.specs.Lines.{Line, ended, endSchedule, due}
+use Rattle.text.specs.Lines.{Line, ended, end-schedule, due}
 use Rattle.text.specs.Forms.{Form, numbers-of}
 use Rattle.text.specs.Rendering.{plain-line}
 use Rattle.text.specs.Writer.{writer-key, writer-form}
-use Rattle.text.specs.Tests.{First, None, Passed, none-yet, one-more, AllPassed, tests-before, RefusedAt}
+use Rattle.text.specs.Tests.{FirstTrue, None, Passed, none-yet, one-more, AllPassed, tests-before, RefusedAt}
 use Rattle.text.specs.LineRefused.{Unfit, Beginning, Refuses}
 use Rattle.text.proofs.Courses as courses
 use Rattle.text.proofs.Tests.{first-every}
@@ -48,7 +48,7 @@ module _ (P : Instance) (h : 0 < P .periods) where
     pub all : AllPassed (tests P) (next-due P) end gives s lines
 
   from-runs : (n : ℕ) (v : Written) → Completes (runs-due n v)
-  from-runs zero v = record { lines = ended endSchedule ∷ []; gives = v; all = record { last = nothing-due v; passed = also P (line-end P v) none-yet; ends = refl } }
+  from-runs zero v = record { lines = ended end-schedule ∷ []; gives = v; all = record { last = nothing-due v; passed = also P (line-end P v) none-yet; ends = refl } }
   from-runs (suc n) v =
       let r = zeros (P .periods) in
       let c = from-runs n (with-row v r) in
@@ -129,7 +129,7 @@ module _ (P : Instance) (h : 0 < P .periods) where
 
   lines-long : (v : Written) → GoodRows P (v .rows) → length (written-lines v) ≡ 2 + length (P .units)
   lines-long v g =
-      let a = length-append (map (plain-line run-key) (v .rows)) (endSchedule ∷ []) in
+      let a = length-append (map (plain-line run-key) (v .rows)) (end-schedule ∷ []) in
       let b = length-map (v .rows) (plain-line run-key) in
       let c = g .0 .0 in
       omega (arith, a, b, c)
@@ -153,10 +153,10 @@ module _ (P : Instance) (h : 0 < P .periods) where
 
   -- no other tests follow 12, 14, 13
   alone : (f : Form) (k n : ℕ) → FormAt P k f → ((g : Form) → FormAt P k g → g ≡ f) → (v : Written) (l : Line)
-      → Breaks P v k l n ↔ (Unfit f l n ⊎ (((neg : Bool) × (vs : List ℕ) × Fits f l neg vs) × First n []))
+      → Breaks P v k l n ↔ (Unfit f l n ⊎ (((neg : Bool) × (vs : List ℕ) × Fits f l neg vs) × FirstTrue n []))
   alone f k n there only v l = (λ b. inl (subst (λ (g : Form). Unfit g l n) (only (b .0) (b .1)) (b .2)), back)
     where
-      back : Unfit f l n ⊎ (((neg : Bool) × (vs : List ℕ) × Fits f l neg vs) × First n []) → Breaks P v k l n
+      back : Unfit f l n ⊎ (((neg : Bool) × (vs : List ℕ) × Fits f l neg vs) × FirstTrue n []) → Breaks P v k l n
       back (inl u) = (f, there, u)
       back (inr t) = absurd (first-every (λ _. ⊥) n [] tt (t .1))
 
@@ -168,10 +168,10 @@ module _ (P : Instance) (h : 0 < P .periods) where
       go (inr e) = let q = e .2 in let i = e .1 in omega (arith, more, q, i)
 
   refuses : (v : Written) (k : ℕ) (s : Due) → Stands v k s → (left : List Line) (n : ℕ)
-      → First n (tests-before (tests P) (next-due P) end s left) ↔ Refuses written-lines endSchedule (InLimits P) (Breaks P) v k left n
+      → FirstTrue n (tests-before (tests P) (next-due P) end s left) ↔ Refuses written-lines end-schedule (InLimits P) (Breaks P) v k left n
   refuses v k writer-due (r, a, l) left n =
       let z : k ≡ 0 = omega (arith, r) in
-      which.numbers-refuse (tests P) (next-due P) end written-lines endSchedule (InLimits P) (Breaks P) v k writer-due left n writer-form (λ x. []) refl (λ x. refl)
+      which.numbers-refuse (tests P) (next-due P) end written-lines end-schedule (InLimits P) (Breaks P) v k writer-due left n writer-form (λ x. []) refl (λ x. refl)
       (omega (arith, l, z)) (alone writer-form k n (subst (λ (i : ℕ). FormAt P i writer-form) (sym z) writer) (λ g t. go g (forms k g t)) v)
     where
       go : (g : Form) → ((k ≡ 0) × (g ≡ writer-form)) ⊎ ((u : ℕ) × (u < length (P .units)) × (k ≡ suc u) × (g ≡ run-form (P .periods))) → g ≡ writer-form
@@ -179,7 +179,7 @@ module _ (P : Instance) (h : 0 < P .periods) where
       go g (inr e) = absurd (let q = e .2 in omega (arith, r, q))
   refuses v k (run-due i w) (r, a, l) left n =
       let u : k ≡ suc (length (P .units) - 1 - i) = omega (arith, r, a) in
-      which.numbers-refuse (tests P) (next-due P) end written-lines endSchedule (InLimits P) (Breaks P) v k (run-due i w) left n (run-form (P .periods)) (λ x. []) refl (λ x. refl)
+      which.numbers-refuse (tests P) (next-due P) end written-lines end-schedule (InLimits P) (Breaks P) v k (run-due i w) left n (run-form (P .periods)) (λ x. []) refl (λ x. refl)
       (omega (arith, l, r)) (alone (run-form (P .periods)) k n
       (subst (λ (j : ℕ). FormAt P j (run-form (P .periods))) (sym u) (run (length (P .units) - 1 - i) (omega (arith, a)))) (λ g t. go g (forms k g t)) v)
     where
@@ -187,20 +187,20 @@ module _ (P : Instance) (h : 0 < P .periods) where
       go g (inl e) = absurd (let q = e .0 in omega (arith, r, a, q))
       go g (inr e) = e .3
   refuses v k (end-due w) (r, a, l) left n =
-      which.last-refuses (tests P) (next-due P) end written-lines endSchedule (InLimits P) (Breaks P) v k (end-due w) left n refl (λ x. refl) (omega (arith, r, l))
+      which.last-refuses (tests P) (next-due P) end written-lines end-schedule (InLimits P) (Breaks P) v k (end-due w) left n refl (λ x. refl) (omega (arith, r, l))
       (λ x b. beyond k (omega (arith, r)) (b .0) (b .1))
   refuses v k (nothing-due w) (r, a, l) left n =
-      which.end-refuses (tests P) (next-due P) end written-lines endSchedule (InLimits P) (Breaks P) v k (nothing-due w) left n w refl (λ x. refl) (omega (arith, r, l))
+      which.end-refuses (tests P) (next-due P) end written-lines end-schedule (InLimits P) (Breaks P) v k (nothing-due w) left n w refl (λ x. refl) (omega (arith, r, l))
       (λ x b. beyond k (omega (arith, r)) (b .0) (b .1))
 
   -- the machine of Course.antt follows the texts of schedules
-  follows : Follows (tests P) (next-due P) end written-lines endSchedule (InLimits P) (Breaks P) writer-due Stands
+  follows : Follows (tests P) (next-due P) end written-lines end-schedule (InLimits P) (Breaks P) writer-due Stands
   follows = record { passes = begins-passed; begins = passed-begins; refuses = refuses }
 
   module _ (n m : ℕ) (ls : List Line) where
     pub line-refused-is : RefusedAt (tests P) (next-due P) end n m 2 writer-due ls ↔ BrokenAt P n m ls
-    line-refused-is = which.line-refused-is (tests P) (next-due P) end written-lines endSchedule (InLimits P) (Breaks P) follows n m ls
+    line-refused-is = which.line-refused-is (tests P) (next-due P) end written-lines end-schedule (InLimits P) (Breaks P) follows n m ls
 
     -- with the refused line the lines begin the text of no writer and rows in range
     pub with-it-none : (r : BrokenAt P n m ls) (x : Line) (rest : List Line) → r .left ≡ x ∷ rest → (v : Written) → Begins (r .before ++ (x ∷ [])) v → ⊥
-    with-it-none = which.with-it-none (tests P) (next-due P) end written-lines endSchedule (InLimits P) (Breaks P) follows n m ls
+    with-it-none = which.with-it-none (tests P) (next-due P) end written-lines end-schedule (InLimits P) (Breaks P) follows n m ls

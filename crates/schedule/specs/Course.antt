@@ -4,7 +4,7 @@ use mathlib.Core.List.{List, [], _∷_, _++_}
 use mathlib.Core.Option.{Option, none, some}
 use lib.ListN.{length}
 use Rattle.model.specs.Instance.{Instance, Schedule, _at_}
-use Rattle.text.specs.Lines.{Line, later, linesOf, endSchedule}
+use Rattle.text.specs.Lines.{Line, later, lines-of, end-schedule}
 use Rattle.text.specs.Forms.{Form, plain, numbers-of, form-tests, word-tests, nothing-tests}
 use Rattle.text.specs.Writer.{writer-form}
 use Rattle.text.specs.Course.{Found, Judged, judged-from}
@@ -55,7 +55,7 @@ module _ (P : Instance) where
   abbrev pub tests : Due → Line → List Test
   tests writer-due l = form-tests writer-form l []
   tests (run-due n v) l = form-tests (run-form (P .periods)) l []
-  tests (end-due v) l = word-tests endSchedule l
+  tests (end-due v) l = word-tests end-schedule l
   tests (nothing-due v) l = nothing-tests
 
   -- refused by the first of them that holds, or good, with what is due then
@@ -71,4 +71,4 @@ end (nothing-due v) = some v
 
 -- the lines of a text after its first, kind=schedule
 unfoldable pub schedule-judged : Instance → List ℕ → Judged Written
-schedule-judged P text = judged-from (judge P) end 2 writer-due (later (linesOf text))
+schedule-judged P text = judged-from (judge P) end 2 writer-due (later (lines-of text))

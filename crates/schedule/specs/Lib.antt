@@ -2,7 +2,7 @@
 pub mod Rendering
 pub mod Course
 pub mod Refusals
-pub mod Reading
-pub mod Answers
+pub mod ReadAnswers
+pub mod Acceptance
 pub mod Storing
 pub mod WellFormed

@@ -4,7 +4,7 @@ use mathlib.Core.List.{List}
 use lib.ListN.{length}
 use Rattle.model.specs.Instance.{Instance}
 use Rattle.model.specs.Ranges.{GoodWriter, GoodRows}
-use Rattle.text.specs.Lines.{Line, later, linesOf, endSchedule}
+use Rattle.text.specs.Lines.{Line, later, lines-of, end-schedule}
 use Rattle.text.specs.Forms.{Form}
 use Rattle.text.specs.Writer.{writer-form}
 use Rattle.text.specs.LineRefused.{Unfit, LineRefused}
@@ -32,7 +32,7 @@ module _ (P : Instance) where
 
   -- the lines before line m begin the text of a writer and rows in range, and n refuses line m, of lines after the first
   abbrev pub BrokenAt : ℕ → ℕ → List Line → Type 0
-  BrokenAt n m ls = LineRefused written-lines endSchedule InLimits Breaks n m ls
+  BrokenAt n m ls = LineRefused written-lines end-schedule InLimits Breaks n m ls
 
   abbrev pub RefusedAt : List ℕ → ℕ → ℕ → Type 0
-  RefusedAt text n m = BrokenAt n m (later (linesOf text))
+  RefusedAt text n m = BrokenAt n m (later (lines-of text))

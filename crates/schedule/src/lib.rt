@@ -3,10 +3,10 @@ ghost use mathlib.Core.Path.{_≡_};
 ghost use mathlib.Core.List.{[]};
 ghost use Prim.Native.Nat.{_+_};
 ghost use Rattle.model.specs.Held.{view, Valid};
-ghost use Rattle.refusal.specs.Refusals.{refusalOf};
+ghost use Rattle.refusal.specs.Refusals.{refusal-of};
 ghost use Rattle.judge.specs.Rows.{schedule-of};
 ghost use Rattle.schedule.specs.Course.{written, runs-due, end-due};
-ghost use Rattle.schedule.specs.Reading.{IsSchedule, refused-by, ruled, in-arrays, schedule-read};
+ghost use Rattle.schedule.specs.ReadAnswers.{IsSchedule, refused-by, ruled, in-arrays, schedule-read};
 ghost use Rattle.schedule.specs.Storing.{read-from, Filled};
 
 mod rows;
@@ -39,7 +39,7 @@ pub struct ScheduleRead {
 
 // What reading gives of a text that this number refuses.
 fn refuse_text(number: u64, line: usize, unit: usize, period: usize) -> ScheduleRead
-    ensures { λ r. ⌜ r ≡ in-arrays (refused-by (refusalOf number line unit period)) ⌝ }
+    ensures { λ r. ⌜ r ≡ in-arrays (refused-by (refusal-of number line unit period)) ⌝ }
 {
     let refusal = refusal::refuse(number, line, unit, period);
     ScheduleRead {

@@ -10,7 +10,7 @@ use lib.IntN.{pos}
 use lib.Signed.{_<ℤ_}
 use Rattle.model.specs.declared.generator.Generator.{Generator}
 use Rattle.model.specs.Instance.{Tini}
-use Rattle.source.specs.Source.{Bits, Σ₁, num, from, idle, longer, downtime, Fifteen, Sentence15, Charges}
+use Rattle.source.specs.Source.{Bits, Σ₁, bit, from, idle, one-longer, downtime, Fifteen, Sentence15, Charges}
 use Rattle.source.specs.Sentences.{starting, stopping, start-cost, stop-cost}
 use Rattle.source.proofs.Indices.{from-two}
 use Rattle.source.proofs.Before.{off-below, off-of, on-of, either-of}
@@ -65,8 +65,8 @@ module _ (n : ℕ) (g : Generator) (u : ℕ → ℕ) (H : g .Hsc ≤ g .Csc) (bi
   start-14 h l =
       omega (
         arith,
-        ap (λ (b : Bool). num b * g .Hsc) (off-of g h .state),
-        hot-le g H (num (g .on)) (downtime g u 1) (u 1) (bits 1 (omega arith) l),
+        ap (λ (b : Bool). bit b * g .Hsc) (off-of g h .state),
+        hot-le g H (bit (g .on)) (downtime g u 1) (u 1) (bits 1 (omega arith) l),
       )
 
   -- a start after more than TD + Tcold periods off, in any period
@@ -79,7 +79,7 @@ module _ (n : ℕ) (g : Generator) (u : ℕ → ℕ) (H : g .Hsc ≤ g .Csc) (bi
       (λ t m. stop-le g (u (suc t)) (u (suc (suc t))) (bits (suc t) (omega arith) (omega arith)))
 
   stop-19 : pos 0 <ℤ Tini g → 1 ≤ n → (1 - u 1) * g .Dc ≤ stop-cost g u 1
-  stop-19 h l = subst (λ (b : Bool). (1 - u 1) * g .Dc ≤ stopping g (num b) (u 1)) (sym (on-of g h .state)) (go (u 1))
+  stop-19 h l = subst (λ (b : Bool). (1 - u 1) * g .Dc ≤ stopping g (bit b) (u 1)) (sym (on-of g h .state)) (go (u 1))
     where
       go : (w : ℕ) → (1 - w) * g .Dc ≤ stopping g 1 w
       go zero = omega arith
@@ -124,7 +124,7 @@ module _ (n : ℕ) (g : Generator) (u cu cd : ℕ → ℕ) (C : Charges Sentence
     where
       go : (Tini g <ℤ pos 0) ⊎ (pos 0 <ℤ Tini g) → g .Hsc ≤ cu 1
       go (inl h) = omega (arith, rw w at (C .eq14 h m))
-      go (inr h) = absurd (omega (arith, ap num (on-of g h .state)))
+      go (inr h) = absurd (omega (arith, ap bit (on-of g h .state)))
   hsc-due (suc t) m v w f =
       let q : suc (suc t) - 1 ≡ suc t = omega arith in omega (arith, rw (q, w, v) at (C .eq13 (suc (suc t)) (omega arith) m))
 
@@ -151,18 +151,18 @@ module _ (F : Fifteen) (n : ℕ) (g : Generator) (u cu cd : ℕ → ℕ) (C : Ch
   dc-due zero m v w f = go (either-of g f)
     where
       go : (Tini g <ℤ pos 0) ⊎ (pos 0 <ℤ Tini g) → g .Dc ≤ cd 1
-      go (inl h) = absurd (omega (arith, ap num (off-of g h .state)))
+      go (inl h) = absurd (omega (arith, ap bit (off-of g h .state)))
       go (inr h) = omega (arith, rw w at (C .eq19 h m))
   dc-due (suc t) m v w f =
       let q : suc (suc t) - 1 ≡ suc t = omega arith in omega (arith, rw (q, w, v) at (C .eq18 (suc (suc t)) (omega arith) m))
 
   pub stop-below : 1 ≤ g .since → Bits n u → (t : ℕ) → 1 ≤ t → t ≤ n → stop-cost g u t ≤ cd t
   stop-below f bits zero l m = absurd (omega arith)
-  stop-below f bits (suc t) l m = go (from g u t) (u (suc t)) refl refl (bit t m)
+  stop-below f bits (suc t) l m = go (from g u t) (u (suc t)) refl refl (at-most-1 t m)
     where
-      bit : (t : ℕ) → suc t ≤ n → from g u t ≤ 1
-      bit zero m = num-le (g .on)
-      bit (suc t) m = bits (suc t) (omega arith) (omega arith)
+      at-most-1 : (t : ℕ) → suc t ≤ n → from g u t ≤ 1
+      at-most-1 zero m = num-le (g .on)
+      at-most-1 (suc t) m = bits (suc t) (omega arith) (omega arith)
 
       go : (v w : ℕ) → from g u t ≡ v → u (suc t) ≡ w → from g u t ≤ 1 → stopping g v w ≤ cd (suc t)
       go zero w e i k = omega arith
@@ -175,7 +175,7 @@ module _ (F : Fifteen) (n : ℕ) (g : Generator) (u cu cd : ℕ → ℕ) (C : Ch
 module _ (g : Generator) (n : ℕ) (u v : ℕ → ℕ) (e : (t : ℕ) → 1 ≤ t → t ≤ n → u t ≡ v t) where
   pub downtime-same : (t : ℕ) → t ≤ n → downtime g u (suc t) ≡ downtime g v (suc t)
   downtime-same zero m = refl
-  downtime-same (suc t) m = ap₂ longer (e (suc t) (omega arith) m) (downtime-same t (omega arith))
+  downtime-same (suc t) m = ap₂ one-longer (e (suc t) (omega arith) m) (downtime-same t (omega arith))
 
   pub from-same : (t : ℕ) → t ≤ n → from g u t ≡ from g v t
   from-same zero m = refl

@@ -11,7 +11,7 @@ use Rattle.model.specs.Ranges.{WellFormed}
 use Rattle.model.specs.Rules.{on, MeetsPrinted}
 use Rattle.model.specs.Cost.{fuel-cost, row-cost, cost}
 use Rattle.model.proofs.Sums.{sum-add}
-use Rattle.source.specs.Source.{Σ₁, Σᵢ, nth, num, Fifteen, Sentence15, term, u-row, p-of, u-of}
+use Rattle.source.specs.Source.{Σ₁, Σᵢ, nth, bit, Fifteen, Sentence15, term, u-row, p-of, u-of}
 use Rattle.source.specs.Sentences.{start-cost, stop-cost}
 use Rattle.source.specs.Least.{LeastWith}
 use Rattle.source.proofs.Indices.{Σ₁-same, Σᵢ-is, Shape, shape-of}
@@ -22,7 +22,7 @@ use Rattle.source.proofs.Objective.{Charge, LeastStart, unit-value, sen
 
 -- ---- a row
 
-fuel-is : (g : Generator) (p : ℕ) → g .a * num (on p) + g .b * p + g .c * p * p ≡ fuel-cost g p
+fuel-is : (g : Generator) (p : ℕ) → g .a * bit (on p) + g .b * p + g .c * p * p ≡ fuel-cost g p
 fuel-is g zero = omega arith
 fuel-is g (suc p) = omega arith
 

@@ -10,7 +10,7 @@ use lib.IntN.{pos, _+ℤ_}
 use lib.Signed.{_<ℤ_}
 use Rattle.model.specs.declared.generator.Generator.{Generator}
 use Rattle.model.specs.Instance.{Tini}
-use Rattle.source.specs.Source.{Σ₁, num, from, idle, longer, downs, downtime}
+use Rattle.source.specs.Source.{Σ₁, bit, from, idle, one-longer, downs, downtime}
 use Rattle.source.proofs.Indices.{none→sum, sum→none}
 use Rattle.source.proofs.Before.{Off, start16}
 
@@ -26,7 +26,7 @@ quiet→down d u (suc t) (suc n) l q =
     rw (q (suc t) (omega arith) (omega arith) (omega arith))
     (omega (arith, quiet→down d u t n (omega arith) (λ e i j k. q e i (omega arith) (omega arith))))
 
-longer-off : (v d n : ℕ) → suc n ≤ longer v d → (v ≡ 0) × (n ≤ d)
+longer-off : (v d n : ℕ) → suc n ≤ one-longer v d → (v ≡ 0) × (n ≤ d)
 longer-off zero d n h = (refl, omega arith)
 longer-off (suc v) d n h = absurd (omega arith)
 
@@ -73,7 +73,7 @@ idle-on g h = go (g .on) refl h
 
 -- a unit with a downtime was off just before
 pub prev-off : (g : Generator) (u : ℕ → ℕ) (t : ℕ) → 1 ≤ downtime g u (suc t) → from g u t ≡ 0
-prev-off g u zero h = ap num (idle-on g h .0)
+prev-off g u zero h = ap bit (idle-on g h .0)
 prev-off g u (suc t) h = longer-off (u (suc t)) (downtime g u (suc t)) 0 h .0
 
 -- in the range of (15), its printed sum is 0, so that Csc is charged, where the downtime is TD + Tcold or more

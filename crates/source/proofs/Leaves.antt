@@ -15,7 +15,7 @@ use Rattle.model.specs.Above.{Mark, free, fixed, allows, agrees, obeys}
 use Rattle.model.specs.Leaf.{gather, words, none-of, runs, is-stuck}
 use Rattle.model.proofs.Tests.{T-and, T-and-l, T-and-r}
 use Rattle.model.proofs.Members.{mem-words, none-of-not}
-use Rattle.source.specs.Source.{ToT, Bits, num, from, u-row}
+use Rattle.source.specs.Source.{ToT, Bits, bit, from, u-row}
 use Rattle.source.specs.Leaves.{Fits, NoStatuses, LeafRow}
 use Rattle.source.proofs.Indices.{from-one}
 use Rattle.source.proofs.Stays.{num-le, Reads}
@@ -24,20 +24,20 @@ use Rattle.source.proofs.Rows.{within→eq4, eq4→within, row-reads, r
 
 -- ---- agreement
 
-allows→same : (k : Mark) (b d : Bool) → k ≡ fixed b → T (allows k d) → num d ≡ num b
+allows→same : (k : Mark) (b d : Bool) → k ≡ fixed b → T (allows k d) → bit d ≡ bit b
 allows→same k b d e h = go b d (subst (λ (k : Mark). T (allows k d)) e h)
   where
-    go : (b d : Bool) → T (Bool·beq b d) → num d ≡ num b
+    go : (b d : Bool) → T (Bool·beq b d) → bit d ≡ bit b
     go true true h = refl
     go true false h = absurd h
     go false true h = absurd h
     go false false h = refl
 
-same→allows : (k : Mark) (d : Bool) → ((b : Bool) → k ≡ fixed b → num d ≡ num b) → T (allows k d)
+same→allows : (k : Mark) (d : Bool) → ((b : Bool) → k ≡ fixed b → bit d ≡ bit b) → T (allows k d)
 same→allows free d h = tt
 same→allows (fixed b) d h = go b d (h b refl)
   where
-    go : (b d : Bool) → num d ≡ num b → T (Bool·beq b d)
+    go : (b d : Bool) → bit d ≡ bit b → T (Bool·beq b d)
     go true true e = tt
     go true false e = absurd (omega arith)
     go false true e = absurd (omega arith)
@@ -83,12 +83,12 @@ unfolding run-of
 run-long zero u = refl
 run-long (suc n) u = ap suc (run-long n (λ t. u (suc t)))
 
-num-on : (v : ℕ) → v ≤ 1 → v ≡ num (on v)
+num-on : (v : ℕ) → v ≤ 1 → v ≡ bit (on v)
 num-on zero l = refl
 num-on (suc zero) l = refl
 num-on (suc (suc v)) l = absurd (omega arith)
 
-run-at : (n : ℕ) (u : ℕ → ℕ) → Bits n u → (t : ℕ) → t < n → u (suc t) ≡ num (getD (run-of n u) t false)
+run-at : (n : ℕ) (u : ℕ → ℕ) → Bits n u → (t : ℕ) → t < n → u (suc t) ≡ bit (getD (run-of n u) t false)
 unfolding run-of
 run-at zero u bits t l = absurd (omega arith)
 run-at (suc n) u bits zero l = num-on (u 1) (bits 1 (omega arith) (omega arith))
@@ -96,7 +96,7 @@ run-at (suc n) u bits (suc t) l = run-at n (λ t. u (suc t)) (λ t i m. bits (su
 
 abbrev u-run : List Bool → ℕ → ℕ
 u-run run zero = 0
-u-run run (suc t) = num (getD run t false)
+u-run run (suc t) = bit (getD run t false)
 
 run-bits : (n : ℕ) (run : List Bool) → Bits n (u-run run)
 run-bits n run = from-one n _ (λ t l. num-le (getD run t false))

@@ -7,7 +7,7 @@ use native.Mathlib.Omega.{arith}
 use Rattle.model.specs.declared.generator.Generator.{Generator}
 use Rattle.model.specs.Instance.{Instance}
 use Rattle.model.specs.Rules.{on}
-use Rattle.source.specs.Source.{Bits, Σ₁, Σᵢ, Every, UnitSource, Source, num, Fifteen, Sentence15, Charges, Costs, term, objective}
+use Rattle.source.specs.Source.{Bits, Σ₁, Σᵢ, Every, UnitSource, Source, bit, Fifteen, Sentence15, Charges, Costs, term, objective}
 use Rattle.source.specs.Sentences.{start-cost, stop-cost}
 use Rattle.source.specs.Least.{LeastWith}
 use Rattle.source.proofs.Indices.{Σ₁-le, Σᵢ-same, Σᵢ-le, every-map, every-both}
@@ -36,7 +36,7 @@ sentence-least = record {
 
 -- the statuses of the outputs
 abbrev pub status : (ℕ → ℕ) → ℕ → ℕ
-status p t = num (on (p t))
+status p t = bit (on (p t))
 
 -- what (1) has of a unit with outputs p, with c for cu
 abbrev pub unit-value : Charge → ℕ → Generator → (ℕ → ℕ) → ℕ

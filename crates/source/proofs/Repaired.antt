@@ -10,7 +10,7 @@ use Rattle.model.specs.Instance.{Instance, Schedule}
 use Rattle.model.specs.Ranges.{WellFormed}
 use Rattle.model.specs.Rules.{MeetsPrinted}
 use Rattle.model.specs.Cost.{cost}
-use Rattle.source.specs.Source.{Bits, Σ₁, num, from, idle, longer, downs, downtime, Repaired15, Sentence15, p-of}
+use Rattle.source.specs.Source.{Bits, Σ₁, bit, from, idle, one-longer, downs, downtime, Repaired15, Sentence15, p-of}
 use Rattle.source.specs.Sentences.{start-cost, stop-cost}
 use Rattle.source.specs.Least.{LeastWith}
 use Rattle.source.proofs.Indices.{Σ₁-same}
@@ -25,12 +25,12 @@ later g u zero = 0
 later g u (suc t) = from g u t
 
 -- counted from a period earlier, the downtime is the same
-downs-later : (g : Generator) (u : ℕ → ℕ) (d t : ℕ) → longer (num (g .on)) d ≡ idle (g .on) (g .since)
+downs-later : (g : Generator) (u : ℕ → ℕ) (d t : ℕ) → one-longer (bit (g .on)) d ≡ idle (g .on) (g .since)
     → downs d (later g u) (suc (suc t)) ≡ downtime g u (suc t)
 downs-later g u d zero e = e
-downs-later g u d (suc t) e = ap (longer (u (suc t))) (downs-later g u d t e)
+downs-later g u d (suc t) e = ap (one-longer (u (suc t))) (downs-later g u d t e)
 
-earlier : (b : Bool) (k : ℕ) → 1 ≤ k → longer (num b) (k - 1) ≡ idle b k
+earlier : (b : Bool) (k : ℕ) → 1 ≤ k → one-longer (bit b) (k - 1) ≡ idle b k
 earlier true k l = refl
 earlier false k l = omega arith
 

@@ -11,7 +11,7 @@ use lib.ListN.{length, length-map, List·getD-map}
 use Rattle.model.specs.declared.generator.Generator.{Generator}
 use Rattle.model.specs.Instance.{_at_}
 use Rattle.model.specs.Rules.{on, statuses, Within, Ramp, Row}
-use Rattle.source.specs.Source.{nth, ToT, Bits, UnitSource, num, from, u-row}
+use Rattle.source.specs.Source.{nth, ToT, Bits, UnitSource, bit, from, u-row}
 use Rattle.source.proofs.Indices.{from-one, from-two}
 use Rattle.source.proofs.Stays.{num-le, Reads}
 use Rattle.source.proofs.UpDown.{keeps→updown, updown→keeps}
@@ -19,16 +19,16 @@ use Rattle.source.proofs.Ranged.{Ranged}
 
 -- ---- (4), of one output
 
-pub within→eq4 : (g : Generator) (p : ℕ) → Within g p → (num (on p) * g .pL ≤ p) × (p ≤ g .pU * num (on p))
+pub within→eq4 : (g : Generator) (p : ℕ) → Within g p → (bit (on p) * g .pL ≤ p) × (p ≤ g .pU * bit (on p))
 within→eq4 g zero w = (omega arith, omega arith)
 within→eq4 g (suc p) w = (omega (arith, w tt .0), omega (arith, w tt .1))
 
-pub eq4→within : (g : Generator) (p : ℕ) → num (on p) * g .pL ≤ p → p ≤ g .pU * num (on p) → Within g p
+pub eq4→within : (g : Generator) (p : ℕ) → bit (on p) * g .pL ≤ p → p ≤ g .pU * bit (on p) → Within g p
 eq4→within g zero h i = λ t. absurd t
 eq4→within g (suc p) h i = λ t. (omega arith, omega arith)
 
 -- from pL 1 on, the output tells the status
-eq4-status : (g : Generator) (u p : ℕ) → 1 ≤ g .pL → u ≤ 1 → u * g .pL ≤ p → p ≤ g .pU * u → u ≡ num (on p)
+eq4-status : (g : Generator) (u p : ℕ) → 1 ≤ g .pL → u ≤ 1 → u * g .pL ≤ p → p ≤ g .pU * u → u ≡ bit (on p)
 eq4-status g zero zero l h i j = refl
 eq4-status g zero (suc p) l h i j = absurd (omega arith)
 eq4-status g (suc zero) zero l h i j = absurd (omega arith)
@@ -38,10 +38,10 @@ eq4-status g (suc (suc u)) p l h i j = absurd (omega arith)
 -- ---- (11), (12), of two outputs in a row, b being the status with the first
 
 abbrev pub Eq11 : Generator → Bool → ℕ → ℕ → Type 0
-Eq11 g b p p′ = p ≤ p′ + g .DR * num b + g .pU * (1 - num (on p′))
+Eq11 g b p p′ = p ≤ p′ + g .DR * bit b + g .pU * (1 - bit (on p′))
 
 abbrev pub Eq12 : Generator → Bool → ℕ → ℕ → Type 0
-Eq12 g b p p′ = p′ ≤ p + g .UR * num b + g .pU * (1 - num b)
+Eq12 g b p p′ = p′ ≤ p + g .UR * bit b + g .pU * (1 - bit b)
 
 pub ramp→eq : (g : Generator) (b : Bool) (p p′ : ℕ) → (T b → p ≤ g .pU) → (T (not b) → p ≡ 0) → Within g p′
     → (T b → T (on p′) → Ramp g p p′) → Eq11 g b p p′ × Eq12 g b p p′
@@ -62,7 +62,7 @@ off-none (suc p) t = absurd t
 -- ---- a row
 
 pub row-reads : (g : Generator) (r : List ℕ) → Reads (from g (u-row r)) (statuses r)
-row-reads g r t l = ap num (sym (List·getD-map on r t 0))
+row-reads g r t l = ap bit (sym (List·getD-map on r t 0))
 
 pub row-bits : (n : ℕ) (r : List ℕ) → Bits n (u-row r)
 row-bits n r t l m = num-le (on (nth r t))
@@ -99,7 +99,7 @@ module _ (n : ℕ) (g : Generator) (r : List ℕ) where
 -- ---- any u
 
 -- whatever solves (4) has the statuses of its outputs
-pub source-status : (n : ℕ) (g : Generator) (u p : ℕ → ℕ) → Ranged g → UnitSource n g u p → (t : ℕ) → 1 ≤ t → t ≤ n → u t ≡ num (on (p t))
+pub source-status : (n : ℕ) (g : Generator) (u p : ℕ → ℕ) → Ranged g → UnitSource n g u p → (t : ℕ) → 1 ≤ t → t ≤ n → u t ≡ bit (on (p t))
 source-status n g u p R S t l m = eq4-status g (u t) (p t) (R .low) (S .eq22 t l m) (S .eq4 t l m .0) (S .eq4 t l m .1)
 
 -- the equations look at u and p in the periods 1 to T only

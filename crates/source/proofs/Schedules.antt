@@ -9,14 +9,14 @@ use lib.ListN.{length, getD}
 use Rattle.model.specs.Instance.{Instance, Schedule, _at_}
 use Rattle.model.specs.Ranges.{Shaped, WellFormed}
 use Rattle.model.specs.Rules.{on, if-on, Row, output, capacity, MeetsPrinted}
-use Rattle.source.specs.Source.{Σᵢ, Every, UnitSource, Source, num, p-of, u-of}
+use Rattle.source.specs.Source.{Σᵢ, Every, UnitSource, Source, bit, p-of, u-of}
 use Rattle.source.proofs.Indices.{from-one, Σᵢ-same, Σᵢ-is, every-all, every-map, every-both, each→every, every→each, Shape, shape-of, shaped→shape, shape→shaped}
 use Rattle.source.proofs.Ranged.{Ranged, AllRanged, formed→ranged}
 use Rattle.source.proofs.Rows.{row→source, source→row, source-status, source-same}
 
 -- ---- the two sums
 
-if-on-is : (c p : ℕ) → c * num (on p) ≡ if-on (on p) c
+if-on-is : (c p : ℕ) → c * bit (on p) ≡ if-on (on p) c
 if-on-is c zero = omega arith
 if-on-is c (suc p) = omega arith
 
@@ -71,9 +71,9 @@ problem-same P u v p q e f S = record {
 }
 
 -- from pL 1 on, the outputs tell the statuses
-pub statuses-are : (P : Instance) (u p : ℕ → ℕ → ℕ) → AllRanged P → Source P u p → Same P u (λ i t. num (on (p i t)))
+pub statuses-are : (P : Instance) (u p : ℕ → ℕ → ℕ) → AllRanged P → Source P u p → Same P u (λ i t. bit (on (p i t)))
 statuses-are P u p A S =
-    every-map _ (λ i g. (t : ℕ) → 1 ≤ t → t ≤ P .periods → u i t ≡ num (on (p i t))) (P .units)
+    every-map _ (λ i g. (t : ℕ) → 1 ≤ t → t ≤ P .periods → u i t ≡ bit (on (p i t))) (P .units)
     (λ i g h. source-status (P .periods) g (u i) (p i) (h .0) (h .1)) (every-both _ _ (P .units) A (S .eq4-12))
 
 pub source→meets : (P : Instance) (s : Schedule) → AllRanged P → Shape P s → Source P (u-of s) (p-of s) → MeetsPrinted P s

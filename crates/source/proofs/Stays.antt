@@ -10,7 +10,7 @@ use lib.ListN.{length, getD}
 use Rattle.model.specs.declared.generator.Generator.{Generator}
 use Rattle.model.specs.Rules.{permits, spent, keeps}
 use Rattle.model.proofs.Tests.{T-and, T-and-l, T-and-r}
-use Rattle.source.specs.Source.{num}
+use Rattle.source.specs.Source.{bit}
 
 -- x 1, .., x n after k periods in the status x 0
 pub record Stays (g : Generator) (k n : ℕ) (x : ℕ → ℕ) : Type 0 where
@@ -20,7 +20,7 @@ pub record Stays (g : Generator) (k n : ℕ) (x : ℕ → ℕ) : Type 0 where
   pub ups : (t e : ℕ) → suc t < e → e < suc t + g .TU → e ≤ n → x (suc t) ≤ x t + x e
   pub falls : (t e : ℕ) → suc t < e → e < suc t + g .TD → e ≤ n → x e + x t ≤ x (suc t) + 1
 
-pub num-le : (b : Bool) → num b ≤ 1
+pub num-le : (b : Bool) → bit b ≤ 1
 num-le true = omega arith
 num-le false = omega arith
 
@@ -34,24 +34,24 @@ unless-above a b f = go (leb a b) (λ t. nleb→lt a b t)
 -- ---- from x 0, x 1, .. to x 1, x 2, ..
 
 module _ (g : Generator) (k n : ℕ) (x : ℕ → ℕ) (S : Stays g k (suc n) x) where
-  fore-permits : (b d : Bool) → x 0 ≡ num b → x 1 ≡ num d → T (permits g b k d)
+  fore-permits : (b d : Bool) → x 0 ≡ bit b → x 1 ≡ bit d → T (permits g b k d)
   fore-permits true true e0 e1 = tt
   fore-permits true false e0 e1 = unless-above (g .TU) k (λ l. omega (arith, S .on-first e0 1 (omega arith) (omega arith) (omega arith)))
   fore-permits false true e0 e1 = unless-above (g .TD) k (λ l. omega (arith, S .off-first e0 1 (omega arith) (omega arith) (omega arith)))
   fore-permits false false e0 e1 = tt
 
-  fore-off : (b d : Bool) → x 0 ≡ num b → x 1 ≡ num d → x 1 ≡ 0 → (t : ℕ) → 1 ≤ t → t ≤ n → t + spent b k d ≤ g .TD → x (suc t) ≡ 0
+  fore-off : (b d : Bool) → x 0 ≡ bit b → x 1 ≡ bit d → x 1 ≡ 0 → (t : ℕ) → 1 ≤ t → t ≤ n → t + spent b k d ≤ g .TD → x (suc t) ≡ 0
   fore-off b true e0 e1 z t l m h = absurd (omega arith)
   fore-off true false e0 e1 z t l m h = omega (arith, S .falls 0 (suc t) (omega arith) (omega arith) (omega arith))
   fore-off false false e0 e1 z t l m h = S .off-first e0 (suc t) (omega arith) (omega arith) (omega arith)
 
-  fore-on : (b d : Bool) → x 0 ≡ num b → x 1 ≡ num d → x 1 ≡ 1 → (t : ℕ) → 1 ≤ t → t ≤ n → t + spent b k d ≤ g .TU → x (suc t) ≡ 1
+  fore-on : (b d : Bool) → x 0 ≡ bit b → x 1 ≡ bit d → x 1 ≡ 1 → (t : ℕ) → 1 ≤ t → t ≤ n → t + spent b k d ≤ g .TU → x (suc t) ≡ 1
   fore-on b false e0 e1 z t l m h = absurd (omega arith)
   fore-on true true e0 e1 z t l m h = S .on-first e0 (suc t) (omega arith) (omega arith) (omega arith)
   fore-on false true e0 e1 z t l m h =
       omega (arith, S .ups 0 (suc t) (omega arith) (omega arith) (omega arith), S .bits (suc t) (omega arith))
 
-  fore : (b d : Bool) → x 0 ≡ num b → x 1 ≡ num d → Stays g (spent b k d) n (λ t. x (suc t))
+  fore : (b d : Bool) → x 0 ≡ bit b → x 1 ≡ bit d → Stays g (spent b k d) n (λ t. x (suc t))
   fore b d e0 e1 = record {
     bits = λ t l. S .bits (suc t) (omega arith);
     off-first = fore-off b d e0 e1;
@@ -64,8 +64,8 @@ module _ (g : Generator) (k n : ℕ) (x : ℕ → ℕ) (S : Stays g k (suc n) x)
 
 -- the first two statuses, and the rest
 record Next (g : Generator) (b d : Bool) (k n : ℕ) (x : ℕ → ℕ) : Type 0 where
-  pub e0 : x 0 ≡ num b
-  pub e1 : x 1 ≡ num d
+  pub e0 : x 0 ≡ bit b
+  pub e1 : x 1 ≡ bit d
   pub rest : Stays g (spent b k d) n (λ t. x (suc t))
 
 module _ (g : Generator) (k n : ℕ) (x : ℕ → ℕ) where
@@ -113,9 +113,9 @@ module _ (g : Generator) (k n : ℕ) (x : ℕ → ℕ) where
 -- ---- a run of statuses
 
 abbrev pub Reads : (ℕ → ℕ) → List Bool → Type 0
-Reads x run = (t : ℕ) → t < length run → x (suc t) ≡ num (getD run t false)
+Reads x run = (t : ℕ) → t < length run → x (suc t) ≡ bit (getD run t false)
 
-pub keeps→stays : (g : Generator) (b : Bool) (k : ℕ) (run : List Bool) (x : ℕ → ℕ) → x 0 ≡ num b → Reads x run → T (keeps g b k run)
+pub keeps→stays : (g : Generator) (b : Bool) (k : ℕ) (run : List Bool) (x : ℕ → ℕ) → x 0 ≡ bit b → Reads x run → T (keeps g b k run)
     → Stays g k (length run) x
 keeps→stays g b k [] x e0 r h = record {
   bits = bits;
@@ -129,7 +129,7 @@ keeps→stays g b k [] x e0 r h = record {
     bits zero l = omega (arith, num-le b)
     bits (suc t) l = absurd (omega arith)
 keeps→stays g b k (d ∷ run) x e0 r h =
-    let e1 : x 1 ≡ num d = r 0 (omega arith) in
+    let e1 : x 1 ≡ bit d = r 0 (omega arith) in
     back g k (length run) x b d (record {
       e0 = e0;
       e1 = e1;
@@ -137,10 +137,10 @@ keeps→stays g b k (d ∷ run) x e0 r h =
           (T-and-r (permits g b k d) (keeps g d (spent b k d) run) h);
     }) (T-and-l (permits g b k d) (keeps g d (spent b k d) run) h)
 
-pub stays→keeps : (g : Generator) (b : Bool) (k : ℕ) (run : List Bool) (x : ℕ → ℕ) → x 0 ≡ num b → Reads x run → Stays g k (length run) x
+pub stays→keeps : (g : Generator) (b : Bool) (k : ℕ) (run : List Bool) (x : ℕ → ℕ) → x 0 ≡ bit b → Reads x run → Stays g k (length run) x
     → T (keeps g b k run)
 stays→keeps g b k [] x e0 r S = tt
 stays→keeps g b k (d ∷ run) x e0 r S =
-    let e1 : x 1 ≡ num d = r 0 (omega arith) in
+    let e1 : x 1 ≡ bit d = r 0 (omega arith) in
     T-and (permits g b k d) (keeps g d (spent b k d) run) (fore-permits g k (length run) x S b d e0 e1)
     (stays→keeps g d (spent b k d) run (λ t. x (suc t)) e1 (λ t l. r (suc t) (omega arith)) (fore g k (length run) x S b d e0 e1))

@@ -6,11 +6,11 @@ use Prim.Native.Nat.{ℕ, suc, _*_, _≤_, _<_}
 use lib.ListN.{length}
 use Rattle.model.specs.declared.generator.Generator.{Generator}
 use Rattle.model.specs.Above.{Mark, fixed}
-use Rattle.source.specs.Source.{nth, ToT, Bits, num, u-row}
+use Rattle.source.specs.Source.{nth, ToT, Bits, bit, u-row}
 
 -- the statuses agree with those fixed, whose periods count from 0
 abbrev pub Fits : (ℕ → Mark) → ℕ → (ℕ → ℕ) → Type 0
-Fits m T u = (t : ℕ) (b : Bool) → t < T → m t ≡ fixed b → u (suc t) ≡ num b
+Fits m T u = (t : ℕ) (b : Bool) → t < T → m t ≡ fixed b → u (suc t) ≡ bit b
 
 -- stuck: no statuses that obey (5) to (10) and (22) agree
 abbrev pub NoStatuses : ℕ → Generator → (ℕ → Mark) → Type 0

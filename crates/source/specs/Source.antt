@@ -90,13 +90,13 @@ pub record Source (P : Instance) (u p : ℕ → ℕ → ℕ) : Type 0 where
 -- ---- the costs of starts and stops, cu and cd
 
 -- a status as 0 or 1
-abbrev pub num : Bool → ℕ
-num true = 1
-num false = 0
+abbrev pub bit : Bool → ℕ
+bit true = 1
+bit false = 0
 
 -- u, and the status before period 1 as u 0
 abbrev pub from : Generator → (ℕ → ℕ) → ℕ → ℕ
-from g u zero = num (g .on)
+from g u zero = bit (g .on)
 from g u (suc t) = u (suc t)
 
 -- the periods just spent off, after k periods in the status b
@@ -105,15 +105,15 @@ idle true k = 0
 idle false k = k
 
 -- one period later
-abbrev pub longer : ℕ → ℕ → ℕ
-longer zero d = suc d
-longer (suc u) d = 0
+abbrev pub one-longer : ℕ → ℕ → ℕ
+one-longer zero d = suc d
+one-longer (suc u) d = 0
 
 -- the same when period t begins, if they were d when period 1 began
 abbrev pub downs : ℕ → (ℕ → ℕ) → ℕ → ℕ
 downs d u zero = 0
 downs d u (suc zero) = d
-downs d u (suc (suc t)) = longer (u (suc t)) (downs d u (suc t))
+downs d u (suc (suc t)) = one-longer (u (suc t)) (downs d u (suc t))
 
 -- the paper's downtime, in period t
 abbrev pub downtime : Generator → (ℕ → ℕ) → ℕ → ℕ
@@ -161,11 +161,11 @@ objective P u p cu cd = Σᵢ (λ i g. Σ₁ (P .periods) (λ t. term g (u i t) 
 
 -- the statuses of a row
 abbrev pub u-row : List ℕ → ℕ → ℕ
-u-row r t = num (on (nth r t))
+u-row r t = bit (on (nth r t))
 
 abbrev pub p-of : Schedule → ℕ → ℕ → ℕ
 p-of s zero t = 0
 p-of s (suc i) t = nth (getD s i []) t
 
 abbrev pub u-of : Schedule → ℕ → ℕ → ℕ
-u-of s i t = num (on (p-of s i t))
+u-of s i t = bit (on (p-of s i t))

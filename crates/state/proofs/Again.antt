@@ -11,7 +11,7 @@ use mathlib.Core.List.{List, _∷_, _++_, append-assoc}
 use borrow.Author.Tests.{lt-ltb}
 use Rattle.model.specs.Instance.{_at_}
 use Rattle.numbers.specs.Numbers.{laid-out, problem-in}
-use Rattle.writer.specs.Written.{figureOf}
+use Rattle.writer.specs.Written.{figure-of}
 use Rattle.numbers.proofs.Again.{problem-again}
 use Rattle.docket.specs.declared.Docket.{Docket}
 use Rattle.docket.specs.declared.held.HeldCost.{HeldCost}
@@ -20,7 +20,7 @@ use Rattle.docket.specs.declared.held.HeldBound.{HeldBound}
 use Rattle.docket.specs.declared.held.HeldBound.the-variants as bound
 use Rattle.docket.specs.Docket.{small-bound}
 use Rattle.docket.proofs.Differences.{small-size}
-use Rattle.state.specs.Layout.{size-room, mark, head, cost-numbers, bound-numbers, bound-in, state-numbers, docket-in, held-in}
+use Rattle.state.specs.Layout.{size-room, layout-mark, head, cost-numbers, held-bound-numbers, bound-in, state-numbers, docket-in, held-in}
 use Rattle.state.specs.Kept.{kept-numbers, kept-rows}
 use Rattle.state.proofs.Fits.{Fits}
 use Rattle.state.proofs.Sizes.{minus-is}
@@ -29,19 +29,19 @@ use Rattle.state.proofs.Keeping.{five, eight, eight-long}
 -- ---- what is held
 
 number-again : (z : ℤ) (w : ℕ) (l : List ℕ) → small-bound (bound.Number (record { value = z; writer = w })) ≡ true
-    → let b = bound-numbers (bound.Number (record { value = z; writer = w })) ++ l in bound-in (b at 0) (b at 1) (b at 2) ≡ bound.Number (record { value = z; writer = w })
-unfolding figureOf
+    → let b = held-bound-numbers (bound.Number (record { value = z; writer = w })) ++ l in bound-in (b at 0) (b at 1) (b at 2) ≡ bound.Number (record { value = z; writer = w })
+unfolding figure-of
 number-again (pos n) w l h = let k = lt-ltb n size-room (omega (arith, small-size (pos n) h)) in rw k refl
 number-again (negsuc n) w l h = let k = lt-ltb (suc n) size-room (omega (arith, small-size (negsuc n) h)) in
     rw k (ap (λ (z : ℤ). bound.Number (record { value = z; writer = w })) (minus-is n))
 
-bound-again : (h : HeldBound) (l : List ℕ) → small-bound h ≡ true → bound-in ((bound-numbers h ++ l) at 0) ((bound-numbers h ++ l) at 1) ((bound-numbers h ++ l) at 2) ≡ h
+bound-again : (h : HeldBound) (l : List ℕ) → small-bound h ≡ true → bound-in ((held-bound-numbers h ++ l) at 0) ((held-bound-numbers h ++ l) at 1) ((held-bound-numbers h ++ l) at 2) ≡ h
 bound-again bound.Nothing l s = refl
 bound-again (bound.Number n) l s = number-again (n .value) (n .writer) l s
 bound-again (bound.Never n) l s = refl
 
 held-of : (c : HeldCost) (b : HeldBound) (l : List ℕ) → small-bound b ≡ true → (x y : ℕ)
-    → held-in (x ∷ y ∷ (cost-numbers c ++ (bound-numbers b ++ l))) ≡ record { cost = c; bound = b }
+    → held-in (x ∷ y ∷ (cost-numbers c ++ (held-bound-numbers b ++ l))) ≡ record { cost = c; bound = b }
 held-of cost.Nothing b l s x y = ap (λ (h : HeldBound). record { cost = cost.Nothing; bound = h }) (bound-again b l s)
 held-of (cost.Number n) b l s x y = ap (λ (h : HeldBound). record { cost = cost.Number n; bound = h }) (bound-again b l s)
 
@@ -55,12 +55,12 @@ module _ (d : Docket) (F : Fits d) (v w : List ℕ) where
   tail : List ℕ
   tail = laid-out (d .problem) ++ after
 
-  parts : kept-numbers d v ≡ head d ++ (cost-numbers (d .held .cost) ++ (bound-numbers (d .held .bound) ++ tail))
+  parts : kept-numbers d v ≡ head d ++ (cost-numbers (d .held .cost) ++ (held-bound-numbers (d .held .bound) ++ tail))
   unfolding kept-numbers state-numbers after tail
   parts =
       append-assoc (eight d) (laid-out (d .problem)) after
-      ∙ append-assoc (five d) (bound-numbers (d .held .bound)) tail
-      ∙ append-assoc (head d) (cost-numbers (d .held .cost)) (bound-numbers (d .held .bound) ++ tail)
+      ∙ append-assoc (five d) (held-bound-numbers (d .held .bound)) tail
+      ∙ append-assoc (head d) (cost-numbers (d .held .cost)) (held-bound-numbers (d .held .bound) ++ tail)
 
   from-eight : drop 8 (kept-numbers d v) ≡ tail
   unfolding kept-numbers state-numbers after tail
@@ -79,7 +79,7 @@ module _ (d : Docket) (F : Fits d) (v w : List ℕ) where
   rows-are = take-at (d .rows) (drop (length (d .rows)) w) 1536 (F .rows-long)
 
   held-is : held-in (kept-numbers d v) ≡ d .held
-  held-is = rw parts (held-of (d .held .cost) (d .held .bound) tail (F .bound-small) mark (cond (d .known) 1 0))
+  held-is = rw parts (held-of (d .held .cost) (d .held .bound) tail (F .bound-small) layout-mark (cond (d .known) 1 0))
 
   pub docket-again : docket-in (kept-numbers d v) (kept-rows d w) ≡ d
   unfolding docket-in

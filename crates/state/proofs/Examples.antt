@@ -10,16 +10,16 @@ use Rattle.model.specs.Instance.{Instance}
 use Rattle.model.specs.Ranges.{costs-in-range, outputs-in-range, times-in-range, in-range, midnight-ordered, ordered}
 use Rattle.model.specs.Held.{pad, held, valid-problem}
 use Rattle.numbers.specs.Numbers.{laid-out, problem-in}
-use Rattle.writer.specs.Written.{figureOf}
+use Rattle.writer.specs.Written.{figure-of}
 use Rattle.docket.specs.declared.Docket.{Docket}
 use Rattle.docket.specs.declared.held.HeldCost.the-variants as cost
 use Rattle.docket.specs.declared.held.HeldBound.the-variants as bound
 use Rattle.docket.specs.Docket.{sound, small-cost, small-bound}
-use Rattle.state.specs.Layout.{mark, state-numbers, bound-numbers, docket-in, cost-in, bound-in}
+use Rattle.state.specs.Layout.{layout-mark, state-numbers, held-bound-numbers, docket-in, cost-in, bound-in}
 use Rattle.state.specs.Kept.{long, holds, outputs-of}
 
 -- D O C K E T, and layout 2
-the-mark : mark ≡ 68 * 2 ^ 48 + 79 * 2 ^ 40 + 67 * 2 ^ 32 + 75 * 2 ^ 24 + 69 * 2 ^ 16 + 84 * 2 ^ 8 + 2
+the-mark : layout-mark ≡ 68 * 2 ^ 48 + 79 * 2 ^ 40 + 67 * 2 ^ 32 + 75 * 2 ^ 24 + 69 * 2 ^ 16 + 84 * 2 ^ 8 + 2
 the-mark = refl
 
 -- a unit that has been on, alone in two periods
@@ -38,24 +38,24 @@ docket = record {
   rows = pad 0 1536 (60 ∷ 70 ∷ []);
 }
 
-its-front : take 12 (state-numbers docket) ≡ mark ∷ 1 ∷ 1 ∷ 1500 ∷ 7 ∷ 2 ∷ 30 ∷ 3 ∷ 2 ∷ 1 ∷ 60 ∷ 70 ∷ []
-unfolding state-numbers laid-out held pad figureOf
+its-front : take 12 (state-numbers docket) ≡ layout-mark ∷ 1 ∷ 1 ∷ 1500 ∷ 7 ∷ 2 ∷ 30 ∷ 3 ∷ 2 ∷ 1 ∷ 60 ∷ 70 ∷ []
+unfolding state-numbers laid-out held pad figure-of
 its-front = refl
 
 -- the numbers of its unit, p0 the last
 its-unit : take 16 (drop 106 (state-numbers docket)) ≡ 100 ∷ 10 ∷ 0 ∷ 20 ∷ 80 ∷ 2 ∷ 2 ∷ 1 ∷ 3 ∷ 30 ∷ 30 ∷ 50 ∷ 90 ∷ 1 ∷ 5 ∷ 60 ∷ []
-unfolding state-numbers laid-out held pad figureOf
+unfolding state-numbers laid-out held pad figure-of
 its-unit = refl
 
 -- a bound of 0 or more, never, and none
-its-bound : bound-numbers (bound.Number (record { value = pos 30; writer = 3 })) ≡ 1 ∷ 30 ∷ 3 ∷ []
-unfolding figureOf
+its-bound : held-bound-numbers (bound.Number (record { value = pos 30; writer = 3 })) ≡ 1 ∷ 30 ∷ 3 ∷ []
+unfolding figure-of
 its-bound = refl
 
-its-never : bound-numbers (bound.Never (record { writer = 9 })) ≡ 3 ∷ 0 ∷ 9 ∷ []
+its-never : held-bound-numbers (bound.Never (record { writer = 9 })) ≡ 3 ∷ 0 ∷ 9 ∷ []
 its-never = refl
 
-no-bound : bound-numbers bound.Nothing ≡ 0 ∷ 0 ∷ 0 ∷ []
+no-bound : held-bound-numbers bound.Nothing ≡ 0 ∷ 0 ∷ 0 ∷ []
 no-bound = refl
 
 -- zeros are no docket; nor is a mark with a problem of no periods behind it
@@ -63,7 +63,7 @@ zeros-none : holds (replicate 618 0) (replicate 1536 0) ≡ false
 unfolding holds
 zeros-none = refl
 
-unsound-none : holds (mark ∷ 1 ∷ replicate 616 0) (replicate 1536 0) ≡ false
+unsound-none : holds (layout-mark ∷ 1 ∷ replicate 616 0) (replicate 1536 0) ≡ false
 unfolding holds docket-in problem-in sound valid-problem
 unsound-none = refl
 
@@ -75,7 +75,7 @@ layout-1-none v w = refl
 -- its numbers are a docket's with an output at midnight of 60, 20 and 80, and none's with 19, 81 and 0
 its-midnight : map (λ p0. holds (set (state-numbers docket) 121 p0) (docket .rows)) (60 ∷ 19 ∷ 20 ∷ 80 ∷ 81 ∷ 0 ∷ [])
     ≡ true ∷ false ∷ true ∷ true ∷ false ∷ false ∷ []
-unfolding holds state-numbers laid-out held pad figureOf docket-in problem-in sound valid-problem in-range costs-in-range outputs-in-range times-in-range ordered midnight-ordered
+unfolding holds state-numbers laid-out held pad figure-of docket-in problem-in sound valid-problem in-range costs-in-range outputs-in-range times-in-range ordered midnight-ordered
 its-midnight = refl
 
 its-outputs : outputs-of docket ≡ 60 ∷ 70 ∷ []

@@ -11,13 +11,13 @@ use Rattle.numbers.proofs.Places.{laid-long}
 use Rattle.writer.specs.Written.{over}
 use Rattle.answer.specs.declared.Answer.{Answer}
 use Rattle.answer.specs.declared.Answer.the-variants as answer
-use Rattle.answer.specs.Answers.{stated}
+use Rattle.answer.specs.StatedAnswers.{stated}
 use Rattle.docket.specs.declared.Docket.{Docket}
 use Rattle.docket.specs.declared.Lodged.{Lodged}
 use Rattle.docket.specs.Docket.{sound}
 use Rattle.docket.specs.Demand3.{Unheld}
-use Rattle.state.specs.Layout.{mark, state-numbers}
-use Rattle.state.specs.Kept.{long, holds, kept-numbers, kept-rows, is-held, lodged-numbers, lodged-rows, Holds}
+use Rattle.state.specs.Layout.{layout-mark, state-numbers}
+use Rattle.state.specs.Kept.{long, holds, kept-numbers, kept-rows, is-held, lodged-numbers, lodged-rows, HoldsDocket}
 use Rattle.state.proofs.Fits.{Fits}
 use Rattle.state.proofs.Room.{clash, long-room, room-long}
 use Rattle.state.proofs.Keeping.{eight, eight-long}
@@ -45,7 +45,7 @@ module _ (v w : List ℕ) (d : Docket) (r : long v w ≡ true) (F : Fits d) wher
   kept-room =
       room-long (kept-numbers d v) (kept-rows d w) (omega (arith, kept-long, long-room v w r .0)) (omega (arith, kept-rows-long, long-room v w r .1))
 
-  kept-mark : kept-numbers d v at 0 ≡ mark
+  kept-mark : kept-numbers d v at 0 ≡ layout-mark
   unfolding kept-numbers state-numbers
   kept-mark = refl
 
@@ -53,7 +53,7 @@ module _ (v w : List ℕ) (d : Docket) (r : long v w ≡ true) (F : Fits d) wher
   unfolding holds
   kept-is e = rw (kept-mark, docket-again d F v w, e) refl
 
-  pub kept-holds : sound d ≡ true → Holds (record { numbers = kept-numbers d v; rows = kept-rows d w }) d
+  pub kept-holds : sound d ≡ true → HoldsDocket (record { numbers = kept-numbers d v; rows = kept-rows d w }) d
   kept-holds e = record { room = kept-room; is = kept-is e; docket-is = docket-again d F v w }
 
 -- ---- a text that is refused or passed leaves the slices, whatever they hold; and only such a text's answer is not held

@@ -1,7 +1,7 @@
 -- A sound docket's schedule has at most 1,536 outputs; and those of a docket that texts lead to are the rows of the schedule that is held.
 use mathlib.Core.Path.{_≡_, refl, ap, _∙_}
 use mathlib.Core.Bool.{Bool, true, false}
-use mathlib.Core.List.{List, []}
+use mathlib.Core.List.{List, [], flatten}
 use mathlib.Core.Option.{none, some}
 use Prim.Native.Nat.{ℕ, _*_, _≤_}
 use native.Mathlib.Nat.{mul-le-mul-right}
@@ -16,7 +16,6 @@ use Rattle.model.specs.Held.{valid-problem}
 use Rattle.model.proofs.Held.{take-pad}
 use Rattle.model.proofs.Valid.{valid-sizes}
 use Rattle.model.proofs.Unbroken.{meets-shaped}
-use Rattle.judge.specs.Rows.{joined}
 use Rattle.judge.proofs.Rows.{joined-long}
 use Rattle.docket.specs.declared.Docket.{Docket}
 use Rattle.docket.specs.declared.held.Held.{Held}
@@ -62,17 +61,17 @@ no-outputs d e = rw e refl
 
 module _ (P : Instance) (accepted : List Costed) (by : CostBy) (d : Docket) (held : d .problem ≡ arrays.held P) (costs : d .held .cost ≡ cost.Number by)
     (h : HoldsSchedule P accepted by (d .rows)) where
-  pub outputs-held : outputs-of d ≡ joined (h .best .rows)
+  pub outputs-held : outputs-of d ≡ flatten (h .best .rows)
   unfolding outputs-of arrays.held
   outputs-held =
       let s = meets-shaped P (h .best .rows) (h .meets) in
-      let long : length (joined (h .best .rows)) ≡ length (P .units) * P .periods = joined-long (P .periods) (h .best .rows) (s .1) ∙ ap (λ (k : ℕ). k * P .periods) (s .0) in
-      rw (costs, held, h .held-rows) (take-pad 0 1536 (joined (h .best .rows)) (length (P .units) * P .periods) long)
+      let long : length (flatten (h .best .rows)) ≡ length (P .units) * P .periods = joined-long (P .periods) (h .best .rows) (s .1) ∙ ap (λ (k : ℕ). k * P .periods) (s .0) in
+      rw (costs, held, h .held-rows) (take-pad 0 1536 (flatten (h .best .rows)) (length (P .units) * P .periods) long)
 
 -- the outputs held after texts: those of the first accepted schedule with the least cost
 module _ (texts : List (List ℕ)) (vs : List Verdict) (are : Are none texts vs) (P : Instance) (known : given vs ≡ some P) (by : CostBy)
     (e : after texts .held .cost ≡ cost.Number by) where
-  pub outputs-after : (s : Costed) × FirstLeast (λ x. x .cost) s (schedules vs) × (outputs-of (after texts) ≡ joined (s .rows))
+  pub outputs-after : (s : Costed) × FirstLeast (λ x. x .cost) s (schedules vs) × (outputs-of (after texts) ≡ flatten (s .rows))
   outputs-after =
       let h = holdings.its-schedule texts vs are P known by e in
       (h .best, h .first, outputs-held P (schedules vs) by (after texts) (holdings.under texts vs are P known .problem-is) e h)

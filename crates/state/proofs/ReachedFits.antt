@@ -1,6 +1,6 @@
 -- Every docket that lodging reaches from a fresh one has arrays of the struct's lengths and a small bound.
 use mathlib.Core.Path.{_≡_, refl, sym, ap, subst, _∙_}
-use mathlib.Core.List.{List, []}
+use mathlib.Core.List.{List, [], flatten}
 use mathlib.Core.Option.{Option, none, some}
 use Prim.Native.Nat.{ℕ, _*_}
 use native.Mathlib.Omega.{arith}
@@ -13,7 +13,6 @@ use Rattle.model.specs.Held.{blank-generator}
 use Rattle.model.proofs.Held.{length-pad}
 use Rattle.model.proofs.Lists.{IsFirst, held-least}
 use Rattle.model.proofs.Unbroken.{meets-shaped}
-use Rattle.judge.specs.Rows.{joined}
 use Rattle.judge.proofs.Rows.{joined-long}
 use Rattle.docket.specs.Docket.{fresh-docket}
 use Rattle.docket.specs.Verdicts.{Costed, Verdict, schedules, known-at-end}
@@ -34,8 +33,8 @@ module _ (P : Instance) (W : WellFormed P) where
   rows-long (some h) l f g =
       let s = all-mem (GoodSchedule P) l g h (first-mem by-cost h l f) in
       let shaped = meets-shaped P (h .rows) (s .meets) in
-      let e : length (joined (h .rows)) ≡ length (P .units) * P .periods = joined-long (P .periods) (h .rows) (shaped .1) ∙ ap (λ (k : ℕ). k * P .periods) (shaped .0) in
-      length-pad 0 1536 (joined (h .rows)) (omega (arith, e, product-few (length (P .units)) (P .periods) (W .units-in .1) (W .periods-in .1)))
+      let e : length (flatten (h .rows)) ≡ length (P .units) * P .periods = joined-long (P .periods) (h .rows) (shaped .1) ∙ ap (λ (k : ℕ). k * P .periods) (shaped .0) in
+      length-pad 0 1536 (flatten (h .rows)) (omega (arith, e, product-few (length (P .units)) (P .periods) (W .units-in .1) (W .periods-in .1)))
 
 fits-of : (o : Option Instance) (past : List Verdict) → Proper o past → Fits (docket-of o past)
 unfolding arrays.held

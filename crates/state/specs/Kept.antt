@@ -1,6 +1,6 @@
 -- Slices that hold a docket, what lodging a text makes of them, and the outputs of the schedule that they hold.
 use mathlib.Core.Path.{_≡_}
-use mathlib.Core.Bool.{Bool, true, false}
+use mathlib.Core.Bool.{Bool, true, false, cond}
 use mathlib.Core.List.{List}
 use Prim.Native.Nat.{ℕ, _*_}
 use lib.Dec.{eqb, ltb, leb}
@@ -14,19 +14,19 @@ use Rattle.docket.specs.declared.Lodged.{Lodged}
 use Rattle.docket.specs.declared.held.HeldCost.{HeldCost}
 use Rattle.docket.specs.declared.held.HeldCost.the-variants as cost
 use Rattle.docket.specs.Docket.{sound}
-use Rattle.docket.specs.Lodging.{pick, lodge-of}
-use Rattle.state.specs.Layout.{mark, state-numbers, docket-in}
+use Rattle.docket.specs.Lodging.{lodge-of}
+use Rattle.state.specs.Layout.{layout-mark, state-numbers, docket-in}
 use Rattle.state.specs.declared.Opened.{Opened}
 
 -- ---- slices that hold a docket
 
 -- they have room for a state
 abbrev pub long : List ℕ → List ℕ → Bool
-long v w = pick (ltb (length v) 618) false (leb 1536 (length w))
+long v w = cond (ltb (length v) 618) false (leb 1536 (length w))
 
 -- and they begin with the mark and are a sound docket's
 unfoldable pub holds : List ℕ → List ℕ → Bool
-holds v w = pick (eqb (v at 0) mark) (sound (docket-in v w)) false
+holds v w = cond (eqb (v at 0) layout-mark) (sound (docket-in v w)) false
 
 abbrev pub opened : List ℕ → List ℕ → Opened
 opened v w = record { is = holds v w; docket = docket-in v w }
@@ -50,10 +50,10 @@ is-held (answer.TreeHeld f) = true
 is-held (answer.TreePassed f) = false
 
 unfoldable pub lodged-numbers : Lodged → List ℕ → List ℕ
-lodged-numbers l v = pick (is-held (l .answer)) (kept-numbers (l .docket) v) v
+lodged-numbers l v = cond (is-held (l .answer)) (kept-numbers (l .docket) v) v
 
 unfoldable pub lodged-rows : Lodged → List ℕ → List ℕ
-lodged-rows l w = pick (is-held (l .answer)) (kept-rows (l .docket) w) w
+lodged-rows l w = cond (is-held (l .answer)) (kept-rows (l .docket) w) w
 
 -- ---- the outputs of the held schedule, unit u's from u times T on; none where none is held
 
@@ -74,8 +74,8 @@ pub record State : Type 0 where
   pub rows : List ℕ
 
 -- a docket kept in two slices
-abbrev pub kept : Docket → List ℕ → List ℕ → State
-kept d v w = record { numbers = kept-numbers d v; rows = kept-rows d w }
+abbrev pub docket-kept : Docket → List ℕ → List ℕ → State
+docket-kept d v w = record { numbers = kept-numbers d v; rows = kept-rows d w }
 
 abbrev pub state-next : State → List ℕ → State
 state-next s text = record {
@@ -84,7 +84,7 @@ state-next s text = record {
 }
 
 -- the slices have room and hold this docket
-pub record Holds (s : State) (d : Docket) : Type 0 where
+pub record HoldsDocket (s : State) (d : Docket) : Type 0 where
   pub room : long (s .numbers) (s .rows) ≡ true
   pub is : holds (s .numbers) (s .rows) ≡ true
   pub docket-is : docket-in (s .numbers) (s .rows) ≡ d

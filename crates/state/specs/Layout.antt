@@ -8,7 +8,7 @@ use lib.IntN.{ℤ, pos, _-ℤ_}
 use lib.ListN.{take, drop}
 use Rattle.model.specs.Instance.{_at_}
 use Rattle.numbers.specs.Numbers.{laid-out, problem-in}
-use Rattle.writer.specs.Written.{figureOf}
+use Rattle.writer.specs.Written.{figure-of}
 use Rattle.writer.specs.declared.Figure.{Figure}
 use Rattle.writer.specs.declared.Figure.the-variants.{Missing, Never, Number, Minus}
 use Rattle.docket.specs.declared.Docket.{Docket}
@@ -17,7 +17,6 @@ use Rattle.docket.specs.declared.held.HeldCost.{HeldCost}
 use Rattle.docket.specs.declared.held.HeldCost.the-variants as cost
 use Rattle.docket.specs.declared.held.HeldBound.{HeldBound}
 use Rattle.docket.specs.declared.held.HeldBound.the-variants as bound
-use Rattle.docket.specs.Lodging.{pick}
 
 abbrev pub numbers-count : ℕ
 numbers-count = 618
@@ -26,8 +25,8 @@ abbrev pub rows-count : ℕ
 rows-count = 1536
 
 -- 'DOCKET' in bytes, and the number of this layout: 2
-abbrev pub mark : ℕ
-mark = 19227448860562434
+abbrev pub layout-mark : ℕ
+layout-mark = 19227448860562434
 
 -- ---- a docket's numbers
 
@@ -37,22 +36,22 @@ cost-numbers cost.Nothing = 0 ∷ 0 ∷ 0 ∷ []
 cost-numbers (cost.Number n) = 1 ∷ n .cost ∷ n .writer ∷ []
 
 -- 0 for none, 1 and the number, 2 and what follows its minus, or 3 for never, with the writer
-abbrev pub value-numbers : Figure → ℕ → List ℕ
-value-numbers Missing w = 0 ∷ 0 ∷ 0 ∷ []
-value-numbers Never w = 3 ∷ 0 ∷ w ∷ []
-value-numbers (Number n) w = 1 ∷ n ∷ w ∷ []
-value-numbers (Minus n) w = 2 ∷ n ∷ w ∷ []
+abbrev pub figure-numbers : Figure → ℕ → List ℕ
+figure-numbers Missing w = 0 ∷ 0 ∷ 0 ∷ []
+figure-numbers Never w = 3 ∷ 0 ∷ w ∷ []
+figure-numbers (Number n) w = 1 ∷ n ∷ w ∷ []
+figure-numbers (Minus n) w = 2 ∷ n ∷ w ∷ []
 
-abbrev pub bound-numbers : HeldBound → List ℕ
-bound-numbers bound.Nothing = 0 ∷ 0 ∷ 0 ∷ []
-bound-numbers (bound.Number n) = value-numbers (figureOf (n .value)) (n .writer)
-bound-numbers (bound.Never n) = 3 ∷ 0 ∷ n .writer ∷ []
+abbrev pub held-bound-numbers : HeldBound → List ℕ
+held-bound-numbers bound.Nothing = 0 ∷ 0 ∷ 0 ∷ []
+held-bound-numbers (bound.Number n) = figure-numbers (figure-of (n .value)) (n .writer)
+held-bound-numbers (bound.Never n) = 3 ∷ 0 ∷ n .writer ∷ []
 
 abbrev pub head : Docket → List ℕ
-head d = mark ∷ cond (d .known) 1 0 ∷ []
+head d = layout-mark ∷ cond (d .known) 1 0 ∷ []
 
 unfoldable pub state-numbers : Docket → List ℕ
-state-numbers d = ((head d ++ cost-numbers (d .held .cost)) ++ bound-numbers (d .held .bound)) ++ laid-out (d .problem)
+state-numbers d = ((head d ++ cost-numbers (d .held .cost)) ++ held-bound-numbers (d .held .bound)) ++ laid-out (d .problem)
 
 -- ---- and the docket of such numbers
 
@@ -62,14 +61,14 @@ size-room = 4611686018427387904
 
 abbrev pub cost-in : ℕ → ℕ → ℕ → HeldCost
 cost-in tag c w =
-    pick (eqb tag 0) cost.Nothing (pick (eqb tag 1) (cost.Number (record { cost = c; writer = w })) (cost.Number (record { cost = size-room; writer = w })))
+    cond (eqb tag 0) cost.Nothing (cond (eqb tag 1) (cost.Number (record { cost = c; writer = w })) (cost.Number (record { cost = size-room; writer = w })))
 
 abbrev pub value-in : ℕ → ℕ → ℤ
-value-in tag n = pick (ltb n size-room) (pick (eqb tag 1) (pos n) (pick (eqb tag 2) (pos 0 -ℤ pos n) (pos size-room))) (pos size-room)
+value-in tag n = cond (ltb n size-room) (cond (eqb tag 1) (pos n) (cond (eqb tag 2) (pos 0 -ℤ pos n) (pos size-room))) (pos size-room)
 
 abbrev pub bound-in : ℕ → ℕ → ℕ → HeldBound
 bound-in tag n w =
-    pick (eqb tag 0) bound.Nothing (pick (eqb tag 3) (bound.Never (record { writer = w })) (bound.Number (record { value = value-in tag n; writer = w })))
+    cond (eqb tag 0) bound.Nothing (cond (eqb tag 3) (bound.Never (record { writer = w })) (bound.Number (record { value = value-in tag n; writer = w })))
 
 abbrev pub held-in : List ℕ → Held
 held-in v = record { cost = cost-in (v at 2) (v at 3) (v at 4); bound = bound-in (v at 5) (v at 6) (v at 7) }

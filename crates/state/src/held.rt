@@ -1,6 +1,6 @@
 // What is held, as six numbers: three for the cost and three for the bound.
 ghost use mathlib.Core.Path.{_≡_};
-ghost use Rattle.state.specs.Layout.{cost-numbers, value-numbers, bound-numbers, cost-in, value-in, bound-in};
+ghost use Rattle.state.specs.Layout.{cost-numbers, figure-numbers, held-bound-numbers, cost-in, value-in, bound-in};
 use docket::held::BoundBy;
 use docket::held::CostBy;
 use docket::held::HeldBound;
@@ -25,7 +25,7 @@ pub fn cost_numbers(cost: HeldCost) -> [u64; 3]
 
 // The three numbers of a held number, by how it is shown.
 fn value_numbers(shown: Figure, writer: u64) -> [u64; 3]
-    ensures { λ r. ⌜ r ≡ value-numbers shown writer ⌝ }
+    ensures { λ r. ⌜ r ≡ figure-numbers shown writer ⌝ }
 {
     match shown {
         Figure::Missing => [0, 0, 0],
@@ -37,7 +37,7 @@ fn value_numbers(shown: Figure, writer: u64) -> [u64; 3]
 
 // The three numbers of a held bound.
 pub fn bound_numbers(bound: HeldBound) -> [u64; 3]
-    ensures { λ r. ⌜ r ≡ bound-numbers bound ⌝ }
+    ensures { λ r. ⌜ r ≡ held-bound-numbers bound ⌝ }
 {
     match bound {
         HeldBound::Nothing => [0, 0, 0],

@@ -8,7 +8,7 @@ use lib.ListN.{length, drop}
 use lib.Seq.{drop-drop}
 use lib.Dec.{eqb}
 use borrow.Author.Tests.{eqb-true, not-true}
-use Rattle.text.specs.Lines.{Line, missing, unended, ended, due, later, longer, cutAt, linesOf, lineAt, oneLine}
+use Rattle.text.specs.Lines.{Line, missing, unended, ended, due, later, longer, cut-at, lines-of, line-at, one-line}
 
 pub and-both : (a b : Bool) → (a && b) ≡ true → (a ≡ true) × (b ≡ true)
 and-both true b e = (refl, e)
@@ -17,13 +17,13 @@ and-both false b e = (e, absurd (let z : _≡_ {A = ℕ} 0 1 = cc in omega arith
 -- ---- from a text to its lines
 
 -- the text of an ended line is its bytes and byte 10
-pub text-ended : (s b : List ℕ) → due (linesOf s) ≡ ended b → s ≡ b ++ (10 ∷ drop (length b + 1) s)
+pub text-ended : (s b : List ℕ) → due (lines-of s) ≡ ended b → s ≡ b ++ (10 ∷ drop (length b + 1) s)
 text-ended [] b e = absurd (let z : _≡_ {A = ℕ} 0 1 = cc in omega arith)
-text-ended (c ∷ s) b e = go (eqb c 10) refl (due (linesOf s)) refl (text-ended s) e
+text-ended (c ∷ s) b e = go (eqb c 10) refl (due (lines-of s)) refl (text-ended s) e
   where
-    go : (p : Bool) → eqb c 10 ≡ p → (d : Line) → due (linesOf s) ≡ d
-        → ((b : List ℕ) → due (linesOf s) ≡ ended b → s ≡ b ++ (10 ∷ drop (length b + 1) s))
-        → due (cutAt p c (linesOf s)) ≡ ended b → c ∷ s ≡ b ++ (10 ∷ drop (length b + 1) (c ∷ s))
+    go : (p : Bool) → eqb c 10 ≡ p → (d : Line) → due (lines-of s) ≡ d
+        → ((b : List ℕ) → due (lines-of s) ≡ ended b → s ≡ b ++ (10 ∷ drop (length b + 1) s))
+        → due (cut-at p c (lines-of s)) ≡ ended b → c ∷ s ≡ b ++ (10 ∷ drop (length b + 1) (c ∷ s))
     go true u d w rec e =
         let q : [] ≡ b = cc in
         rw (← q) (ap (λ (x : ℕ). x ∷ s) (eqb-true c 10 u))
@@ -35,12 +35,12 @@ text-ended (c ∷ s) b e = go (eqb c 10) refl (due (linesOf s)) refl (text-ended
         rw (← q, n) (ap (λ (l : List ℕ). c ∷ l) (rec x w))
 
 -- the lines after an ended line are those of the text after its byte 10
-pub later-lines : (s b : List ℕ) → due (linesOf s) ≡ ended b → linesOf (drop (length b + 1) s) ≡ later (linesOf s)
+pub later-lines : (s b : List ℕ) → due (lines-of s) ≡ ended b → lines-of (drop (length b + 1) s) ≡ later (lines-of s)
 later-lines [] b e = absurd (let z : _≡_ {A = ℕ} 0 1 = cc in omega arith)
-later-lines (c ∷ s) b e = go (eqb c 10) (due (linesOf s)) refl (later-lines s) e
+later-lines (c ∷ s) b e = go (eqb c 10) (due (lines-of s)) refl (later-lines s) e
   where
-    go : (p : Bool) (d : Line) → due (linesOf s) ≡ d → ((b : List ℕ) → due (linesOf s) ≡ ended b → linesOf (drop (length b + 1) s) ≡ later (linesOf s))
-        → due (cutAt p c (linesOf s)) ≡ ended b → linesOf (drop (length b + 1) (c ∷ s)) ≡ later (cutAt p c (linesOf s))
+    go : (p : Bool) (d : Line) → due (lines-of s) ≡ d → ((b : List ℕ) → due (lines-of s) ≡ ended b → lines-of (drop (length b + 1) s) ≡ later (lines-of s))
+        → due (cut-at p c (lines-of s)) ≡ ended b → lines-of (drop (length b + 1) (c ∷ s)) ≡ later (cut-at p c (lines-of s))
     go true d w rec e =
         let q : [] ≡ b = cc in
         rw (← q) refl
@@ -52,18 +52,18 @@ later-lines (c ∷ s) b e = go (eqb c 10) (due (linesOf s)) refl (later-lines s)
         rw (← q, n) (rec x w)
 
 -- the same at a place of the text
-pub next-lines : (s b : List ℕ) (at : ℕ) → lineAt s at ≡ ended b → linesOf (drop (at + length b + 1) s) ≡ later (linesOf (drop at s))
+pub next-lines : (s b : List ℕ) (at : ℕ) → line-at s at ≡ ended b → lines-of (drop (at + length b + 1) s) ≡ later (lines-of (drop at s))
 next-lines s b at e =
     let n : at + length b + 1 ≡ at + (length b + 1) = omega arith in
     rw (n, ← drop-drop (length b + 1) at s) (later-lines (drop at s) b e)
 
 -- no byte of an ended line is byte 10
-pub ended-one : (s b : List ℕ) → due (linesOf s) ≡ ended b → oneLine b ≡ true
+pub ended-one : (s b : List ℕ) → due (lines-of s) ≡ ended b → one-line b ≡ true
 ended-one [] b e = absurd (let z : _≡_ {A = ℕ} 0 1 = cc in omega arith)
-ended-one (c ∷ s) b e = go (eqb c 10) refl (due (linesOf s)) refl (ended-one s) e
+ended-one (c ∷ s) b e = go (eqb c 10) refl (due (lines-of s)) refl (ended-one s) e
   where
-    go : (p : Bool) → eqb c 10 ≡ p → (d : Line) → due (linesOf s) ≡ d → ((b : List ℕ) → due (linesOf s) ≡ ended b → oneLine b ≡ true)
-        → due (cutAt p c (linesOf s)) ≡ ended b → oneLine b ≡ true
+    go : (p : Bool) → eqb c 10 ≡ p → (d : Line) → due (lines-of s) ≡ d → ((b : List ℕ) → due (lines-of s) ≡ ended b → one-line b ≡ true)
+        → due (cut-at p c (lines-of s)) ≡ ended b → one-line b ≡ true
     go true u d w rec e =
         let q : [] ≡ b = cc in
         rw (← q) refl
@@ -74,11 +74,11 @@ ended-one (c ∷ s) b e = go (eqb c 10) refl (due (linesOf s)) refl (ended-one s
         rw (← q) (simp (u, rec x w))
 
 -- no line is left exactly where no byte is
-pub lines-none : (s : List ℕ) → linesOf s ≡ [] → s ≡ []
+pub lines-none : (s : List ℕ) → lines-of s ≡ [] → s ≡ []
 lines-none [] e = refl
 lines-none (c ∷ s) e = go (eqb c 10) e
   where
-    go : (p : Bool) → cutAt p c (linesOf s) ≡ [] → c ∷ s ≡ []
+    go : (p : Bool) → cut-at p c (lines-of s) ≡ [] → c ∷ s ≡ []
     go true e = absurd (let z : _≡_ {A = ℕ} 0 1 = cc in omega arith)
     go false e = absurd (let z : _≡_ {A = ℕ} 0 1 = cc in omega arith)
 
@@ -90,11 +90,11 @@ later-fewer (l ∷ ls) b e = omega arith
 -- ---- from lines to a text
 
 -- bytes without byte 10 and then byte 10 are one line
-pub cut-line : (b t : List ℕ) → oneLine b ≡ true → linesOf (b ++ (10 ∷ t)) ≡ ended b ∷ linesOf t
+pub cut-line : (b t : List ℕ) → one-line b ≡ true → lines-of (b ++ (10 ∷ t)) ≡ ended b ∷ lines-of t
 cut-line [] t e = refl
 cut-line (c ∷ b) t e =
-    let p = and-both (not (eqb c 10)) (oneLine b) e in
-    ap (λ (x : Bool). cutAt x c (linesOf (b ++ (10 ∷ t)))) (not-true (eqb c 10) (p .0))
+    let p = and-both (not (eqb c 10)) (one-line b) e in
+    ap (λ (x : Bool). cut-at x c (lines-of (b ++ (10 ∷ t)))) (not-true (eqb c 10) (p .0))
     ∙ ap (λ (ls : List Line). longer c (due ls) ∷ later ls) (cut-line b t (p .1))
 
 -- ---- bytes in front of a line
@@ -111,11 +111,11 @@ pub prepend-unended : (ks b : List ℕ) → prepend ks (unended b) ≡ unended (
 prepend-unended [] b = refl
 prepend-unended (k ∷ ks) b = ap (longer k) (prepend-unended ks b)
 
-pub line-append : (ks t : List ℕ) → oneLine ks ≡ true → due (linesOf (ks ++ t)) ≡ prepend ks (due (linesOf t))
+pub line-append : (ks t : List ℕ) → one-line ks ≡ true → due (lines-of (ks ++ t)) ≡ prepend ks (due (lines-of t))
 line-append [] t e = refl
 line-append (k ∷ ks) t e =
-    let p = and-both (not (eqb k 10)) (oneLine ks) e in
-    ap (λ (x : Bool). due (cutAt x k (linesOf (ks ++ t)))) (not-true (eqb k 10) (p .0))
+    let p = and-both (not (eqb k 10)) (one-line ks) e in
+    ap (λ (x : Bool). due (cut-at x k (lines-of (ks ++ t)))) (not-true (eqb k 10) (p .0))
     ∙ ap (longer k) (line-append ks t (p .1))
 
 pub prepend-missing : (k : ℕ) (ks : List ℕ) → prepend (k ∷ ks) missing ≡ unended (k ∷ ks)

@@ -3,14 +3,14 @@ use Prim.Native.Nat.{ℕ, suc, _+_}
 use native.Mathlib.Numerals.{add-one}
 use native.Mathlib.Omega.{arith}
 use mathlib.Core.Path.{_≡_, refl, sym, ap, _∙_}
-use mathlib.Core.Bool.{Bool, true, false}
+use mathlib.Core.Bool.{Bool, true, false, cond}
 use mathlib.Core.List.{List, [], _∷_}
 use mathlib.Core.Option.{Option}
 use lib.ListN.{length, drop}
 use lib.Dec.{eqb}
-use Rattle.text.specs.Lines.{Line, missing, unended, ended, due, later, longer, cutAt, linesOf, isLine}
+use Rattle.text.specs.Lines.{Line, missing, unended, ended, due, later, longer, cut-at, lines-of, is-line}
 use Rattle.text.specs.Course.{Found, refused, refused-at, judged-from}
-use Rattle.text.specs.Ends.{pickEnd, afterEnd, endOf, endedBy, EndDue}
+use Rattle.text.specs.Ends.{after-end, end-of, ended-by, EndDue}
 use Rattle.text.specs.declared.End.the-variants.{Missing}
 use Rattle.text.proofs.Cuts.{later-lines}
 use Rattle.text.proofs.Words.{word-is}
@@ -18,7 +18,7 @@ use Rattle.text.proofs.Words.{word-is}
 module _ {S R : Type 0} (judge : S → Line → Found S) (end : S → Option R) where
   module _ (w : List ℕ) (s : S) (v : R) (d : EndDue judge end w s v) (l : ℕ) where
     -- past the end line
-    judged-after : (t : List ℕ) → judged-from judge end (suc l) (d .then) (linesOf t) ≡ endedBy l v (afterEnd (linesOf t))
+    judged-after : (t : List ℕ) → judged-from judge end (suc l) (d .then) (lines-of t) ≡ ended-by l v (after-end (lines-of t))
     unfolding judged-from
     judged-after [] = rw (d .may-end) refl
     judged-after (b ∷ t) = go (eqb b 10)
@@ -28,18 +28,18 @@ module _ {S R : Type 0} (judge : S → Line → Found S) (end : S → Option R) 
         first (unended y) = d .unended-after (b ∷ y)
         first (ended y) = d .ended-after (b ∷ y)
 
-        go : (p : Bool) → judged-from judge end (suc l) (d .then) (cutAt p b (linesOf t)) ≡ endedBy l v (afterEnd (cutAt p b (linesOf t)))
+        go : (p : Bool) → judged-from judge end (suc l) (d .then) (cut-at p b (lines-of t)) ≡ ended-by l v (after-end (cut-at p b (lines-of t)))
         go true = rw (d .ended-after []) (ap (refused-at 12) (sym (add-one l)))
-        go false = rw (first (due (linesOf t))) (ap (refused-at 12) (sym (add-one l)))
+        go false = rw (first (due (lines-of t))) (ap (refused-at 12) (sym (add-one l)))
 
-    pub end-judged : (t : List ℕ) → judged-from judge end l s (linesOf t) ≡ endedBy l v (endOf w (linesOf t))
-    unfolding judged-from endOf
-    end-judged t = go (linesOf t) refl (isLine w (due (linesOf t))) refl
+    pub end-judged : (t : List ℕ) → judged-from judge end l s (lines-of t) ≡ ended-by l v (end-of w (lines-of t))
+    unfolding judged-from end-of
+    end-judged t = go (lines-of t) refl (is-line w (due (lines-of t))) refl
       where
-        go : (ls : List Line) → linesOf t ≡ ls → (p : Bool) → isLine w (due ls) ≡ p → judged-from judge end l s ls ≡ endedBy l v (pickEnd p (afterEnd (later ls)) Missing)
+        go : (ls : List Line) → lines-of t ≡ ls → (p : Bool) → is-line w (due ls) ≡ p → judged-from judge end l s ls ≡ ended-by l v (cond p (after-end (later ls)) Missing)
         go [] q true e = absurd (let z : _≡_ {A = ℕ} 0 1 = cc in omega arith)
         go [] q false e = rw (d .not-there) refl
         go (x ∷ ls) q true e =
-            let k : linesOf (drop (length w + 1) t) ≡ ls = later-lines t w (ap due q ∙ word-is w x e) ∙ ap later q in
+            let k : lines-of (drop (length w + 1) t) ≡ ls = later-lines t w (ap due q ∙ word-is w x e) ∙ ap later q in
             rw (d .right-word x e, ← k) (judged-after (drop (length w + 1) t))
         go (x ∷ ls) q false e = rw (d .wrong-word x e) refl

@@ -12,16 +12,16 @@ use borrow.Author.Tests.{eq-eqb, eqb-true}
 use Rattle.text.specs.Lines.{begins}
 use Rattle.text.proofs.Fields.{byte-inside, byte-at}
 use Rattle.text.proofs.Cuts.{and-both}
-use Rattle.text.specs.Forms.{byteIs}
+use Rattle.text.specs.Forms.{byte-is}
 
 -- ---- a line's key
 
-begins-off : (k : ℕ) (ks t : List ℕ) → byteIs t k ≡ false → begins (k ∷ ks) t ≡ false
+begins-off : (k : ℕ) (ks t : List ℕ) → byte-is t k ≡ false → begins (k ∷ ks) t ≡ false
 begins-off k ks [] e = refl
 begins-off k ks (b ∷ t) e = simp e
 
 module _ (s key : List ℕ) (i j : ℕ) where
-  pub starts-on : j < length key → byteIs (drop i s) (getD key j 0) ≡ true → begins (drop j key) (drop i s) ≡ begins (drop (j + 1) key) (drop (i + 1) s)
+  pub starts-on : j < length key → byte-is (drop i s) (getD key j 0) ≡ true → begins (drop j key) (drop i s) ≡ begins (drop (j + 1) key) (drop (i + 1) s)
   starts-on h e =
       let l = byte-inside s i (getD key j 0) e in
       let d : eqb (getD s i 0) (getD key j 0) ≡ true = byte-at s i (getD key j 0) l ∙ e in
@@ -29,7 +29,7 @@ module _ (s key : List ℕ) (i j : ℕ) where
       ∙ ap (λ (t : List ℕ). begins (getD key j 0 ∷ drop (suc j) key) t) (drop-cons s i 0 l)
       ∙ simp (d, add-one)
 
-  pub starts-off : j < length key → byteIs (drop i s) (getD key j 0) ≡ false → begins (drop j key) (drop i s) ≡ false
+  pub starts-off : j < length key → byte-is (drop i s) (getD key j 0) ≡ false → begins (drop j key) (drop i s) ≡ false
   starts-off h e = ap (λ (k : List ℕ). begins k (drop i s)) (drop-cons key j 0 h) ∙ begins-off (getD key j 0) (drop (suc j) key) (drop i s) e
 
   pub starts-end : length key ≤ j → begins (drop j key) (drop i s) ≡ true

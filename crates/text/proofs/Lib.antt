@@ -1,5 +1,5 @@
 pub mod Fields
-pub mod Reading
+pub mod ValueTurns
 pub mod Cuts
 pub mod Keys
 pub mod Words
@@ -21,7 +21,7 @@ pub mod Fills
 pub mod Examples
 pub mod Courses
 pub mod WhichLine
-pub mod Steps
+pub mod LineByLine
 pub mod Texts
 pub mod Ends
 pub mod WellFormed

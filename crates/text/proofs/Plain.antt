@@ -11,7 +11,7 @@ use lib.Seq.{take-at}
 use lib.Dec.{leb}
 use borrow.Author.Tests.{leb-true, le-leb}
 use Rattle.text.specs.Lines.{Line, ended}
-use Rattle.text.specs.Forms.{plain, withinAll, good, anyMinus, valuesOf, numbers-of, padded, form-tests}
+use Rattle.text.specs.Forms.{plain, all-within, good-line, any-minus, values-of, numbers-of, pad-48, form-tests}
 use Rattle.text.specs.Rendering.{rendered, plain-line}
 use Rattle.text.specs.Tests.{Test, None}
 use Rattle.text.proofs.Cuts.{and-both}
@@ -19,40 +19,40 @@ use Rattle.text.proofs.Accepted.{Fits, rendered-numbers, rendered-good,
 use Rattle.text.proofs.Verdicts.{form-passes}
 
 -- each number is from lo to hi
-abbrev pub Between : ℕ → ℕ → List ℕ → Type 0
-Between lo hi vs = (i : ℕ) → i < length vs → (lo ≤ getD vs i 0) × (getD vs i 0 ≤ hi)
+abbrev pub AllBetween : ℕ → ℕ → List ℕ → Type 0
+AllBetween lo hi vs = (i : ℕ) → i < length vs → (lo ≤ getD vs i 0) × (getD vs i 0 ≤ hi)
 
-between-within : (lo hi : ℕ) (vs : List ℕ) → Between lo hi vs → withinAll vs (replicate (length vs) lo) (replicate (length vs) hi) ≡ true
+between-within : (lo hi : ℕ) (vs : List ℕ) → AllBetween lo hi vs → all-within vs (replicate (length vs) lo) (replicate (length vs) hi) ≡ true
 between-within lo hi [] h = refl
 between-within lo hi (v ∷ vs) h =
     let p = h 0 (omega arith) in
     simp (le-leb lo v (p .0), le-leb v hi (p .1), between-within lo hi vs (λ i k. h (suc i) (omega arith)))
 
-within-between : (lo hi : ℕ) (vs : List ℕ) → withinAll vs (replicate (length vs) lo) (replicate (length vs) hi) ≡ true → Between lo hi vs
+within-between : (lo hi : ℕ) (vs : List ℕ) → all-within vs (replicate (length vs) lo) (replicate (length vs) hi) ≡ true → AllBetween lo hi vs
 within-between lo hi [] e i h = absurd (omega arith)
 within-between lo hi (v ∷ vs) e zero h =
-    let p = and-both (leb lo v) (leb v hi && withinAll vs (replicate (length vs) lo) (replicate (length vs) hi)) e in
-    let q = and-both (leb v hi) (withinAll vs (replicate (length vs) lo) (replicate (length vs) hi)) (p .1) in
+    let p = and-both (leb lo v) (leb v hi && all-within vs (replicate (length vs) lo) (replicate (length vs) hi)) e in
+    let q = and-both (leb v hi) (all-within vs (replicate (length vs) lo) (replicate (length vs) hi)) (p .1) in
     (leb-true lo v (p .0), leb-true v hi (q .0))
 within-between lo hi (v ∷ vs) e (suc i) h =
-    let p = and-both (leb lo v) (leb v hi && withinAll vs (replicate (length vs) lo) (replicate (length vs) hi)) e in
-    let q = and-both (leb v hi) (withinAll vs (replicate (length vs) lo) (replicate (length vs) hi)) (p .1) in
+    let p = and-both (leb lo v) (leb v hi && all-within vs (replicate (length vs) lo) (replicate (length vs) hi)) e in
+    let q = and-both (leb v hi) (all-within vs (replicate (length vs) lo) (replicate (length vs) hi)) (p .1) in
     within-between lo hi vs (q .1) i (omega arith)
 
 -- ---- good exactly where the values fit
 
 module _ (key : List ℕ) (n lo hi : ℕ) where
-  pub plain-fits : (vs : List ℕ) → 0 < n → length vs ≡ n → Between lo hi vs → Fits (plain key n lo hi) false vs
+  pub plain-fits : (vs : List ℕ) → 0 < n → length vs ≡ n → AllBetween lo hi vs → Fits (plain key n lo hi) false vs
   plain-fits vs h e r = record {
     some = omega arith;
     count = e ∙ sym (length-replicate n lo);
-    range = ap (λ (k : ℕ). withinAll vs (replicate k lo) (replicate k hi)) (sym e) ∙ between-within lo hi vs r;
+    range = ap (λ (k : ℕ). all-within vs (replicate k lo) (replicate k hi)) (sym e) ∙ between-within lo hi vs r;
     sign = λ z. absurd (let y : _≡_ {A = ℕ} 0 1 = cc in omega arith);
   }
 
   -- the rendering of n values in range is good, and these are its numbers
-  module _ (vs : List ℕ) (h : 0 < n) (e : length vs ≡ n) (r : Between lo hi vs) where
-    pub plain-good : good (plain key n lo hi) (ended (plain-line key vs)) ≡ true
+  module _ (vs : List ℕ) (h : 0 < n) (e : length vs ≡ n) (r : AllBetween lo hi vs) where
+    pub plain-good : good-line (plain key n lo hi) (ended (plain-line key vs)) ≡ true
     plain-good = rendered-good (plain key n lo hi) false vs (plain-fits vs h e r)
 
     pub plain-numbers : numbers-of (plain key n lo hi) (ended (plain-line key vs)) ≡ vs
@@ -61,24 +61,24 @@ module _ (key : List ℕ) (n lo hi : ℕ) where
   -- a good line is the rendering of its numbers, n of them in range
   pub record IsPlain (l : Line) : Type 0 where
     pub line : l ≡ ended (plain-line key (numbers-of (plain key n lo hi) l))
-    pub unsigned : anyMinus (valuesOf (plain key n lo hi) l) ≡ false
+    pub unsigned : any-minus (values-of (plain key n lo hi) l) ≡ false
     pub count : length (numbers-of (plain key n lo hi) l) ≡ n
-    pub range : Between lo hi (numbers-of (plain key n lo hi) l)
+    pub range : AllBetween lo hi (numbers-of (plain key n lo hi) l)
 
-  pub plain-was : (l : Line) → good (plain key n lo hi) l ≡ true → IsPlain l
+  pub plain-was : (l : Line) → good-line (plain key n lo hi) l ≡ true → IsPlain l
   plain-was l g =
       let a = good-rendered (plain key n lo hi) l g in
       let vs = numbers-of (plain key n lo hi) l in
-      let u = no-sign (anyMinus (valuesOf (plain key n lo hi) l)) refl (a .fits) in
+      let u = no-sign (any-minus (values-of (plain key n lo hi) l)) refl (a .fits) in
       let c : length vs ≡ n = a .fits .count ∙ length-replicate n lo in
       record {
         line = a .line ∙ ap (λ (t : Bool). ended (rendered key 0 t vs)) u;
         unsigned = u;
         count = c;
-        range = within-between lo hi vs (ap (λ (k : ℕ). withinAll vs (replicate k lo) (replicate k hi)) c ∙ a .fits .range);
+        range = within-between lo hi vs (ap (λ (k : ℕ). all-within vs (replicate k lo) (replicate k hi)) c ∙ a .fits .range);
       }
     where
-      no-sign : (t : Bool) → anyMinus (valuesOf (plain key n lo hi) l) ≡ t → Fits (plain key n lo hi) t (numbers-of (plain key n lo hi) l) → anyMinus (valuesOf (plain key n lo hi) l) ≡ false
+      no-sign : (t : Bool) → any-minus (values-of (plain key n lo hi) l) ≡ t → Fits (plain key n lo hi) t (numbers-of (plain key n lo hi) l) → any-minus (values-of (plain key n lo hi) l) ≡ false
       no-sign false e w = e
       no-sign true e w = let z = w .sign refl in absurd (omega arith)
 
@@ -92,17 +92,17 @@ one-value [] e = absurd (omega arith)
 one-value (v ∷ []) e = refl
 one-value (v ∷ w ∷ vs) e = absurd (omega arith)
 
-pub one-between : (lo hi v : ℕ) → lo ≤ v → v ≤ hi → Between lo hi (v ∷ [])
+pub one-between : (lo hi v : ℕ) → lo ≤ v → v ≤ hi → AllBetween lo hi (v ∷ [])
 one-between lo hi v h k i e = let z : i ≡ 0 = omega arith in rw z (h, k)
 
 -- ---- the row of 48 numbers
 
 -- its first numbers are the values
-pub padded-take : (vs : List ℕ) (n : ℕ) → length vs ≡ n → take n (padded vs) ≡ vs
-padded-take vs n e = take-at vs (replicate (48 - length vs) 0) n e
+pub pad-48-take : (vs : List ℕ) (n : ℕ) → length vs ≡ n → take n (pad-48 vs) ≡ vs
+pad-48-take vs n e = take-at vs (replicate (48 - length vs) 0) n e
 
-pub padded-at : (vs : List ℕ) (i : ℕ) → i < length vs → getD (padded vs) i 0 ≡ getD vs i 0
-padded-at vs i h = List·getD-append vs (replicate (48 - length vs) 0) 0 i h
+pub pad-48-at : (vs : List ℕ) (i : ℕ) → i < length vs → getD (pad-48 vs) i 0 ≡ getD vs i 0
+pad-48-at vs i h = List·getD-append vs (replicate (48 - length vs) 0) 0 i h
 
 pub drop-replicate : {A : Type 0} (z : A) (n i : ℕ) → drop i (replicate n z) ≡ replicate (n - i) z
 drop-replicate z n zero = rw sub-zero
@@ -110,5 +110,5 @@ drop-replicate z zero (suc i) = rw zero-sub
 drop-replicate z (suc n) (suc i) = rw suc-sub-suc (drop-replicate z n i)
 
 -- zeros stand after them
-pub padded-is : (vs : List ℕ) (n : ℕ) → length vs ≡ n → vs ++ drop n (replicate 48 0) ≡ padded vs
-padded-is vs n e = ap (λ (l : List ℕ). vs ++ l) (drop-replicate 0 48 n ∙ ap (λ (k : ℕ). replicate (48 - k) 0) (sym e))
+pub pad-48-is : (vs : List ℕ) (n : ℕ) → length vs ≡ n → vs ++ drop n (replicate 48 0) ≡ pad-48 vs
+pad-48-is vs n e = ap (λ (l : List ℕ). vs ++ l) (drop-replicate 0 48 n ∙ ap (λ (k : ℕ). replicate (48 - k) 0) (sym e))

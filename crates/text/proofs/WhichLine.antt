@@ -11,22 +11,22 @@ use mathlib.Core.Option.{Option, none, some}
 use lib.ListN.{length}
 use Rattle.text.specs.Lines.{Line, ended, due}
 use Rattle.text.specs.Forms.{Form, form-tests, word-tests, nothing-tests}
-use Rattle.text.specs.Tests.{Test, _if_, First, this, after, None, Passed, none-yet, one-more, tests-before, RefusedAt}
+use Rattle.text.specs.Tests.{Test, _if_, FirstTrue, this, after, None, Passed, none-yet, one-more, tests-before, RefusedAt}
 use Rattle.text.specs.LineRefused.{Unfit, Beginning, Refuses, at-numbers, at-last, behind-last, LineRefused}
 use Rattle.text.proofs.Unfit.{Fits, numbers-due, word-due, nothing-due}
 
-none-first : (n : ℕ) (ts : List Test) → None ts → First n ts → ⊥
+none-first : (n : ℕ) (ts : List Test) → None ts → FirstTrue n ts → ⊥
 none-first n (m if b ∷ ts) h (this e) = let k = h .0 in let z : _≡_ {A = ℕ} 0 1 = cc in omega arith
 none-first n (m if b ∷ ts) h (after e f) = none-first n ts (h .1) f
 
-module _ {S R : Type 0} (tests : S → Line → List Test) (next : S → Line → S) (end : S → Option R) where
+module _ {S R : Type 0} (tests : S → Line → List Test) (next-due : S → Line → S) (end : S → Option R) where
   -- what is due after lines that pass is one thing
-  pub passed-once : {s t t′ : S} (ls : List Line) → Passed tests next s ls t → Passed tests next s ls t′ → t ≡ t′
+  pub passed-once : {s t t′ : S} (ls : List Line) → Passed tests next-due s ls t → Passed tests next-due s ls t′ → t ≡ t′
   passed-once [] none-yet none-yet = refl
   passed-once {s} {t} {t′} (x ∷ ls) (one-more {s′ = u} n e p) (one-more {s′ = u′} n′ e′ p′) =
-      passed-once ls (subst (λ (v : S). Passed tests next v ls t) (sym e ∙ e′) p) p′
+      passed-once ls (subst (λ (v : S). Passed tests next-due v ls t) (sym e ∙ e′) p) p′
 
-  pub passed-parts : {s t : S} (a b : List Line) → Passed tests next s (a ++ b) t → (u : S) × Passed tests next s a u × Passed tests next u b t
+  pub passed-parts : {s t : S} (a b : List Line) → Passed tests next-due s (a ++ b) t → (u : S) × Passed tests next-due s a u × Passed tests next-due u b t
   passed-parts {s} [] b p = (s, none-yet, p)
   passed-parts (x ∷ a) b (one-more n e p) = let r = passed-parts a b p in (r .0, one-more n e (r .1), r .2)
 
@@ -34,13 +34,13 @@ module _ {S R : Type 0} (tests : S → Line → List Test) (next : S → Line �
     -- the way to judge follows the texts: s is due where line k of v is (`Stands`), lines that begin a text pass and end there, lines that pass begin one, and
     -- the numbers there are the same
     pub record Follows (start : S) (Stands : Value → ℕ → S → Type 0) : Type 0 where
-      pub passes : (v : Value) (ls : List Line) → Beginning lines InLimits ls v → (s : S) × Stands v (length ls) s × Passed tests next start ls s
-      pub begins : (s : S) (ls : List Line) → Passed tests next start ls s → (v : Value) × Beginning lines InLimits ls v
+      pub passes : (v : Value) (ls : List Line) → Beginning lines InLimits ls v → (s : S) × Stands v (length ls) s × Passed tests next-due start ls s
+      pub begins : (s : S) (ls : List Line) → Passed tests next-due start ls s → (v : Value) × Beginning lines InLimits ls v
       pub refuses : (v : Value) (k : ℕ) (s : S) → Stands v k s → (left : List Line) (n : ℕ)
-          → First n (tests-before tests next end s left) ↔ Refuses lines last InLimits Breaks v k left n
+          → FirstTrue n (tests-before tests next-due end s left) ↔ Refuses lines last InLimits Breaks v k left n
 
     module _ {start : S} {Stands : Value → ℕ → S → Type 0} (F : Follows start Stands) (n m : ℕ) (ls : List Line) where
-      by-lines : RefusedAt tests next end n m 2 start ls → LineRefused lines last InLimits Breaks n m ls
+      by-lines : RefusedAt tests next-due end n m 2 start ls → LineRefused lines last InLimits Breaks n m ls
       by-lines r =
           let b = F .begins (r .stands) (r .before) (r .passed) in
           let p = F .passes (b .0) (r .before) (b .1) in
@@ -52,10 +52,10 @@ module _ {S R : Type 0} (tests : S → Line → List Test) (next : S → Line �
             parts = r .parts;
             begins = b .1;
             place = r .place;
-            refuses = F .refuses (b .0) (length (r .before)) (p .0) (p .1) (r .rest) n .0 (subst (λ (s : S). First n (tests-before tests next end s (r .rest))) e (r .first));
+            refuses = F .refuses (b .0) (length (r .before)) (p .0) (p .1) (r .rest) n .0 (subst (λ (s : S). FirstTrue n (tests-before tests next-due end s (r .rest))) e (r .first));
           }
 
-      by-tests : LineRefused lines last InLimits Breaks n m ls → RefusedAt tests next end n m 2 start ls
+      by-tests : LineRefused lines last InLimits Breaks n m ls → RefusedAt tests next-due end n m 2 start ls
       by-tests r =
           let p = F .passes (r .value) (r .before) (r .begins) in
           record {
@@ -68,7 +68,7 @@ module _ {S R : Type 0} (tests : S → Line → List Test) (next : S → Line �
             first = F .refuses (r .value) (length (r .before)) (p .0) (p .1) (r .left) n .1 (r .refuses);
           }
 
-      pub line-refused-is : RefusedAt tests next end n m 2 start ls ↔ LineRefused lines last InLimits Breaks n m ls
+      pub line-refused-is : RefusedAt tests next-due end n m 2 start ls ↔ LineRefused lines last InLimits Breaks n m ls
       line-refused-is = (by-lines, by-tests)
 
       -- with the refused line the lines begin no text
@@ -80,21 +80,21 @@ module _ {S R : Type 0} (tests : S → Line → List Test) (next : S → Line �
           let p = F .passes v (r .before ++ (x ∷ [])) b in
           let q = passed-parts (r .before) (x ∷ []) (p .2) in
           let same = passed-once (r .before) (q .1) (t .passed) in
-          refuted (subst (λ (s : S). Passed tests next s (x ∷ []) (p .0)) same (q .2))
-          (subst (λ (l : List Line). First n (tests-before tests next end (t .stands) l)) e (t .first))
+          refuted (subst (λ (s : S). Passed tests next-due s (x ∷ []) (p .0)) same (q .2))
+          (subst (λ (l : List Line). FirstTrue n (tests-before tests next-due end (t .stands) l)) e (t .first))
         where
-          refuted : {s u : S} → Passed tests next s (x ∷ []) u → First n (tests s x) → ⊥
+          refuted : {s u : S} → Passed tests next-due s (x ∷ []) u → FirstTrue n (tests s x) → ⊥
           refuted {s} (one-more h k p) f = none-first n (tests s x) h f
 
     -- ---- the number where line k of v is due, by what is due there: a line of numbers, which may have other tests; the last line; nothing
 
     module _ (v : Value) (k : ℕ) (s : S) (left : List Line) (n : ℕ) where
       pub numbers-refuse : (f : Form) (more : Line → List Test) → end s ≡ none → ((l : Line) → tests s l ≡ form-tests f l (more l)) → suc k < length (lines v)
-          → ((l : Line) → Breaks v k l n ↔ (Unfit f l n ⊎ (((neg : Bool) × (vs : List ℕ) × Fits f l neg vs) × First n (more l))))
-          → First n (tests-before tests next end s left) ↔ Refuses lines last InLimits Breaks v k left n
+          → ((l : Line) → Breaks v k l n ↔ (Unfit f l n ⊎ (((neg : Bool) × (vs : List ℕ) × Fits f l neg vs) × FirstTrue n (more l))))
+          → FirstTrue n (tests-before tests next-due end s left) ↔ Refuses lines last InLimits Breaks v k left n
       numbers-refuse f more e same inside b = (
-        λ t. at-numbers (b (due left) .1 (numbers-due tests next end s f more e same left n .0 t)),
-        λ r. numbers-due tests next end s f more e same left n .1 (b (due left) .0 (back n r)),
+        λ t. at-numbers (b (due left) .1 (numbers-due tests next-due end s f more e same left n .0 t)),
+        λ r. numbers-due tests next-due end s f more e same left n .1 (b (due left) .0 (back n r)),
       )
         where
           back : (n : ℕ) → Refuses lines last InLimits Breaks v k left n → Breaks v k (due left) n
@@ -103,12 +103,12 @@ module _ {S R : Type 0} (tests : S → Line → List Test) (next : S → Line �
           back n (behind-last l never) = absurd (omega (arith, inside, l))
 
       pub last-refuses : end s ≡ none → ((l : Line) → tests s l ≡ word-tests last l) → suc k ≡ length (lines v) → ((l : Line) → Breaks v k l n → ⊥)
-          → First n (tests-before tests next end s left) ↔ Refuses lines last InLimits Breaks v k left n
-      last-refuses e same l no-numbers = (forth, λ r. word-due tests next end s last e same left n .1 (back n no-numbers r))
+          → FirstTrue n (tests-before tests next-due end s left) ↔ Refuses lines last InLimits Breaks v k left n
+      last-refuses e same l no-numbers = (forth, λ r. word-due tests next-due end s last e same left n .1 (back n no-numbers r))
         where
-          forth : First n (tests-before tests next end s left) → Refuses lines last InLimits Breaks v k left n
+          forth : FirstTrue n (tests-before tests next-due end s left) → Refuses lines last InLimits Breaks v k left n
           forth t =
-              let w = word-due tests next end s last e same left n .0 t in
+              let w = word-due tests next-due end s last e same left n .0 t in
               subst (Refuses lines last InLimits Breaks v k left) (sym (w .0)) (at-last l (w .1))
 
           back : (n : ℕ) → ((l : Line) → Breaks v k l n → ⊥) → Refuses lines last InLimits Breaks v k left n → (n ≡ 12) × (due left ≡ ended last → ⊥)
@@ -117,12 +117,12 @@ module _ {S R : Type 0} (tests : S → Line → List Test) (next : S → Line �
           back n none-there (behind-last q some-left) = absurd (omega (arith, l, q))
 
       pub end-refuses : (r : R) → end s ≡ some r → ((l : Line) → tests s l ≡ nothing-tests) → k ≡ length (lines v) → ((l : Line) → Breaks v k l n → ⊥)
-          → First n (tests-before tests next end s left) ↔ Refuses lines last InLimits Breaks v k left n
-      end-refuses r e same l no-numbers = (forth, λ h. nothing-due tests next end s r e same left n .1 (back n no-numbers h))
+          → FirstTrue n (tests-before tests next-due end s left) ↔ Refuses lines last InLimits Breaks v k left n
+      end-refuses r e same l no-numbers = (forth, λ h. nothing-due tests next-due end s r e same left n .1 (back n no-numbers h))
         where
-          forth : First n (tests-before tests next end s left) → Refuses lines last InLimits Breaks v k left n
+          forth : FirstTrue n (tests-before tests next-due end s left) → Refuses lines last InLimits Breaks v k left n
           forth t =
-              let w = nothing-due tests next end s r e same left n .0 t in
+              let w = nothing-due tests next-due end s r e same left n .0 t in
               subst (Refuses lines last InLimits Breaks v k left) (sym (w .0)) (behind-last l (w .1))
 
           back : (n : ℕ) → ((l : Line) → Breaks v k l n → ⊥) → Refuses lines last InLimits Breaks v k left n → (n ≡ 12) × (left ≡ [] → ⊥)

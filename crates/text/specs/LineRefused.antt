@@ -27,7 +27,7 @@ InRanges (v ∷ vs) (l ∷ ls) (h ∷ hs) = (l ≤ v) × ((v ≤ h) × InRanges 
 -- the number by which the line does not fit the form
 pub data Unfit (f : Form) (l : Line) : ℕ → Type 0 where
   -- 12: it shows no values at all after the key, of whatever count and size
-  no-values : ((neg : Bool) (vs : List ℕ) → Renders f l neg vs → ⊥) → Unfit f l 12
+  shows-none : ((neg : Bool) (vs : List ℕ) → Renders f l neg vs → ⊥) → Unfit f l 12
   -- 14: their count is not the one due
   miscounted : (neg : Bool) (vs : List ℕ) → Renders f l neg vs → (length vs ≡ length (f .lows) → ⊥) → Unfit f l 14
   -- 13: it is, and not every value is in its range

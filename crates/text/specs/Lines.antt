@@ -1,6 +1,6 @@
 -- A text cut into its lines.
 use Prim.Native.Nat.{ℕ}
-use mathlib.Core.Bool.{Bool, true, false, not, _&&_}
+use mathlib.Core.Bool.{Bool, true, false, not, _&&_, cond}
 use mathlib.Core.List.{List, [], _∷_}
 use lib.ListN.{drop}
 use lib.Dec.{eqb}
@@ -15,10 +15,10 @@ pub data Line : Type 0 where
   unended : List ℕ → Line
   ended : List ℕ → Line
 
-abbrev pub bytesOf : Line → List ℕ
-bytesOf missing = []
-bytesOf (unended b) = b
-bytesOf (ended b) = b
+abbrev pub bytes-of : Line → List ℕ
+bytes-of missing = []
+bytes-of (unended b) = b
+bytes-of (ended b) = b
 
 -- the first of the lines that are left, and those after it
 abbrev pub due : List Line → Line
@@ -35,25 +35,25 @@ longer b missing = unended (b ∷ [])
 longer b (unended l) = unended (b ∷ l)
 longer b (ended l) = ended (b ∷ l)
 
-abbrev pub cutAt : Bool → ℕ → List Line → List Line
-cutAt true b ls = ended [] ∷ ls
-cutAt false b ls = longer b (due ls) ∷ later ls
+abbrev pub cut-at : Bool → ℕ → List Line → List Line
+cut-at true b ls = ended [] ∷ ls
+cut-at false b ls = longer b (due ls) ∷ later ls
 
 -- the lines of a text
-abbrev pub linesOf : List ℕ → List Line
-linesOf [] = []
-linesOf (b ∷ s) = cutAt (eqb b 10) b (linesOf s)
+abbrev pub lines-of : List ℕ → List Line
+lines-of [] = []
+lines-of (b ∷ s) = cut-at (eqb b 10) b (lines-of s)
 
 -- the line that starts at a place of a text
-abbrev pub lineAt : List ℕ → ℕ → Line
-lineAt s at = due (linesOf (drop at s))
+abbrev pub line-at : List ℕ → ℕ → Line
+line-at s at = due (lines-of (drop at s))
 
 -- ---- keys and words, compared to the letter
 
 -- no byte ends a line
-abbrev pub oneLine : List ℕ → Bool
-oneLine [] = true
-oneLine (b ∷ s) = not (eqb b 10) && oneLine s
+abbrev pub one-line : List ℕ → Bool
+one-line [] = true
+one-line (b ∷ s) = not (eqb b 10) && one-line s
 
 -- whether the bytes begin with the key
 abbrev pub begins : List ℕ → List ℕ → Bool
@@ -68,42 +68,38 @@ same (k ∷ ks) [] = false
 same (k ∷ ks) (b ∷ t) = eqb b k && same ks t
 
 -- whether the line is the word
-abbrev pub isLine : List ℕ → Line → Bool
-isLine w missing = false
-isLine w (unended b) = false
-isLine w (ended b) = same w b
+abbrev pub is-line : List ℕ → Line → Bool
+is-line w missing = false
+is-line w (unended b) = false
+is-line w (ended b) = same w b
 
 -- ---- document 01, Texts: the first line says the kind
 
 -- kind=problem
-abbrev pub kindProblem : List ℕ
-kindProblem = 107 ∷ 105 ∷ 110 ∷ 100 ∷ 61 ∷ 112 ∷ 114 ∷ 111 ∷ 98 ∷ 108 ∷ 101 ∷ 109 ∷ []
+abbrev pub kind-problem : List ℕ
+kind-problem = 107 ∷ 105 ∷ 110 ∷ 100 ∷ 61 ∷ 112 ∷ 114 ∷ 111 ∷ 98 ∷ 108 ∷ 101 ∷ 109 ∷ []
 
 -- kind=schedule
-abbrev pub kindSchedule : List ℕ
-kindSchedule = 107 ∷ 105 ∷ 110 ∷ 100 ∷ 61 ∷ 115 ∷ 99 ∷ 104 ∷ 101 ∷ 100 ∷ 117 ∷ 108 ∷ 101 ∷ []
+abbrev pub kind-schedule : List ℕ
+kind-schedule = 107 ∷ 105 ∷ 110 ∷ 100 ∷ 61 ∷ 115 ∷ 99 ∷ 104 ∷ 101 ∷ 100 ∷ 117 ∷ 108 ∷ 101 ∷ []
 
 -- kind=tree
-abbrev pub kindTree : List ℕ
-kindTree = 107 ∷ 105 ∷ 110 ∷ 100 ∷ 61 ∷ 116 ∷ 114 ∷ 101 ∷ 101 ∷ []
+abbrev pub kind-tree : List ℕ
+kind-tree = 107 ∷ 105 ∷ 110 ∷ 100 ∷ 61 ∷ 116 ∷ 114 ∷ 101 ∷ 101 ∷ []
 
-abbrev pub pickKind : Bool → Kind → Kind → Kind
-pickKind true a b = a
-pickKind false a b = b
-
-unfoldable pub kindOf : Line → Kind
-kindOf l = pickKind (isLine kindProblem l) Problem (pickKind (isLine kindSchedule l) Schedule (pickKind (isLine kindTree l) Tree Unknown))
+unfoldable pub kind-of : Line → Kind
+kind-of l = cond (is-line kind-problem l) Problem (cond (is-line kind-schedule l) Schedule (cond (is-line kind-tree l) Tree Unknown))
 
 -- ---- document 01, Texts: the last line
 
 -- end=problem
-abbrev pub endProblem : List ℕ
-endProblem = 101 ∷ 110 ∷ 100 ∷ 61 ∷ 112 ∷ 114 ∷ 111 ∷ 98 ∷ 108 ∷ 101 ∷ 109 ∷ []
+abbrev pub end-problem : List ℕ
+end-problem = 101 ∷ 110 ∷ 100 ∷ 61 ∷ 112 ∷ 114 ∷ 111 ∷ 98 ∷ 108 ∷ 101 ∷ 109 ∷ []
 
 -- end=schedule
-abbrev pub endSchedule : List ℕ
-endSchedule = 101 ∷ 110 ∷ 100 ∷ 61 ∷ 115 ∷ 99 ∷ 104 ∷ 101 ∷ 100 ∷ 117 ∷ 108 ∷ 101 ∷ []
+abbrev pub end-schedule : List ℕ
+end-schedule = 101 ∷ 110 ∷ 100 ∷ 61 ∷ 115 ∷ 99 ∷ 104 ∷ 101 ∷ 100 ∷ 117 ∷ 108 ∷ 101 ∷ []
 
 -- end=tree
-abbrev pub endTree : List ℕ
-endTree = 101 ∷ 110 ∷ 100 ∷ 61 ∷ 116 ∷ 114 ∷ 101 ∷ 101 ∷ []
+abbrev pub end-tree : List ℕ
+end-tree = 101 ∷ 110 ∷ 100 ∷ 61 ∷ 116 ∷ 114 ∷ 101 ∷ 101 ∷ []

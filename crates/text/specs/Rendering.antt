@@ -8,10 +8,10 @@ use Rattle.decimal.specs.Decimal.{digits}
 -- ---- document 01, Texts: `key=value`, the values joined by commas
 
 -- values joined by commas, byte 44
-abbrev pub joined : List (List ℕ) → List ℕ
-joined [] = []
-joined (f ∷ []) = f
-joined (f ∷ g ∷ fs) = f ++ (44 ∷ joined (g ∷ fs))
+abbrev pub comma-joined : List (List ℕ) → List ℕ
+comma-joined [] = []
+comma-joined (f ∷ []) = f
+comma-joined (f ∷ g ∷ fs) = f ++ (44 ∷ comma-joined (g ∷ fs))
 
 -- a number with or without its minus, byte 45
 abbrev pub shown : Bool → ℕ → List ℕ
@@ -19,13 +19,13 @@ shown true n = 45 ∷ digits n
 shown false n = digits n
 
 -- the numbers, of which the first is number k; number m carries a minus where neg is true
-abbrev pub shownAll : ℕ → Bool → ℕ → List ℕ → List (List ℕ)
-shownAll m neg k [] = []
-shownAll m neg k (v ∷ vs) = shown (neg && eqb k m) v ∷ shownAll m neg (suc k) vs
+abbrev pub all-shown : ℕ → Bool → ℕ → List ℕ → List (List ℕ)
+all-shown m neg k [] = []
+all-shown m neg k (v ∷ vs) = shown (neg && eqb k m) v ∷ all-shown m neg (suc k) vs
 
 -- the bytes of a line before its byte 10
 abbrev pub rendered : List ℕ → ℕ → Bool → List ℕ → List ℕ
-rendered key m neg vs = key ++ joined (shownAll m neg 1 vs)
+rendered key m neg vs = key ++ comma-joined (all-shown m neg 1 vs)
 
 -- the same without a minus
 abbrev pub plain-line : List ℕ → List ℕ → List ℕ

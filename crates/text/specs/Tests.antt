@@ -15,9 +15,9 @@ pub data Test : Type 0 where
   _if_ : ℕ → Bool → Test
 
 -- n is the first number whose test holds
-pub data First (n : ℕ) : List Test → Type 0 where
-  this : {b : Bool} {ts : List Test} → b ≡ true → First n (n if b ∷ ts)
-  after : {m : ℕ} {b : Bool} {ts : List Test} → b ≡ false → First n ts → First n (m if b ∷ ts)
+pub data FirstTrue (n : ℕ) : List Test → Type 0 where
+  this : {b : Bool} {ts : List Test} → b ≡ true → FirstTrue n (n if b ∷ ts)
+  after : {m : ℕ} {b : Bool} {ts : List Test} → b ≡ false → FirstTrue n ts → FirstTrue n (m if b ∷ ts)
 
 -- no test holds
 abbrev pub None : List Test → Type 0
@@ -25,10 +25,10 @@ None [] = Unit {0}
 None (n if b ∷ ts) = (b ≡ false) × None ts
 
 -- the first number whose test holds, or 0
-abbrev pub number : List Test → ℕ
-number [] = 0
-number (n if true ∷ ts) = n
-number (n if false ∷ ts) = number ts
+abbrev pub first-true : List Test → ℕ
+first-true [] = 0
+first-true (n if true ∷ ts) = n
+first-true (n if false ∷ ts) = first-true ts
 
 -- refused by the first number whose test holds; good where none does
 abbrev pub found : {S : Type 0} → List Test → S → Found S
@@ -36,13 +36,13 @@ found [] s = good s
 found (n if true ∷ ts) s = refused n
 found (n if false ∷ ts) s = found ts s
 
--- ---- line by line: S says what is due, `tests` gives the tests of a line at its place and `next` what is due after a good one
+-- ---- line by line: S says what is due, `tests` gives the tests of a line at its place and `next-due` what is due after a good one
 
-module _ {S : Type 0} (tests : S → Line → List Test) (next : S → Line → S) where
+module _ {S : Type 0} (tests : S → Line → List Test) (next-due : S → Line → S) where
   -- no test holds of these lines, each at its place; s says what is due before them and s′ what is due after
   pub data Passed : S → List Line → S → Type 0 where
     none-yet : {s : S} → Passed s [] s
-    one-more : {s s′ s″ : S} {x : Line} {ls : List Line} → None (tests s x) → next s x ≡ s′ → Passed s′ ls s″ → Passed s (x ∷ ls) s″
+    one-more : {s s′ s″ : S} {x : Line} {ls : List Line} → None (tests s x) → next-due s x ≡ s′ → Passed s′ ls s″ → Passed s (x ∷ ls) s″
 
   module _ {R : Type 0} (end : S → Option R) where
     -- the tests at the place before these lines: a missing line is 12, unless the text may end there
@@ -63,7 +63,7 @@ module _ {S : Type 0} (tests : S → Line → List Test) (next : S → Line → 
       pub parts : ls ≡ before ++ rest
       pub passed : Passed s before stands
       pub place : m ≡ l + length before
-      pub first : First n (tests-before stands rest)
+      pub first : FirstTrue n (tests-before stands rest)
 
     -- every line passes, and the text may end there with v
     pub record AllPassed (v : R) (s : S) (ls : List Line) : Type 0 where

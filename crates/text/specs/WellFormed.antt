@@ -6,7 +6,7 @@ use mathlib.Core.Bool.{Bool, true, _&&_, _||_}
 use mathlib.Core.List.{List}
 use lib.Dec.{leb, eqb}
 use lib.ListN.{length}
-use Rattle.text.specs.Lines.{Line, ended, lineAt, later, linesOf}
+use Rattle.text.specs.Lines.{Line, ended, line-at, later, lines-of}
 
 -- 12 to 15, 31, 32
 abbrev pub of-form : ℕ → Bool
@@ -17,6 +17,6 @@ pub record Formed (word : List ℕ) (Refused : ℕ → ℕ → List Line → Typ
   -- 11 doesn't apply
   pub short : length text ≤ 1048576
   -- the first line is the one due
-  pub first : lineAt text 0 ≡ ended word
+  pub first : line-at text 0 ≡ ended word
   -- no later line, judged at its place, breaks one of these numbers
-  pub unbroken : (n m : ℕ) → of-form n ≡ true → Refused n m (later (linesOf text)) → ⊥
+  pub unbroken : (n m : ℕ) → of-form n ≡ true → Refused n m (later (lines-of text)) → ⊥

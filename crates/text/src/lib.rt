@@ -3,10 +3,10 @@ ghost use mathlib.Core.Path.{_≡_};
 ghost use mathlib.Core.Bool.{true, not, _||_};
 ghost use Prim.Native.Nat.{_+_, _≤_, _<_};
 ghost use lib.ListN.{length, drop, set};
-ghost use Rattle.decimal.specs.Reading.{cap};
-ghost use Rattle.text.specs.Lines.{oneLine, begins, lineAt, isLine};
-ghost use Rattle.text.specs.Forms.{byteIs, withinAll, belowAll, noRow, rowOf, form, plain};
-ghost use Rattle.text.specs.Scan.{endedAt, fieldAt, valuesAt, keyedAt, storedAt, verdictOf, minusOf, outsideBy, countOutside};
+ghost use Rattle.decimal.specs.NumberRead.{read-cap};
+ghost use Rattle.text.specs.Lines.{one-line, begins, line-at, is-line};
+ghost use Rattle.text.specs.Forms.{byte-is, all-within, all-below, no-row, row-of, form, plain};
+ghost use Rattle.text.specs.Scan.{ended-at, field-at, values-at, keyed-at, stored-at, values-verdict, minus-of, outside-by, count-outside};
 use decimal::Number;
 
 // A value at a place: malformed, or its size, whether it has a minus, the place after the byte that ends it, and whether
@@ -63,7 +63,7 @@ pub enum End {
 
 // Whether the byte b stands at the place `at`.
 fn byte_is(s: &[u8], at: usize, b: u8) -> bool
-    ensures { λ r. ⌜ r ≡ byteIs (drop at (now (s .entry))) b ⌝ }
+    ensures { λ r. ⌜ r ≡ byte-is (drop at (now (s .entry))) b ⌝ }
 {
     if at < s.len() {
         let x = s[at];
@@ -92,8 +92,8 @@ pub fn starts(s: &[u8], at: usize, key: &[u8]) -> bool
 
 // Whether the line that starts at `at` is this word.
 pub fn is_line(s: &[u8], at: usize, word: &[u8]) -> bool
-    requires { ⌜ oneLine (now word) ≡ true ⌝ }
-    ensures { λ r. ⌜ r ≡ isLine (now (word .entry)) (lineAt (now (s .entry)) at) ⌝ }
+    requires { ⌜ one-line (now word) ≡ true ⌝ }
+    ensures { λ r. ⌜ r ≡ is-line (now (word .entry)) (line-at (now (s .entry)) at) ⌝ }
 {
     if starts(s, at, word) {
         let end = at + word.len();
@@ -104,7 +104,7 @@ pub fn is_line(s: &[u8], at: usize, word: &[u8]) -> bool
 
 // The value without a sign that starts at `at`.
 fn read_unsigned(s: &[u8], at: usize, minus: bool) -> Field
-    ensures { λ r. ⌜ r ≡ endedAt (now (s .entry)) at minus ⌝ }
+    ensures { λ r. ⌜ r ≡ ended-at (now (s .entry)) at minus ⌝ }
 {
     let n = decimal::read_number(s, at);
     match n {
@@ -137,7 +137,7 @@ fn read_unsigned(s: &[u8], at: usize, minus: bool) -> Field
 
 // Whether no minus may stand before the place `from`: the value may not carry one, or a 0 stands there.
 fn bars_minus(s: &[u8], from: usize, signed: bool) -> bool
-    ensures { λ r. ⌜ r ≡ (not signed || byteIs (drop from (now (s .entry))) 48) ⌝ }
+    ensures { λ r. ⌜ r ≡ (not signed || byte-is (drop from (now (s .entry))) 48) ⌝ }
 {
     if signed {
         return byte_is(s, from, 48);
@@ -147,7 +147,7 @@ fn bars_minus(s: &[u8], from: usize, signed: bool) -> bool
 
 // The value that starts at `at`, which may carry a minus where `signed` is true.
 fn read_field(s: &[u8], at: usize, signed: bool) -> Field
-    ensures { λ r. ⌜ r ≡ fieldAt (now (s .entry)) at signed ⌝ }
+    ensures { λ r. ⌜ r ≡ field-at (now (s .entry)) at signed ⌝ }
 {
     let minus = byte_is(s, at, 45);
     let mut from = at;
@@ -181,8 +181,8 @@ fn either(a: bool, b: bool) -> bool
 
 // The values from `at` to the line's end, of which number `signed` may carry a minus. Those that fit are stored in out.
 fn read_values(s: &[u8], at: usize, signed: usize, out: &mut [u64]) -> Values
-    ensures answer { λ r. ⌜ r ≡ valuesAt (now (s .entry)) at signed (now (out .entry)) .answer ⌝ }
-    ensures stored { λ _. ⌜ now (out .exit) ≡ valuesAt (now (s .entry)) at signed (now (out .entry)) .out ⌝ }
+    ensures answer { λ r. ⌜ r ≡ values-at (now (s .entry)) at signed (now (out .entry)) .answer ⌝ }
+    ensures stored { λ _. ⌜ now (out .exit) ≡ values-at (now (s .entry)) at signed (now (out .entry)) .out ⌝ }
 {
     let mut i = at;
     let mut k: usize = 0;
@@ -220,7 +220,7 @@ fn read_values(s: &[u8], at: usize, signed: usize, out: &mut [u64]) -> Values
 // Whether each number of v is from its low to its high.
 fn all_within(v: &[u64], lows: &[u64], highs: &[u64]) -> bool
     requires { ⌜ (length (now v) ≤ length (now lows)) × (length (now v) ≤ length (now highs)) ⌝ }
-    ensures { λ r. ⌜ r ≡ withinAll (now (v .entry)) (now (lows .entry)) (now (highs .entry)) ⌝ }
+    ensures { λ r. ⌜ r ≡ all-within (now (v .entry)) (now (lows .entry)) (now (highs .entry)) ⌝ }
 {
     let mut i = 0;
     while i < v.len() {
@@ -238,7 +238,7 @@ fn all_within(v: &[u64], lows: &[u64], highs: &[u64]) -> bool
 
 // 1 where x is not from lo to hi, or 0.
 fn outside(x: u64, lo: u64, hi: u64) -> u64
-    ensures { λ r. ⌜ r ≡ outsideBy lo hi x ⌝ }
+    ensures { λ r. ⌜ r ≡ outside-by lo hi x ⌝ }
 {
     if x < lo {
         return 1;
@@ -251,7 +251,7 @@ fn outside(x: u64, lo: u64, hi: u64) -> u64
 
 // How many numbers of v are not from lo to hi.
 fn count_outside(v: &[u64], lo: u64, hi: u64) -> u64
-    ensures { λ r. ⌜ r ≡ countOutside lo hi (now (v .entry)) ⌝ }
+    ensures { λ r. ⌜ r ≡ count-outside lo hi (now (v .entry)) ⌝ }
 {
     let mut n: u64 = 0;
     let mut i = 0;
@@ -265,8 +265,8 @@ fn count_outside(v: &[u64], lo: u64, hi: u64) -> u64
 // The values of the line that starts at `at` with key, of which number `signed` may carry a minus. Those that fit are stored
 // in out.
 fn read_keyed(s: &[u8], at: usize, key: &[u8], signed: usize, out: &mut [u64]) -> Values
-    ensures answer { λ r. ⌜ r ≡ keyedAt (now (key .entry)) (now (s .entry)) at signed (now (out .entry)) .answer ⌝ }
-    ensures stored { λ _. ⌜ now (out .exit) ≡ keyedAt (now (key .entry)) (now (s .entry)) at signed (now (out .entry)) .out ⌝ }
+    ensures answer { λ r. ⌜ r ≡ keyed-at (now (key .entry)) (now (s .entry)) at signed (now (out .entry)) .answer ⌝ }
+    ensures stored { λ _. ⌜ now (out .exit) ≡ keyed-at (now (key .entry)) (now (s .entry)) at signed (now (out .entry)) .out ⌝ }
 {
     if starts(s, at, key) {
         let from = at + key.len();
@@ -277,7 +277,7 @@ fn read_keyed(s: &[u8], at: usize, key: &[u8], signed: usize, out: &mut [u64]) -
 
 // What a line is whose values are these, where n are due and `within` says whether those stored are in range.
 fn judge_values(v: Values, n: usize, within: bool) -> Verdict
-    ensures { λ r. ⌜ r ≡ verdictOf v n within ⌝ }
+    ensures { λ r. ⌜ r ≡ values-verdict v n within ⌝ }
 {
     match v {
         Values::Wrong => Verdict::Refused { number: 12 },
@@ -299,7 +299,7 @@ fn judge_values(v: Values, n: usize, within: bool) -> Verdict
 
 // Whether one of these values has a minus.
 fn has_minus(v: Values) -> bool
-    ensures { λ r. ⌜ r ≡ minusOf v ⌝ }
+    ensures { λ r. ⌜ r ≡ minus-of v ⌝ }
 {
     match v {
         Values::Wrong => false,
@@ -321,9 +321,9 @@ pub fn fill_line(
     highs: &[u64],
     out: &mut [u64],
 ) -> Verdict
-    requires { ⌜ (oneLine (now key) ≡ true) × ((length (now lows) ≤ 48) × ((length (now highs) ≡ length (now lows)) × ((belowAll (now highs) ≡ true) × (length (now out) ≡ length (now lows))))) ⌝ }
-    ensures answer { λ r. ⌜ r ≡ rowOf (form (now (key .entry)) 0 (now (lows .entry)) (now (highs .entry))) (lineAt (now (s .entry)) at) at .verdict ⌝ }
-    ensures stored { λ _. ⌜ now (out .exit) ≡ storedAt (now (key .entry)) (now (s .entry)) at (now (out .entry)) ⌝ }
+    requires { ⌜ (one-line (now key) ≡ true) × ((length (now lows) ≤ 48) × ((length (now highs) ≡ length (now lows)) × ((all-below (now highs) ≡ true) × (length (now out) ≡ length (now lows))))) ⌝ }
+    ensures answer { λ r. ⌜ r ≡ row-of (form (now (key .entry)) 0 (now (lows .entry)) (now (highs .entry))) (line-at (now (s .entry)) at) at .verdict ⌝ }
+    ensures stored { λ _. ⌜ now (out .exit) ≡ stored-at (now (key .entry)) (now (s .entry)) at (now (out .entry)) ⌝ }
 {
     let v = read_keyed(s, at, key, 0, out);
     let within = all_within(out, lows, highs);
@@ -333,9 +333,9 @@ pub fn fill_line(
 // What the line is that starts at `at` with key and has a value for each place of out, each from lo to hi. Those read
 // are stored in out, as far as they fit.
 pub fn fill_row(s: &[u8], at: usize, key: &[u8], lo: u64, hi: u64, out: &mut [u64]) -> Verdict
-    requires { ⌜ (oneLine (now key) ≡ true) × ((length (now out) ≤ 48) × (hi < cap)) ⌝ }
-    ensures answer { λ r. ⌜ r ≡ rowOf (plain (now (key .entry)) (length (now (out .entry))) lo hi) (lineAt (now (s .entry)) at) at .verdict ⌝ }
-    ensures stored { λ _. ⌜ now (out .exit) ≡ storedAt (now (key .entry)) (now (s .entry)) at (now (out .entry)) ⌝ }
+    requires { ⌜ (one-line (now key) ≡ true) × ((length (now out) ≤ 48) × (hi < read-cap)) ⌝ }
+    ensures answer { λ r. ⌜ r ≡ row-of (plain (now (key .entry)) (length (now (out .entry))) lo hi) (line-at (now (s .entry)) at) at .verdict ⌝ }
+    ensures stored { λ _. ⌜ now (out .exit) ≡ stored-at (now (key .entry)) (now (s .entry)) at (now (out .entry)) ⌝ }
 {
     let v = read_keyed(s, at, key, 0, out);
     let many = count_outside(out, lo, hi);
@@ -344,7 +344,7 @@ pub fn fill_row(s: &[u8], at: usize, key: &[u8], lo: u64, hi: u64, out: &mut [u6
 
 // The row of a line that a number refuses.
 fn refused(number: u64) -> Row
-    ensures { λ r. ⌜ r ≡ noRow number ⌝ }
+    ensures { λ r. ⌜ r ≡ no-row number ⌝ }
 {
     Row {
         verdict: Verdict::Refused { number },
@@ -355,8 +355,8 @@ fn refused(number: u64) -> Row
 
 // The line that starts at `at` with key and has a value for each of lows, of which number `signed` may carry a minus.
 pub fn read_line(s: &[u8], at: usize, key: &[u8], signed: usize, lows: &[u64], highs: &[u64]) -> Row
-    requires { ⌜ (oneLine (now key) ≡ true) × ((length (now lows) ≤ 48) × ((length (now highs) ≡ length (now lows)) × (belowAll (now highs) ≡ true))) ⌝ }
-    ensures { λ r. ⌜ r ≡ rowOf (form (now (key .entry)) signed (now (lows .entry)) (now (highs .entry))) (lineAt (now (s .entry)) at) at ⌝ }
+    requires { ⌜ (one-line (now key) ≡ true) × ((length (now lows) ≤ 48) × ((length (now highs) ≡ length (now lows)) × (all-below (now highs) ≡ true))) ⌝ }
+    ensures { λ r. ⌜ r ≡ row-of (form (now (key .entry)) signed (now (lows .entry)) (now (highs .entry))) (line-at (now (s .entry)) at) at ⌝ }
 {
     let mut values = [0u64; 48];
     let n = lows.len();
@@ -378,8 +378,8 @@ pub fn read_line(s: &[u8], at: usize, key: &[u8], signed: usize, lows: &[u64], h
 
 // The line that starts at `at` with key and has n values, each from lo to hi.
 pub fn read_row(s: &[u8], at: usize, key: &[u8], n: usize, lo: u64, hi: u64) -> Row
-    requires { ⌜ (oneLine (now key) ≡ true) × ((n ≤ 48) × (hi < cap)) ⌝ }
-    ensures { λ r. ⌜ r ≡ rowOf (plain (now (key .entry)) n lo hi) (lineAt (now (s .entry)) at) at ⌝ }
+    requires { ⌜ (one-line (now key) ≡ true) × ((n ≤ 48) × (hi < read-cap)) ⌝ }
+    ensures { λ r. ⌜ r ≡ row-of (plain (now (key .entry)) n lo hi) (line-at (now (s .entry)) at) at ⌝ }
 {
     let mut values = [0u64; 48];
     let verdict = fill_row(s, at, key, lo, hi, &mut values[..n]);

@@ -11,7 +11,7 @@ use Rattle.model.specs.Tree.{Tree, split, short, stuck, price, Bound, never, nu
 use Rattle.model.proofs.Integers.{up, down, min-shift, nat→eq}
 use Rattle.tree.specs.declared.figures.Bound as code
 use Rattle.tree.specs.declared.figures.Bound.the-variants.{Never, Number}
-use Rattle.tree.specs.Due.{Figures, with-split, with-leaf}
+use Rattle.tree.specs.Course.{Bounded, with-split, with-leaf}
 use Rattle.tree.specs.Coded.{bound-of, coded}
 
 min-assoc : (x y z : ℤ) → minℤ x (minℤ y z) ≡ minℤ (minℤ x y) z
@@ -47,14 +47,14 @@ coded-back (number z) = refl
 
 -- ---- the figures of a tree, line by line
 
-unfoldable pub add : Instance → Above → Figures → Tree → Figures
+unfoldable pub add : Instance → Above → Bounded → Tree → Bounded
 add P A F (split U t x y) = add P (fix U t true A) (add P (fix U t false A) (with-split F) x) y
 add P A F (short t) = with-leaf F never
 add P A F (stuck U) = with-leaf F never
 add P A F (price q s) = with-leaf F (number (leaf-value P (A .marks) (λ t. q at t) (λ t. s at t)))
 
 -- the figures F with those of a tree under A
-abbrev pub with-tree : Instance → Above → Figures → Tree → Figures
+abbrev pub with-tree : Instance → Above → Bounded → Tree → Bounded
 with-tree P A F t = record {
   writer = F .writer;
   bound = lower (F .bound) (bound P A t);
@@ -63,17 +63,17 @@ with-tree P A F t = record {
 }
 
 pub figures-same : {w w′ : ℕ} {b b′ : Bound} {m m′ n n′ : ℕ} → w ≡ w′ → b ≡ b′ → m ≡ m′ → n ≡ n′
-    → _≡_ {A = Figures} (record { writer = w; bound = b; splits = m; leaves = n }) (record { writer = w′; bound = b′; splits = m′; leaves = n′ })
+    → _≡_ {A = Bounded} (record { writer = w; bound = b; splits = m; leaves = n }) (record { writer = w′; bound = b′; splits = m′; leaves = n′ })
 figures-same p q r s i = record { writer = p i; bound = q i; splits = r i; leaves = s i }
 
-leaf-same : (P : Instance) (A : Above) (F : Figures) (b : Bound) → with-leaf F b ≡ record { writer = F .writer; bound = lower (F .bound) b; splits = F .splits + 0; leaves = F .leaves + 1 }
+leaf-same : (P : Instance) (A : Above) (F : Bounded) (b : Bound) → with-leaf F b ≡ record { writer = F .writer; bound = lower (F .bound) b; splits = F .splits + 0; leaves = F .leaves + 1 }
 leaf-same P A F b = figures-same refl refl (omega arith) (omega arith)
 
-pub add-is : (P : Instance) (A : Above) (F : Figures) (t : Tree) → add P A F t ≡ with-tree P A F t
+pub add-is : (P : Instance) (A : Above) (F : Bounded) (t : Tree) → add P A F t ≡ with-tree P A F t
 unfolding add bound splits leaves
 add-is P A F (split U t x y) =
     let G = with-tree P (fix U t false A) (with-split F) x in
-    ap (λ (f : Figures). add P (fix U t true A) f y) (add-is P (fix U t false A) (with-split F) x)
+    ap (λ (f : Bounded). add P (fix U t true A) f y) (add-is P (fix U t false A) (with-split F) x)
     ∙ add-is P (fix U t true A) G y
     ∙ figures-same refl (sym (lower-assoc (F .bound) (bound P (fix U t false A) x) (bound P (fix U t true A) y))) (omega arith) (omega arith)
 add-is P A F (short t) = leaf-same P A F never

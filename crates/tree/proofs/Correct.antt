@@ -14,7 +14,7 @@ use Rattle.model.specs.Ranges.{GoodWriter}
 use Rattle.model.specs.Above.{free, Above, root, fix}
 use Rattle.model.specs.Leaf.{any-stuck, leaf-value}
 use Rattle.model.specs.Tree.{Tree, split, short, stuck, price, Limits, Holds, Multipliers, number}
-use Rattle.text.specs.Lines.{Line, ended, isLine, endTree}
+use Rattle.text.specs.Lines.{Line, ended, is-line, end-tree}
 use Rattle.text.specs.Course.{good}
 use Rattle.text.specs.Rendering.{plain-line}
 use Rattle.text.specs.Writer.{writer-key, writer-form}
@@ -25,7 +25,7 @@ use Rattle.text.proofs.Plain.{plain-passed, one-value}
 use Rattle.text.proofs.Courses.{passed-line}
 use Rattle.text.proofs.Tests.{good-none}
 use Rattle.tree.specs.Rendering.{split-key, short-key, stuck-key, price-key, reserve-key, node-lines}
-use Rattle.tree.specs.Due.{Figures, by-writer, with-split, with-leaf, Pending, pending, Due, writer-due, nodes-due, reserve-due, nothing-due, tests, next, judge, end}
+use Rattle.tree.specs.Course.{Bounded, by-writer, with-split, with-leaf, Pending, pending, Due, writer-due, nodes-due, reserve-due, nothing-due, tests, next-due, judge, end}
 use Rattle.tree.proofs.Bounds.{add}
 use Rattle.tree.proofs.NodeLines.{NodeWas, split-was, short-was, stuck-was, price-was, node-was, reserve-was}
 
@@ -40,24 +40,24 @@ Grown P (p ∷ ps) (t ∷ ts) = (Limits P (p .above) (p .depth) t × Holds P (p 
 
 -- their lines, and the end line
 abbrev pub forest-lines : List Tree → List (List ℕ)
-forest-lines [] = endTree ∷ []
+forest-lines [] = end-tree ∷ []
 forest-lines (t ∷ ts) = node-lines t ++ forest-lines ts
 
 -- the figures F with theirs
-abbrev pub with-forest : Instance → Figures → List Pending → List Tree → Figures
+abbrev pub with-forest : Instance → Bounded → List Pending → List Tree → Bounded
 with-forest P F [] ts = F
 with-forest P F (p ∷ ps) [] = F
 with-forest P F (p ∷ ps) (t ∷ ts) = with-forest P (add P (p .above) F t) ps ts
 
 -- the lines ls are those of such trees, and v is what they give
-pub record Forest (P : Instance) (F : Figures) (ps : List Pending) (ls : List Line) (v : Figures) : Type 0 where
+pub record Forest (P : Instance) (F : Bounded) (ps : List Pending) (ls : List Line) (v : Bounded) : Type 0 where
   pub trees : List Tree
   pub grown : Grown P ps trees
   pub lines : ls ≡ map ended (forest-lines trees)
   pub gives : v ≡ with-forest P F ps trees
 
 -- a reserve line that holds with A above it, and then such trees
-pub record ForestAfter (P : Instance) (F : Figures) (A : Above) (q : List ℕ) (ps : List Pending) (ls : List Line) (v : Figures) : Type 0 where
+pub record ForestAfter (P : Instance) (F : Bounded) (A : Above) (q : List ℕ) (ps : List Pending) (ls : List Line) (v : Bounded) : Type 0 where
   pub s : List ℕ
   pub after : List Line
   pub lines : ls ≡ ended (plain-line reserve-key s) ∷ after
@@ -66,7 +66,7 @@ pub record ForestAfter (P : Instance) (F : Figures) (A : Above) (q : List ℕ) (
   pub forest : Forest P (with-leaf F (number (leaf-value P (A .marks) (λ t. q at t) (λ t. s at t)))) ps after v
 
 -- a writer line, and then one tree
-pub record Whole (P : Instance) (ls : List Line) (v : Figures) : Type 0 where
+pub record Whole (P : Instance) (ls : List Line) (v : Bounded) : Type 0 where
   pub writer : ℕ
   pub after : List Line
   pub lines : ls ≡ ended (plain-line writer-key (writer ∷ [])) ∷ after
@@ -74,7 +74,7 @@ pub record Whole (P : Instance) (ls : List Line) (v : Figures) : Type 0 where
   pub forest : Forest P (by-writer writer) (pending root 0 ∷ []) after v
 
 -- what the lines that are left are, by what is due
-abbrev pub Left : Instance → Due → List Line → Figures → Type 0
+abbrev pub Left : Instance → Due → List Line → Bounded → Type 0
 Left P writer-due ls v = Whole P ls v
 Left P (nodes-due F ps) ls v = Forest P F ps ls v
 Left P (reserve-due F A q ps) ls v = ForestAfter P F A q ps ls v
@@ -82,7 +82,7 @@ Left P (nothing-due F) ls v = (ls ≡ []) × (v ≡ F)
 
 -- ---- one line more in front
 
-module _ (P : Instance) (F : Figures) (p : Pending) (ps : List Pending) (x : Line) (ls : List Line) (v : Figures) where
+module _ (P : Instance) (F : Bounded) (p : Pending) (ps : List Pending) (x : Line) (ls : List Line) (v : Bounded) where
   -- a leaf of one line
   leaf-before : (t : Tree) → (l : List ℕ) → node-lines t ≡ l ∷ [] → x ≡ ended l → Limits P (p .above) (p .depth) t → Holds P (p .above) t
       → Forest P (add P (p .above) F t) ps ls v → Forest P F (p ∷ ps) (x ∷ ls) v
@@ -134,20 +134,20 @@ module _ (P : Instance) (F : Figures) (p : Pending) (ps : List Pending) (x : Lin
   node-before s (stuck-was U e h k) f = leaf-before (stuck U) (plain-line stuck-key (suc U ∷ [])) refl e h k f
   node-before s (price-was q e m) f = price-before q e m f
 
-end-before : (P : Instance) (F : Figures) (x : Line) (ls : List Line) (v : Figures) (s : Due) → judge P (nodes-due F []) x ≡ good s → Left P s ls v
+end-before : (P : Instance) (F : Bounded) (x : Line) (ls : List Line) (v : Bounded) (s : Due) → judge P (nodes-due F []) x ≡ good s → Left P s ls v
     → Forest P F [] (x ∷ ls) v
-unfolding judge tests next
+unfolding judge tests next-due
 end-before P F x ls v s e f =
-    let g = good-none (nothing-due F) s (word-tests endTree x) e in
+    let g = good-none (nothing-due F) s (word-tests end-tree x) e in
     let r : Left P (nothing-due F) ls v = subst (λ (y : Due). Left P y ls v) (sym (g .1)) f in
     record {
       trees = [];
       grown = tt;
-      lines = λ i. word-is endTree x (not-false (isLine endTree x) (g .0 .0)) i ∷ r .0 i;
+      lines = λ i. word-is end-tree x (not-false (is-line end-tree x) (g .0 .0)) i ∷ r .0 i;
       gives = r .1;
     }
 
-reserve-before : (P : Instance) (F : Figures) (A : Above) (q : List ℕ) (ps : List Pending) (x : Line) (ls : List Line) (v : Figures) (s : Due)
+reserve-before : (P : Instance) (F : Bounded) (A : Above) (q : List ℕ) (ps : List Pending) (x : Line) (ls : List Line) (v : Bounded) (s : Due)
     → judge P (reserve-due F A q ps) x ≡ good s → Left P s ls v
     → ForestAfter P F A q ps (x ∷ ls) v
 reserve-before P F A q ps x ls v s e f =
@@ -161,10 +161,10 @@ reserve-before P F A q ps x ls v s e f =
       forest = subst (λ (y : Due). Left P y ls v) (w .due) f;
     }
 
-writer-before : (P : Instance) (x : Line) (ls : List Line) (v : Figures) (s : Due) → judge P writer-due x ≡ good s → Left P s ls v → Whole P (x ∷ ls) v
-unfolding judge tests next
+writer-before : (P : Instance) (x : Line) (ls : List Line) (v : Bounded) (s : Due) → judge P writer-due x ≡ good s → Left P s ls v → Whole P (x ∷ ls) v
+unfolding judge tests next-due
 writer-before P x ls v s e f =
-    let g = good-none (next P writer-due x) s (form-tests writer-form x []) e in
+    let g = good-none (next-due P writer-due x) s (form-tests writer-form x []) e in
     let w = plain-passed writer-key 1 1 65535 x [] (g .0) in
     let vs = numbers-of writer-form x in
     record {
@@ -175,7 +175,7 @@ writer-before P x ls v s e f =
       forest = subst (λ (y : Due). Left P y ls v) (sym (g .1)) f;
     }
 
-line-before : (P : Instance) (s s′ : Due) (x : Line) (ls : List Line) (v : Figures) → judge P s x ≡ good s′ → Left P s′ ls v → Left P s (x ∷ ls) v
+line-before : (P : Instance) (s s′ : Due) (x : Line) (ls : List Line) (v : Bounded) → judge P s x ≡ good s′ → Left P s′ ls v → Left P s (x ∷ ls) v
 unfolding judge tests
 line-before P writer-due s′ x ls v e f = writer-before P x ls v s′ e f
 line-before P (nodes-due F []) s′ x ls v e f = end-before P F x ls v s′ e f
@@ -185,14 +185,14 @@ line-before P (nothing-due F) s′ x ls v e f = absurd (let z : _≡_ {A = ℕ} 
 
 -- ---- all lines
 
-none-left : (P : Instance) (s : Due) (v : Figures) → end s ≡ some v → Left P s [] v
+none-left : (P : Instance) (s : Due) (v : Bounded) → end s ≡ some v → Left P s [] v
 none-left P writer-due v e = absurd (let z : _≡_ {A = ℕ} 0 1 = cc in omega arith)
 none-left P (nodes-due F ps) v e = absurd (let z : _≡_ {A = ℕ} 0 1 = cc in omega arith)
 none-left P (reserve-due F A q ps) v e = absurd (let z : _≡_ {A = ℕ} 0 1 = cc in omega arith)
 none-left P (nothing-due F) v e = (refl, cc)
 
-pub good-left : (P : Instance) (s last : Due) (ls : List Line) (v : Figures) → Passed (tests P) (next P) s ls last → end last ≡ some v → Left P s ls v
+pub good-left : (P : Instance) (s last : Due) (ls : List Line) (v : Bounded) → Passed (tests P) (next-due P) s ls last → end last ≡ some v → Left P s ls v
 unfolding judge
 good-left P s last [] v none-yet e = none-left P s v e
 good-left P s last (x ∷ ls) v (one-more {s′ = s′} h d g) e =
-    line-before P s s′ x ls v (passed-line (tests P) (next P) end s s′ x h d) (good-left P s′ last ls v g e)
+    line-before P s s′ x ls v (passed-line (tests P) (next-due P) end s s′ x h d) (good-left P s′ last ls v g e)

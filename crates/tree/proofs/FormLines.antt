@@ -13,7 +13,7 @@ use Rattle.model.specs.Ranges.{GoodWriter}
 use Rattle.model.specs.Above.{free, Above, root, fix}
 use Rattle.model.specs.Leaf.{leaf-value}
 use Rattle.model.specs.Tree.{Tree, split, short, stuck, price, Limits, Multipliers, number}
-use Rattle.text.specs.Lines.{Line, ended, isLine, endTree}
+use Rattle.text.specs.Lines.{Line, ended, is-line, end-tree}
 use Rattle.text.specs.Course.{good}
 use Rattle.text.specs.Forms.{numbers-of}
 use Rattle.text.specs.Rendering.{plain-line}
@@ -27,8 +27,8 @@ use Rattle.text.proofs.Verdicts.{form-passes}
 use Rattle.text.proofs.WellFormed.{form-only, none-of-form}
 use Rattle.text.proofs.Words.{word-is}
 use Rattle.tree.specs.Rendering.{split-key, short-key, stuck-key, price-key, reserve-key, node-lines}
-use Rattle.tree.specs.NodeLines.{Kind, split-line, short-line, stuck-line, price-line, kind-of, node-form, reserve-form, named, split-again, too-deep, node-tests}
-use Rattle.tree.specs.Due.{Figures, with-split, with-leaf, Pending, pending, Due, writer-due, nodes-due, reserve-due, nothing-due, tests, after-node, next, judge, end}
+use Rattle.tree.specs.NodeLines.{LineKind, split-line, short-line, stuck-line, price-line, line-kind-of, node-form, reserve-form, named, split-again, too-deep, node-tests}
+use Rattle.tree.specs.Course.{Bounded, with-split, with-leaf, Pending, pending, Due, writer-due, nodes-due, reserve-due, nothing-due, tests, after-node, next-due, judge, end}
 use Rattle.tree.proofs.Bounds.{add}
 use Rattle.tree.proofs.Lines.{multipliers-fit, was-multipliers, one-fits, was-one}
 use Rattle.tree.proofs.Written.{map-both}
@@ -37,10 +37,10 @@ use Rattle.tree.proofs.Correct.{forest-lines}
 
 -- these lines pass the tests of the form, each at its place
 abbrev pub FormPasses : Instance → Due → List Line → Due → Type 0
-FormPasses P s ls t = Passed (λ u l. form-only (tests P u l)) (next P) s ls t
+FormPasses P s ls t = Passed (λ u l. form-only (tests P u l)) (next-due P) s ls t
 
 -- lines that pass all tests pass these
-pub all-of-form : (P : Instance) {s t : Due} (ls : List Line) → Passed (tests P) (next P) s ls t → FormPasses P s ls t
+pub all-of-form : (P : Instance) {s t : Due} (ls : List Line) → Passed (tests P) (next-due P) s ls t → FormPasses P s ls t
 all-of-form P [] none-yet = none-yet
 all-of-form P {s} (x ∷ ls) (one-more n e p) = one-more (none-of-form (tests P s x) n) e (all-of-form P ls p)
 
@@ -78,7 +78,7 @@ FormLeft P (reserve-due F A q ps) ls = FormForestAfter P ps ls
 FormLeft P (nothing-due F) ls = ls ≡ []
 
 -- one line more in front
-module _ (P : Instance) (F : Figures) (p : Pending) (ps : List Pending) (x : Line) (ls : List Line) where
+module _ (P : Instance) (F : Bounded) (p : Pending) (ps : List Pending) (x : Line) (ls : List Line) where
   split-before : (U t : ℕ) → x ≡ ended (plain-line split-key (suc U ∷ suc t ∷ [])) → U < length (P .units) → t < P .periods
       → p .above .marks U t ≡ free → p .depth ≤ 63
       → FormForest P (pending (fix U t false (p .above)) (suc (p .depth)) ∷ pending (fix U t true (p .above)) (suc (p .depth)) ∷ ps) ls
@@ -97,7 +97,7 @@ module _ (P : Instance) (F : Figures) (p : Pending) (ps : List Pending) (x : Lin
         lines = λ i. e i ∷ (l ∙ ap (map ended) (sym (append-assoc (node-lines a) (node-lines b) (forest-lines ts)))) i;
       }
 
-  node-before : (k : Kind) → None (form-only (node-tests P (p .above) (p .depth) k x)) → FormLeft P (after-node P F p ps k x) ls → FormForest P (p ∷ ps) (x ∷ ls)
+  node-before : (k : LineKind) → None (form-only (node-tests P (p .above) (p .depth) k x)) → FormLeft P (after-node P F p ps k x) ls → FormForest P (p ∷ ps) (x ∷ ls)
   unfolding Limits node-lines after-node split-again too-deep
   node-before split-line n f =
       let g = form-passes (node-form P split-line) x (31 if split-again P (p .above) split-line x ∷ 32 if too-deep (p .depth) split-line ∷ []) .0 n in
@@ -120,8 +120,8 @@ module _ (P : Instance) (F : Figures) (p : Pending) (ps : List Pending) (x : Lin
         lines = λ i. w .line i ∷ (f .lines ∙ ap (λ (k : List Line). ended (plain-line reserve-key (f .s)) ∷ k) (f .forest .lines)) i;
       }
 
-line-before : (P : Instance) (s : Due) (x : Line) (ls : List Line) → None (form-only (tests P s x)) → FormLeft P (next P s x) ls → FormLeft P s (x ∷ ls)
-unfolding tests next
+line-before : (P : Instance) (s : Due) (x : Line) (ls : List Line) → None (form-only (tests P s x)) → FormLeft P (next-due P s x) ls → FormLeft P s (x ∷ ls)
+unfolding tests next-due
 line-before P writer-due x ls n f =
     let w = plain-passed writer-key 1 1 65535 x [] n in
     let vs = numbers-of writer-form x in
@@ -132,8 +132,8 @@ line-before P writer-due x ls n f =
       range = w .range 0 (omega (arith, w .count));
       forest = f;
     }
-line-before P (nodes-due F []) x ls n f = record { trees = []; limited = tt; lines = λ i. word-is endTree x (not-false (isLine endTree x) (n .0)) i ∷ f i }
-line-before P (nodes-due F (p ∷ ps)) x ls n f = node-before P F p ps x ls (kind-of x) n f
+line-before P (nodes-due F []) x ls n f = record { trees = []; limited = tt; lines = λ i. word-is end-tree x (not-false (is-line end-tree x) (n .0)) i ∷ f i }
+line-before P (nodes-due F (p ∷ ps)) x ls n f = node-before P F p ps x ls (line-kind-of x) n f
 line-before P (reserve-due F A q ps) x ls n f =
     let w = plain-passed reserve-key (P .periods) 0 1000000000 x [] n in
     record {
@@ -146,7 +146,7 @@ line-before P (reserve-due F A q ps) x ls n f =
 line-before P (nothing-due F) x ls n f = absurd (let e = n .0 in let z : _≡_ {A = ℕ} 0 1 = cc in omega arith)
 
 -- all lines
-pub passed-left : (P : Instance) (s last : Due) (ls : List Line) (v : Figures) → FormPasses P s ls last → end last ≡ some v → FormLeft P s ls
+pub passed-left : (P : Instance) (s last : Due) (ls : List Line) (v : Bounded) → FormPasses P s ls last → end last ≡ some v → FormLeft P s ls
 passed-left P writer-due last [] v none-yet e = absurd (let z : _≡_ {A = ℕ} 0 1 = cc in omega arith)
 passed-left P (nodes-due F ps) last [] v none-yet e = absurd (let z : _≡_ {A = ℕ} 0 1 = cc in omega arith)
 passed-left P (reserve-due F A q ps) last [] v none-yet e = absurd (let z : _≡_ {A = ℕ} 0 1 = cc in omega arith)
@@ -160,14 +160,14 @@ module _ (P : Instance) (some : 1 ≤ P .periods) where
   -- a line that is good passes the tests of the form
   pub also : {s s′ s″ : Due} {x : Line} {ls : List Line} → judge P s x ≡ good s′ → FormPasses P s′ ls s″ → FormPasses P s (x ∷ ls) s″
   unfolding judge
-  also {s} {s′} {s″} {x} e p = let g = good-none (next P s x) s′ (tests P s x) e in one-more (none-of-form (tests P s x) (g .0)) (g .1) p
+  also {s} {s′} {s″} {x} e p = let g = good-none (next-due P s x) s′ (tests P s x) e in one-more (none-of-form (tests P s x) (g .0)) (g .1) p
 
   pub both : {s s′ s″ : Due} (a b : List Line) → FormPasses P s a s′ → FormPasses P s′ b s″ → FormPasses P s (a ++ b) s″
-  both a b = passed-both (λ u l. form-only (tests P u l)) (next P) end a b
+  both a b = passed-both (λ u l. form-only (tests P u l)) (next-due P) end a b
 
-  pub node-passes : (A : Above) (d : ℕ) (F : Figures) (ps : List Pending) (t : Tree) → Limits P A d t
+  pub node-passes : (A : Above) (d : ℕ) (F : Bounded) (ps : List Pending) (t : Tree) → Limits P A d t
       → FormPasses P (nodes-due F (pending A d ∷ ps)) (map ended (node-lines t)) (nodes-due (add P A F t) ps)
-  unfolding Limits node-lines add tests next after-node kind-of split-again too-deep
+  unfolding Limits node-lines add tests next-due after-node line-kind-of split-again too-deep
   node-passes A d F ps (split U t x y) l =
       also (split-good P F A d ps U t (l .0) (l .1) (l .2) (l .3))
       (rw (map-both (node-lines x) (node-lines y))

@@ -8,61 +8,61 @@ use Prim.Native.Nat.{ℕ}
 use native.Mathlib.Omega.{arith}
 use Rattle.model.specs.Instance.{Instance}
 use Rattle.model.specs.Leaf.{any-stuck}
-use Rattle.text.specs.Lines.{Line, endTree}
+use Rattle.text.specs.Lines.{Line, end-tree}
 use Rattle.text.specs.Forms.{form-tests, word-tests, nothing-tests}
 use Rattle.text.specs.Writer.{writer-form}
-use Rattle.text.specs.Tests.{Test, _if_, First, this, after, tests-of-missing, tests-before}
+use Rattle.text.specs.Tests.{Test, _if_, FirstTrue, this, after, tests-of-missing, tests-before}
 use Rattle.text.specs.WellFormed.{of-form}
 use Rattle.text.proofs.Tests.{Every, first-every}
 use Rattle.text.proofs.WellFormed.{form-only}
-use Rattle.tree.specs.NodeLines.{kind-of, node-form, reserve-form, split-again, too-deep, not-short, not-stuck}
-use Rattle.tree.specs.Due.{Figures, Due, writer-due, nodes-due, reserve-due, nothing-due, tests, next, end}
+use Rattle.tree.specs.NodeLines.{line-kind-of, node-form, reserve-form, split-again, too-deep, not-short, not-stuck}
+use Rattle.tree.specs.Course.{Bounded, Due, writer-due, nodes-due, reserve-due, nothing-due, tests, next-due, end}
 
 -- ---- any tests, those of the form before the others
 
-none-first : (ts : List Test) → Every (λ n. of-form n ≡ false) ts → (n : ℕ) → First n (form-only ts) → ⊥
+none-first : (ts : List Test) → Every (λ n. of-form n ≡ false) ts → (n : ℕ) → FirstTrue n (form-only ts) → ⊥
 none-first [] h n f = first-every (λ _. ⊥) n [] tt f
 none-first (m if b ∷ ts) h n f = none-first ts (h .1) n (rw (h .0) at f)
 
-other-first : (ts : List Test) → Every (λ n. of-form n ≡ false) ts → (n : ℕ) → of-form n ≡ true → First n ts → ⊥
+other-first : (ts : List Test) → Every (λ n. of-form n ≡ false) ts → (n : ℕ) → of-form n ≡ true → FirstTrue n ts → ⊥
 other-first ts h n o f = let k = first-every (λ n. of-form n ≡ false) n ts h f in let z : _≡_ {A = ℕ} 0 1 = cc in omega arith
 
 module _ (bs : List Test) (others : Every (λ n. of-form n ≡ false) bs) where
-  forth : (ts : List Test) → Every (λ n. of-form n ≡ true) ts → (n : ℕ) → First n (form-only (ts ++ bs)) → (of-form n ≡ true) × First n (ts ++ bs)
+  forth : (ts : List Test) → Every (λ n. of-form n ≡ true) ts → (n : ℕ) → FirstTrue n (form-only (ts ++ bs)) → (of-form n ≡ true) × FirstTrue n (ts ++ bs)
   forth [] h n f = absurd (none-first bs others n f)
   forth (m if b ∷ ts) h n f = go n (rw (h .0) at f) (forth ts (h .1))
     where
-      go : (n : ℕ) → First n (m if b ∷ form-only (ts ++ bs)) → ((n : ℕ) → First n (form-only (ts ++ bs)) → (of-form n ≡ true) × First n (ts ++ bs))
-          → (of-form n ≡ true) × First n (m if b ∷ (ts ++ bs))
+      go : (n : ℕ) → FirstTrue n (m if b ∷ form-only (ts ++ bs)) → ((n : ℕ) → FirstTrue n (form-only (ts ++ bs)) → (of-form n ≡ true) × FirstTrue n (ts ++ bs))
+          → (of-form n ≡ true) × FirstTrue n (m if b ∷ (ts ++ bs))
       go n (this e) rec = (h .0, this e)
       go n (after e f) rec = let r = rec n f in (r .0, after e (r .1))
 
-  back : (ts : List Test) → Every (λ n. of-form n ≡ true) ts → (n : ℕ) → of-form n ≡ true → First n (ts ++ bs) → First n (form-only (ts ++ bs))
+  back : (ts : List Test) → Every (λ n. of-form n ≡ true) ts → (n : ℕ) → of-form n ≡ true → FirstTrue n (ts ++ bs) → FirstTrue n (form-only (ts ++ bs))
   back [] h n o f = absurd (other-first bs others n o f)
   back (m if b ∷ ts) h n o f = rw (h .0) (go n o f (back ts (h .1)))
     where
-      go : (n : ℕ) → of-form n ≡ true → First n (m if b ∷ (ts ++ bs)) → ((n : ℕ) → of-form n ≡ true → First n (ts ++ bs) → First n (form-only (ts ++ bs)))
-          → First n (m if b ∷ form-only (ts ++ bs))
+      go : (n : ℕ) → of-form n ≡ true → FirstTrue n (m if b ∷ (ts ++ bs)) → ((n : ℕ) → of-form n ≡ true → FirstTrue n (ts ++ bs) → FirstTrue n (form-only (ts ++ bs)))
+          → FirstTrue n (m if b ∷ form-only (ts ++ bs))
       go n o (this e) rec = this e
       go n o (after e f) rec = after e (rec n o f)
 
-  first-of-form : (ts : List Test) → Every (λ n. of-form n ≡ true) ts → (n : ℕ) → First n (form-only (ts ++ bs)) ↔ ((of-form n ≡ true) × First n (ts ++ bs))
+  first-of-form : (ts : List Test) → Every (λ n. of-form n ≡ true) ts → (n : ℕ) → FirstTrue n (form-only (ts ++ bs)) ↔ ((of-form n ≡ true) × FirstTrue n (ts ++ bs))
   first-of-form ts h n = (forth ts h n, λ p. back ts h n (p .0) (p .1))
 
 -- ---- the tests of a tree's lines
 
 pub form-first : (P : Instance) (s : Due) (left : List Line) (n : ℕ)
-    → First n (tests-before (λ u l. form-only (tests P u l)) (next P) end s left) ↔ ((of-form n ≡ true) × First n (tests-before (tests P) (next P) end s left))
+    → FirstTrue n (tests-before (λ u l. form-only (tests P u l)) (next-due P) end s left) ↔ ((of-form n ≡ true) × FirstTrue n (tests-before (tests P) (next-due P) end s left))
 unfolding tests
 form-first P s [] n = go (end s)
   where
-    go : (o : Option Figures) → First n (tests-of-missing (λ u l. form-only (tests P u l)) (next P) end o) ↔ ((of-form n ≡ true) × First n (tests-of-missing (tests P) (next P) end o))
+    go : (o : Option Bounded) → FirstTrue n (tests-of-missing (λ u l. form-only (tests P u l)) (next-due P) end o) ↔ ((of-form n ≡ true) × FirstTrue n (tests-of-missing (tests P) (next-due P) end o))
     go none = first-of-form [] tt (12 if true ∷ []) (refl, tt) n
     go (some v) = first-of-form [] tt [] tt n
 form-first P writer-due (x ∷ left) n = first-of-form [] tt (form-tests writer-form x []) (refl, (refl, (refl, tt))) n
-form-first P (nodes-due F []) (x ∷ left) n = first-of-form [] tt (word-tests endTree x) (refl, tt) n
+form-first P (nodes-due F []) (x ∷ left) n = first-of-form [] tt (word-tests end-tree x) (refl, tt) n
 form-first P (nodes-due F (p ∷ ps)) (x ∷ left) n =
-    let k = kind-of x in
+    let k = line-kind-of x in
     first-of-form (33 if not-short P (p .above) k x ∷ 34 if not-stuck P (p .above) k x ∷ []) (refl, (refl, tt))
     (form-tests (node-form P k) x (31 if split-again P (p .above) k x ∷ 32 if too-deep (p .depth) k ∷ [])) (refl, (refl, (refl, (refl, (refl, tt))))) n
 form-first P (reserve-due F A q ps) (x ∷ left) n =

@@ -7,51 +7,51 @@ use native.Mathlib.Omega.{arith}
 use lib.Dec.{eqb}
 use lib.ListN.{drop}
 use borrow.Author.Tests.{not-true, ne-eqb}
-use Rattle.text.specs.Lines.{Line, missing, unended, ended, bytesOf, due, longer, cutAt, linesOf, lineAt, oneLine, begins}
+use Rattle.text.specs.Lines.{Line, missing, unended, ended, bytes-of, due, longer, cut-at, lines-of, line-at, one-line, begins}
 use Rattle.text.proofs.Cuts.{and-both}
 use Rattle.tree.specs.Rendering.{split-key, short-key, stuck-key}
-use Rattle.tree.specs.NodeLines.{split-line, short-line, stuck-line, price-line, kind-of}
+use Rattle.tree.specs.NodeLines.{split-line, short-line, stuck-line, price-line, line-kind-of}
 
-longer-bytes : (b : ℕ) (l : Line) → bytesOf (longer b l) ≡ b ∷ bytesOf l
+longer-bytes : (b : ℕ) (l : Line) → bytes-of (longer b l) ≡ b ∷ bytes-of l
 longer-bytes b missing = refl
 longer-bytes b (unended x) = refl
 longer-bytes b (ended x) = refl
 
-begins-due : (key t : List ℕ) → oneLine key ≡ true → begins key (bytesOf (due (linesOf t))) ≡ begins key t
+begins-due : (key t : List ℕ) → one-line key ≡ true → begins key (bytes-of (due (lines-of t))) ≡ begins key t
 begins-due [] t e = refl
 begins-due (k ∷ key) [] e = refl
 begins-due (k ∷ key) (b ∷ t) e =
-    let p = and-both (not (eqb k 10)) (oneLine key) e in
+    let p = and-both (not (eqb k 10)) (one-line key) e in
     go (eqb b 10) refl (not-true (eqb k 10) (p .0)) (begins-due key t (p .1))
   where
-    go : (x : Bool) → eqb b 10 ≡ x → eqb k 10 ≡ false → begins key (bytesOf (due (linesOf t))) ≡ begins key t
-        → begins (k ∷ key) (bytesOf (due (cutAt x b (linesOf t)))) ≡ (eqb b k && begins key t)
+    go : (x : Bool) → eqb b 10 ≡ x → eqb k 10 ≡ false → begins key (bytes-of (due (lines-of t))) ≡ begins key t
+        → begins (k ∷ key) (bytes-of (due (cut-at x b (lines-of t)))) ≡ (eqb b k && begins key t)
     go true u v rec =
         let n : eqb b k ≡ false = ne-eqb b k (λ q. let z : _≡_ {A = Bool} true false = sym u ∙ ap (λ (x : ℕ). eqb x 10) q ∙ v in let y : _≡_ {A = ℕ} 0 1 = cc in omega arith) in
         rw n refl
-    go false u v rec = ap (begins (k ∷ key)) (longer-bytes b (due (linesOf t))) ∙ ap (λ (x : Bool). eqb b k && x) rec
+    go false u v rec = ap (begins (k ∷ key)) (longer-bytes b (due (lines-of t))) ∙ ap (λ (x : Bool). eqb b k && x) rec
 
 -- what `find_kind` answers at each return
 module _ (text : List ℕ) (here : ℕ) where
-  by-keys : kind-of (lineAt text here)
+  by-keys : line-kind-of (line-at text here)
       ≡ cond (begins split-key (drop here text)) split-line
       (cond (begins short-key (drop here text)) short-line (cond (begins stuck-key (drop here text)) stuck-line price-line))
-  unfolding kind-of
+  unfolding line-kind-of
   by-keys =
-      ap (λ (x : Bool). cond x split-line (cond (begins short-key (bytesOf (lineAt text here))) short-line (cond (begins stuck-key (bytesOf (lineAt text here))) stuck-line price-line))) (begins-due split-key (drop here text) refl)
-      ∙ ap (λ (x : Bool). cond (begins split-key (drop here text)) split-line (cond x short-line (cond (begins stuck-key (bytesOf (lineAt text here))) stuck-line price-line))) (begins-due short-key (drop here text) refl)
+      ap (λ (x : Bool). cond x split-line (cond (begins short-key (bytes-of (line-at text here))) short-line (cond (begins stuck-key (bytes-of (line-at text here))) stuck-line price-line))) (begins-due split-key (drop here text) refl)
+      ∙ ap (λ (x : Bool). cond (begins split-key (drop here text)) split-line (cond x short-line (cond (begins stuck-key (bytes-of (line-at text here))) stuck-line price-line))) (begins-due short-key (drop here text) refl)
       ∙ ap (λ (x : Bool). cond (begins split-key (drop here text)) split-line (cond (begins short-key (drop here text)) short-line (cond x stuck-line price-line))) (begins-due stuck-key (drop here text) refl)
 
-  pub split-there : begins split-key (drop here text) ≡ true → split-line ≡ kind-of (lineAt text here)
+  pub split-there : begins split-key (drop here text) ≡ true → split-line ≡ line-kind-of (line-at text here)
   split-there e = sym (by-keys ∙ rw e refl)
 
   module _ (e : begins split-key (drop here text) ≡ false) where
-    pub short-there : begins short-key (drop here text) ≡ true → short-line ≡ kind-of (lineAt text here)
+    pub short-there : begins short-key (drop here text) ≡ true → short-line ≡ line-kind-of (line-at text here)
     short-there f = sym (by-keys ∙ rw (e, f) refl)
 
     module _ (f : begins short-key (drop here text) ≡ false) where
-      pub stuck-there : begins stuck-key (drop here text) ≡ true → stuck-line ≡ kind-of (lineAt text here)
+      pub stuck-there : begins stuck-key (drop here text) ≡ true → stuck-line ≡ line-kind-of (line-at text here)
       stuck-there g = sym (by-keys ∙ rw (e, f, g) refl)
 
-      pub price-there : begins stuck-key (drop here text) ≡ false → price-line ≡ kind-of (lineAt text here)
+      pub price-there : begins stuck-key (drop here text) ≡ false → price-line ≡ line-kind-of (line-at text here)
       price-there g = sym (by-keys ∙ rw (e, f, g) refl)

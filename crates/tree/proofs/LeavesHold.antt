@@ -20,10 +20,10 @@ use Rattle.text.proofs.Accepted.{rendered-numbers}
 use Rattle.text.proofs.Tests.{good-none}
 use Rattle.text.proofs.Verdicts.{form-passes}
 use Rattle.tree.specs.Rendering.{split-key, short-key, stuck-key, price-key, node-lines, lines-after}
-use Rattle.tree.specs.NodeLines.{short-line, stuck-line, kind-of, node-form, reserve-form, named, not-short, not-stuck}
+use Rattle.tree.specs.NodeLines.{short-line, stuck-line, line-kind-of, node-form, reserve-form, named, not-short, not-stuck}
 use Rattle.tree.specs.Places.{HoldsAmong}
 use Rattle.tree.specs.Refusals.{WrittenTree}
-use Rattle.tree.specs.Due.{Figures, by-writer, with-split, with-leaf, Pending, pending, Due, writer-due, nodes-due, reserve-due, tests, after-node, next, judge}
+use Rattle.tree.specs.Course.{Bounded, by-writer, with-split, with-leaf, Pending, pending, Due, writer-due, nodes-due, reserve-due, tests, after-node, next-due, judge}
 use Rattle.tree.proofs.Lines.{one-fits}
 use Rattle.tree.proofs.NodeLines.{rules, is-T, not-T, split-good}
 use Rattle.tree.proofs.Complete.{Passes, writer-good}
@@ -33,9 +33,9 @@ use Rattle.tree.proofs.FormLines.{Limited}
 module _ (P : Instance) where
   -- ---- at its last line
 
-  module _ (A : Above) (d : ℕ) (F : Figures) (ps : List Pending) where
+  module _ (A : Above) (d : ℕ) (F : Bounded) (ps : List Pending) where
     short-held : (t : ℕ) → t < P .periods → None (tests P (nodes-due F (pending A d ∷ ps)) (ended (plain-line short-key (suc t ∷ [])))) → Holds P A (short t)
-    unfolding tests kind-of not-short Holds
+    unfolding tests line-kind-of not-short Holds
     short-held t h n =
         let l = ended (plain-line short-key (suc t ∷ [])) in
         let f = node-form P short-line in
@@ -44,7 +44,7 @@ module _ (P : Instance) where
         (h, ltb-true _ _ (not-false _ (rw v at g)))
 
     stuck-held : (U : ℕ) → U < length (P .units) → None (tests P (nodes-due F (pending A d ∷ ps)) (ended (plain-line stuck-key (suc U ∷ [])))) → Holds P A (stuck U)
-    unfolding tests kind-of not-stuck Holds
+    unfolding tests line-kind-of not-stuck Holds
     stuck-held U h n =
         let l = ended (plain-line stuck-key (suc U ∷ [])) in
         let f = node-form P stuck-line in
@@ -87,22 +87,22 @@ module _ (P : Instance) where
   among ps ts e h = subst (λ (i : ℕ). Among ps i ts) e h
 
   -- what is due after a line, by what the line is
-  moved : (s : Due) {s′ s″ u : Due} {x y : Line} (ls : List Line) → next P s x ≡ s′ → x ≡ y → next P s y ≡ s″ → Passes P s′ ls u → Passes P s″ ls u
-  moved s {s′} {s″} {u} ls d e k h = subst (λ (v : Due). Passes P v ls u) (sym d ∙ ap (next P s) e ∙ k) h
+  moved : (s : Due) {s′ s″ u : Due} {x y : Line} (ls : List Line) → next-due P s x ≡ s′ → x ≡ y → next-due P s y ≡ s″ → Passes P s′ ls u → Passes P s″ ls u
+  moved s {s′} {s″} {u} ls d e k h = subst (λ (v : Due). Passes P v ls u) (sym d ∙ ap (next-due P s) e ∙ k) h
 
-  after-good : (s s′ : Due) (x : Line) → judge P s x ≡ good s′ → next P s x ≡ s′
+  after-good : (s s′ : Due) (x : Line) → judge P s x ≡ good s′ → next-due P s x ≡ s′
   unfolding judge
-  after-good s s′ x e = good-none (next P s x) s′ (tests P s x) e .1
+  after-good s s′ x e = good-none (next-due P s x) s′ (tests P s x) e .1
 
   -- a reserve line that passes, and the lines behind it
-  past-reserve : (F : Figures) (A : Above) (q r : List ℕ) (ps : List Pending) (y : Line) (ls : List Line) (s : Due) → Passes P (reserve-due F A q ps) (y ∷ ls) s
-      → Holds P A (price q r) × Passes P (next P (reserve-due F A q ps) y) ls s
+  past-reserve : (F : Bounded) (A : Above) (q r : List ℕ) (ps : List Pending) (y : Line) (ls : List Line) (s : Due) → Passes P (reserve-due F A q ps) (y ∷ ls) s
+      → Holds P A (price q r) × Passes P (next-due P (reserve-due F A q ps) y) ls s
   past-reserve F A q r ps y ls s (one-more n d h) = (price-held A 0 F ps q r y n, subst (λ (v : Due). Passes P v ls s) (sym d) h)
 
   -- lines that pass, and begin those of trees for the nodes that are due
-  passed-among : (ls : List Line) (F : Figures) (ps : List Pending) (s : Due) (ts : List Tree) → Limited P ps ts → (more : List Line)
+  passed-among : (ls : List Line) (F : Bounded) (ps : List Pending) (s : Due) (ts : List Tree) → Limited P ps ts → (more : List Line)
       → ls ++ more ≡ map ended (forest-lines ts) → Passes P (nodes-due F ps) ls s → Among ps (length ls) ts
-  unfolding Limits Holds HoldsAmong node-lines next after-node kind-of
+  unfolding Limits Holds HoldsAmong node-lines next-due after-node line-kind-of
   passed-among [] F ps s ts l more e h = none-among ps ts 0 refl
   passed-among (x ∷ ls) F [] s ts l more e h = tt
   passed-among (x ∷ ls) F (p ∷ ps) s [] l more e h = absurd l

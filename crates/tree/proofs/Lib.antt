@@ -13,14 +13,14 @@ pub mod LinesBegin
 pub mod LeavesHold
 pub mod FormTests
 pub mod WhichLine
-pub mod Answers
+pub mod Acceptance
 pub mod Unique
 pub mod Witnesses
 pub mod RangeEnds
 pub mod ReserveLine
 pub mod Rows
 pub mod ReadLines
-pub mod Steps
+pub mod WaysThrough
 pub mod Marked
 pub mod Keys
 pub mod Leaves

@@ -10,7 +10,7 @@ use Rattle.model.specs.Instance.{Instance}
 use Rattle.model.specs.Ranges.{All, GoodPrice}
 use Rattle.model.specs.Above.{root}
 use Rattle.model.specs.Tree.{Tree, price, Limits, Multipliers}
-use Rattle.text.specs.Lines.{Line, ended, endTree}
+use Rattle.text.specs.Lines.{Line, ended, end-tree}
 use Rattle.text.specs.Course.{good}
 use Rattle.text.specs.Rendering.{plain-line}
 use Rattle.text.specs.Writer.{writer-key}
@@ -22,7 +22,7 @@ use Rattle.text.proofs.WellFormed.{form-only, none-of-form}
 use Rattle.tree.specs.Rendering.{reserve-key, node-lines, lines-after}
 use Rattle.tree.specs.NodeLines.{reserve-form}
 use Rattle.tree.specs.Refusals.{WrittenTree, InLimits}
-use Rattle.tree.specs.Due.{Figures, by-writer, Pending, pending, Due, writer-due, nodes-due, reserve-due, nothing-due, tests, next, judge, end}
+use Rattle.tree.specs.Course.{Bounded, by-writer, Pending, pending, Due, writer-due, nodes-due, reserve-due, nothing-due, tests, next-due, judge, end}
 use Rattle.tree.proofs.Bounds.{add}
 use Rattle.tree.proofs.Lines.{multipliers-fit}
 use Rattle.tree.proofs.Complete.{writer-good, end-good}
@@ -45,11 +45,11 @@ module _ (P : Instance) (some : 1 ≤ P .periods) where
   -- lines that complete a text from where s is due on
   record Completes (s : Due) : Type 0 where
     pub lines : List Line
-    pub gives : Figures
-    pub all : AllPassed (λ u l. form-only (tests P u l)) (next P) end gives s lines
+    pub gives : Bounded
+    pub all : AllPassed (λ u l. form-only (tests P u l)) (next-due P) end gives s lines
 
   -- one line more in front
-  one-before : {s s′ : Due} (x : Line) → None (form-only (tests P s x)) → next P s x ≡ s′ → Completes s′ → Completes s
+  one-before : {s s′ : Due} (x : Line) → None (form-only (tests P s x)) → next-due P s x ≡ s′ → Completes s′ → Completes s
   one-before x n e c = record {
     lines = x ∷ c .lines;
     gives = c .gives;
@@ -58,14 +58,14 @@ module _ (P : Instance) (some : 1 ≤ P .periods) where
 
   good-before : {s s′ : Due} (x : Line) → judge P s x ≡ good s′ → Completes s′ → Completes s
   unfolding judge
-  good-before {s} {s′} x e c = let g = good-none (next P s x) s′ (tests P s x) e in one-before x (none-of-form (tests P s x) (g .0)) (g .1) c
+  good-before {s} {s′} x e c = let g = good-none (next-due P s x) s′ (tests P s x) e in one-before x (none-of-form (tests P s x) (g .0)) (g .1) c
 
-  nothing-more : (F : Figures) → Completes (nothing-due F)
+  nothing-more : (F : Bounded) → Completes (nothing-due F)
   nothing-more F = record { lines = []; gives = F; all = record { last = nothing-due F; passed = none-yet; ends = refl } }
 
-  from-nodes : (ps : List Pending) (F : Figures) → Completes (nodes-due F ps)
+  from-nodes : (ps : List Pending) (F : Bounded) → Completes (nodes-due F ps)
   unfolding Limits
-  from-nodes [] F = good-before (ended endTree) (end-good P F) (nothing-more F)
+  from-nodes [] F = good-before (ended end-tree) (end-good P F) (nothing-more F)
   from-nodes (p ∷ ps) F =
       let t = price zeros zeros in
       let c = from-nodes ps (add P (p .above) F t) in
@@ -80,7 +80,7 @@ module _ (P : Instance) (some : 1 ≤ P .periods) where
       }
 
   completes : (s : Due) → Completes s
-  unfolding tests next
+  unfolding tests next-due
   completes writer-due = good-before (ended (plain-line writer-key (1 ∷ []))) (writer-good P 1 (omega arith, omega arith)) (from-nodes (pending root 0 ∷ []) (by-writer 1))
   completes (nodes-due F ps) = from-nodes ps F
   completes (reserve-due F A q ps) =

@@ -13,7 +13,7 @@ use Rattle.model.specs.Instance.{Instance}
 use Rattle.model.specs.Ranges.{GoodWriter}
 use Rattle.model.specs.Above.{Above, root, fix}
 use Rattle.model.specs.Tree.{Tree, split, short, stuck, price, Limits, Holds}
-use Rattle.text.specs.Lines.{Line, ended, endTree}
+use Rattle.text.specs.Lines.{Line, ended, end-tree}
 use Rattle.text.specs.Course.{good}
 use Rattle.text.specs.Tests.{Test, None, Passed, none-yet, one-more}
 use Rattle.text.proofs.Courses.{passed-both}
@@ -22,7 +22,7 @@ use Rattle.text.proofs.WellFormed.{form-only, none-of-form}
 use Rattle.tree.specs.Rendering.{node-lines, lines-after}
 use Rattle.tree.specs.Places.{Place, node-at, reserve-at, LineAt, first-line, reserve-line, in-first, in-second, HoldsAmong}
 use Rattle.tree.specs.Refusals.{WrittenTree}
-use Rattle.tree.specs.Due.{Figures, by-writer, with-split, Pending, pending, Due, writer-due, nodes-due, reserve-due, nothing-due, tests, next, judge, end}
+use Rattle.tree.specs.Course.{Bounded, by-writer, with-split, Pending, pending, Due, writer-due, nodes-due, reserve-due, nothing-due, tests, next-due, judge, end}
 use Rattle.tree.proofs.Bounds.{add}
 use Rattle.tree.proofs.Written.{map-both}
 use Rattle.tree.proofs.NodeLines.{split-good, price-good}
@@ -33,15 +33,15 @@ use Rattle.tree.proofs.LinePlaces.{line-among, line-placed}
 -- ---- what is due where a line stands
 
 pub data DueAt : Place → Due → Type 0 where
-  node-due : {A : Above} {d : ℕ} {F : Figures} {ps : List Pending} → DueAt (node-at A d) (nodes-due F (pending A d ∷ ps))
-  reserve-there : {A : Above} {F : Figures} {q : List ℕ} {ps : List Pending} → DueAt (reserve-at A q) (reserve-due F A q ps)
+  node-due : {A : Above} {d : ℕ} {F : Bounded} {ps : List Pending} → DueAt (node-at A d) (nodes-due F (pending A d ∷ ps))
+  reserve-there : {A : Above} {F : Bounded} {q : List ℕ} {ps : List Pending} → DueAt (reserve-at A q) (reserve-due F A q ps)
 
 -- s is due where line k of the text is
 pub data Stands (v : WrittenTree) (k : ℕ) : Due → Type 0 where
   at-writer : k ≡ 0 → Stands v k writer-due
   at-place : {i : ℕ} {w : Place} {s : Due} → k ≡ suc i → LineAt root 0 (v .tree) i w → DueAt w s → Stands v k s
-  at-end : {F : Figures} → k ≡ suc (length (node-lines (v .tree))) → Stands v k (nodes-due F [])
-  past-end : {F : Figures} → k ≡ suc (suc (length (node-lines (v .tree)))) → Stands v k (nothing-due F)
+  at-end : {F : Bounded} → k ≡ suc (length (node-lines (v .tree))) → Stands v k (nodes-due F [])
+  past-end : {F : Bounded} → k ≡ suc (suc (length (node-lines (v .tree)))) → Stands v k (nothing-due F)
 
 -- ---- any tests that good lines pass, and that ask of a tree's leaves what `Asked` says, `AskedAmong` of those that end among its first k lines
 
@@ -49,8 +49,8 @@ module _ (P : Instance) (tests′ : Due → Line → List Test) (Asked : Above �
   pub record Takes : Type 0 where
     -- a good line passes, and so do the lines of a whole tree
     pub good-line : (s s′ : Due) (x : Line) → judge P s x ≡ good s′ → None (tests′ s x)
-    pub whole : (A : Above) (d : ℕ) (F : Figures) (ps : List Pending) (t : Tree) → Limits P A d t → Asked A t
-        → Passed tests′ (next P) (nodes-due F (pending A d ∷ ps)) (map ended (node-lines t)) (nodes-due (add P A F t) ps)
+    pub whole : (A : Above) (d : ℕ) (F : Bounded) (ps : List Pending) (t : Tree) → Limits P A d t → Asked A t
+        → Passed tests′ (next-due P) (nodes-due F (pending A d ∷ ps)) (map ended (node-lines t)) (nodes-due (add P A F t) ps)
     -- what is asked of the leaves among all lines is what is asked of the tree; of a split it is asked of its two trees
     pub all : (A : Above) (k : ℕ) (t : Tree) → length (node-lines t) ≤ k → AskedAmong A k t → Asked A t
     pub first : (A : Above) (U t k : ℕ) (x y : Tree) → AskedAmong A (suc k) (split U t x y) → AskedAmong (fix U t false A) k x
@@ -58,15 +58,15 @@ module _ (P : Instance) (tests′ : Due → Line → List Test) (Asked : Above �
 
   module _ (some : 1 ≤ P .periods) (J : Takes) where
     abbrev Passes : Due → List Line → Due → Type 0
-    Passes s ls s′ = Passed tests′ (next P) s ls s′
+    Passes s ls s′ = Passed tests′ (next-due P) s ls s′
 
     -- one good line in front
     also : {s s′ s″ : Due} {x : Line} {ls : List Line} → judge P s x ≡ good s′ → Passes s′ ls s″ → Passes s (x ∷ ls) s″
     unfolding judge
-    also {s} {s′} {s″} {x} e p = one-more (J .good-line s s′ x e) (good-none (next P s x) s′ (tests P s x) e .1) p
+    also {s} {s′} {s″} {x} e p = one-more (J .good-line s s′ x e) (good-none (next-due P s x) s′ (tests P s x) e .1) p
 
     -- the lines of a node before one of its lines
-    to-place : {A : Above} {d : ℕ} {x : Tree} {k : ℕ} {w : Place} → LineAt A d x k w → Limits P A d x → AskedAmong A k x → (F : Figures) (ps : List Pending)
+    to-place : {A : Above} {d : ℕ} {x : Tree} {k : ℕ} {w : Place} → LineAt A d x k w → Limits P A d x → AskedAmong A k x → (F : Bounded) (ps : List Pending)
         → (s : Due) × DueAt w s × Passes (nodes-due F (pending A d ∷ ps)) (take k (map ended (node-lines x))) s
     unfolding Limits node-lines
     to-place {A} {d} first-line l g F ps = (nodes-due F (pending A d ∷ ps), node-due, none-yet)
@@ -88,7 +88,7 @@ module _ (P : Instance) (tests′ : Due → Line → List Test) (Asked : Above �
           r .0,
           r .1,
           also (split-good P F A d ps U t (l .0) (l .1) (l .2) (l .3))
-              (rw e (passed-both tests′ (next P) end (map ended (node-lines x)) (take k (map ended (node-lines y)))
+              (rw e (passed-both tests′ (next-due P) end (map ended (node-lines x)) (take k (map ended (node-lines y)))
               (J .whole (fix U t false A) (suc d) (with-split F) (pending (fix U t true A) (suc d) ∷ ps) x (l .4) h) (r .2))),
         )
 
@@ -100,21 +100,21 @@ module _ (P : Instance) (tests′ : Due → Line → List Test) (Asked : Above �
       abbrev nodes : List Line
       nodes = map ended (node-lines (v .tree))
 
-      written : (i : ℕ) → take i (map ended (node-lines (v .tree) ++ (endTree ∷ []))) ≡ take i (nodes ++ (ended endTree ∷ []))
-      written i = ap (take i) (map-both (node-lines (v .tree)) (endTree ∷ []))
+      written : (i : ℕ) → take i (map ended (node-lines (v .tree) ++ (end-tree ∷ []))) ≡ take i (nodes ++ (ended end-tree ∷ []))
+      written i = ap (take i) (map-both (node-lines (v .tree)) (end-tree ∷ []))
 
       behind : (i j : ℕ) → i ≡ length (node-lines (v .tree)) + j
-          → take i (map ended (node-lines (v .tree) ++ (endTree ∷ []))) ≡ nodes ++ take j (ended endTree ∷ [])
+          → take i (map ended (node-lines (v .tree) ++ (end-tree ∷ []))) ≡ nodes ++ take j (ended end-tree ∷ [])
       behind i j e =
           written i
-          ∙ ap (λ (m : ℕ). take m (nodes ++ (ended endTree ∷ []))) (e ∙ ap (λ (m : ℕ). m + j) (sym (length-map (node-lines (v .tree)) ended)))
-          ∙ take-append-add nodes (ended endTree ∷ []) j
+          ∙ ap (λ (m : ℕ). take m (nodes ++ (ended end-tree ∷ []))) (e ∙ ap (λ (m : ℕ). m + j) (sym (length-map (node-lines (v .tree)) ended)))
+          ∙ take-append-add nodes (ended end-tree ∷ []) j
 
       before : (i : ℕ) → i < length (node-lines (v .tree)) → AskedAmong root i (v .tree) → Comes (suc i)
       before i h g =
           let w = line-placed root 0 (v .tree) i h in
           let r = to-place (w .1) within g (by-writer (v .writer)) [] in
-          let e = written i ∙ take-append-le i nodes (ended endTree ∷ []) (omega (arith, length-map (node-lines (v .tree)) ended)) in
+          let e = written i ∙ take-append-le i nodes (ended end-tree ∷ []) (omega (arith, length-map (node-lines (v .tree)) ended)) in
           (r .0, at-place refl (w .1) (r .1), also (writer-good P (v .writer) ok) (rw e (r .2)))
 
       all-nodes : (i : ℕ) → length (node-lines (v .tree)) ≤ i → AskedAmong root i (v .tree)
@@ -128,13 +128,13 @@ module _ (P : Instance) (tests′ : Due → Line → List Test) (Asked : Above �
           go zero e = (
             nodes-due (add P root (by-writer (v .writer)) (v .tree)) [],
             at-end (omega arith),
-            also (writer-good P (v .writer) ok) (rw (behind i 0 e) (passed-both tests′ (next P) end nodes [] (all-nodes i h g) none-yet)),
+            also (writer-good P (v .writer) ok) (rw (behind i 0 e) (passed-both tests′ (next-due P) end nodes [] (all-nodes i h g) none-yet)),
           )
           go (suc zero) e = (
             nothing-due (add P root (by-writer (v .writer)) (v .tree)),
             past-end (omega arith),
             also (writer-good P (v .writer) ok)
-                (rw (behind i 1 e) (passed-both tests′ (next P) end nodes (ended endTree ∷ []) (all-nodes i h g) (also (end-good P (add P root (by-writer (v .writer)) (v .tree))) none-yet))),
+                (rw (behind i 1 e) (passed-both tests′ (next-due P) end nodes (ended end-tree ∷ []) (all-nodes i h g) (also (end-good P (add P root (by-writer (v .writer)) (v .tree))) none-yet))),
           )
           go (suc (suc j)) e = absurd (omega arith)
 
@@ -142,7 +142,7 @@ module _ (P : Instance) (tests′ : Due → Line → List Test) (Asked : Above �
       comes zero h g = (writer-due, at-writer refl, none-yet)
       comes (suc i) h g =
           let q : suc i - 1 ≡ i = omega arith in
-          let m = length-append (node-lines (v .tree)) (endTree ∷ []) in
+          let m = length-append (node-lines (v .tree)) (end-tree ∷ []) in
           go (ltb i (length (node-lines (v .tree)))) refl (omega arith) (subst (λ (j : ℕ). AskedAmong root j (v .tree)) q g)
         where
           go : (b : Bool) → ltb i (length (node-lines (v .tree))) ≡ b → i < 2 + length (node-lines (v .tree)) → AskedAmong root i (v .tree) → Comes (suc i)
@@ -163,7 +163,7 @@ module _ (P : Instance) (tests′ : Due → Line → List Test) (Asked : Above �
 pub form-takes : (P : Instance) → 1 ≤ P .periods → Takes P (λ s l. form-only (tests P s l)) (λ A t. Unit {0}) (λ A k t. Unit {0})
 unfolding judge
 form-takes P some = record {
-  good-line = λ s s′ x e. none-of-form (tests P s x) (good-none (next P s x) s′ (tests P s x) e .0);
+  good-line = λ s s′ x e. none-of-form (tests P s x) (good-none (next-due P s x) s′ (tests P s x) e .0);
   whole = λ A d F ps t l h. node-passes P some A d F ps t l;
   all = λ A k t m h. tt;
   first = λ A U t k x y h. tt;
@@ -186,7 +186,7 @@ all-hold P A k (price q s) m h = h (omega arith)
 pub all-takes : (P : Instance) → 1 ≤ P .periods → Takes P (tests P) (Holds P) (HoldsAmong P)
 unfolding judge HoldsAmong
 all-takes P some = record {
-  good-line = λ s s′ x e. good-none (next P s x) s′ (tests P s x) e .0;
+  good-line = λ s s′ x e. good-none (next-due P s x) s′ (tests P s x) e .0;
   whole = node-good P some;
   all = all-hold P;
   first = λ A U t k x y h. subst (λ (j : ℕ). HoldsAmong P (fix U t false A) j x) (omega arith) (h .0);

@@ -13,7 +13,7 @@ use Rattle.model.specs.Above.{Mark, free, fixed, Above, fix}
 use Rattle.model.specs.Leaf.{available, stuck-at, any-stuck, leaf-value}
 use Rattle.model.specs.Tree.{Multipliers, never, number}
 use Rattle.text.specs.Lines.{Line, ended}
-use Rattle.text.specs.Forms.{withinAll, numbers-of}
+use Rattle.text.specs.Forms.{all-within, numbers-of}
 use Rattle.text.specs.Forms as forms
 use Rattle.text.specs.Course.{good}
 use Rattle.text.specs.Rendering.{plain-line}
@@ -24,12 +24,12 @@ use Rattle.text.proofs.Tests.{none-good, good-none}
 use Rattle.text.proofs.Plain.{plain-was, plain-passed}
 use Rattle.text.proofs.Verdicts.{form-passes}
 use Rattle.tree.specs.Rendering.{split-key, short-key, stuck-key, price-key, reserve-key}
-use Rattle.tree.specs.NodeLines.{Kind, split-line, short-line, stuck-line, price-line, kind-of, node-form, reserve-form, named, is-fixed, split-again, too-deep, not-short, not-stuck, node-tests, reserve-tests}
-use Rattle.tree.specs.Due.{Figures, Pending, pending, with-split, with-leaf, Due, nodes-due, reserve-due, tests, next, after-node, judge}
+use Rattle.tree.specs.NodeLines.{LineKind, split-line, short-line, stuck-line, price-line, line-kind-of, node-form, reserve-form, named, is-fixed, split-again, too-deep, not-short, not-stuck, node-tests, reserve-tests}
+use Rattle.tree.specs.Course.{Bounded, Pending, pending, with-split, with-leaf, Due, nodes-due, reserve-due, tests, next-due, after-node, judge}
 use Rattle.tree.proofs.Lines.{was-written, multipliers-fit, was-multipliers, one-fits, was-one}
 
 -- the tests of a node line after 12, 14, 13
-abbrev pub rules : Instance → Above → ℕ → Kind → Line → List Test
+abbrev pub rules : Instance → Above → ℕ → LineKind → Line → List Test
 rules P A d k l = 31 if split-again P A k l ∷ 32 if too-deep d k ∷ 33 if not-short P A k l ∷ 34 if not-stuck P A k l ∷ []
 
 -- ---- tests and facts
@@ -71,13 +71,13 @@ module _ (P : Instance) where
     pub unit : named (node-form P split-line) l 0 < length (P .units)
     pub period : named (node-form P split-line) l 1 < P .periods
 
-  pub was-split : (l : Line) → forms.good (node-form P split-line) l ≡ true → WasSplit l
+  pub was-split : (l : Line) → forms.good-line (node-form P split-line) l ≡ true → WasSplit l
   was-split l p =
       let w = was-written (node-form P split-line) refl l p in
       go (numbers-of (node-form P split-line) l) refl (w .line) (w .fits .count) (w .fits .range)
     where
       go : (vs : List ℕ) → numbers-of (node-form P split-line) l ≡ vs → l ≡ ended (plain-line split-key vs) → length vs ≡ 2
-          → withinAll vs (1 ∷ 1 ∷ []) (length (P .units) ∷ P .periods ∷ []) ≡ true
+          → all-within vs (1 ∷ 1 ∷ []) (length (P .units) ∷ P .periods ∷ []) ≡ true
           → WasSplit l
       go [] e line c r = absurd (omega arith)
       go (u ∷ []) e line c r = absurd (omega arith)
@@ -97,7 +97,7 @@ module _ (P : Instance) where
 
 -- ---- a node's line, written from a node within the limits and with its rule, is good
 
-module _ (P : Instance) (F : Figures) (A : Above) (d : ℕ) (ps : List Pending) where
+module _ (P : Instance) (F : Bounded) (A : Above) (d : ℕ) (ps : List Pending) where
   -- what stands at the place, judged
   abbrev pub At : Line → Due → Type 0
   At l s = judge P (nodes-due F (pending A d ∷ ps)) l ≡ good s
@@ -105,7 +105,7 @@ module _ (P : Instance) (F : Figures) (A : Above) (d : ℕ) (ps : List Pending) 
   pub split-good : (U t : ℕ) → U < length (P .units) → t < P .periods → A .marks U t ≡ free → d ≤ 63
       → At (ended (plain-line split-key (suc U ∷ suc t ∷ [])))
       (nodes-due (with-split F) (pending (fix U t false A) (suc d) ∷ pending (fix U t true A) (suc d) ∷ ps))
-  unfolding judge tests next kind-of after-node split-again too-deep not-short not-stuck
+  unfolding judge tests next-due line-kind-of after-node split-again too-deep not-short not-stuck
   split-good U t h k e b =
       let f = node-form P split-line in
       let l = ended (plain-line split-key (suc U ∷ suc t ∷ [])) in
@@ -121,7 +121,7 @@ module _ (P : Instance) (F : Figures) (A : Above) (d : ℕ) (ps : List Pending) 
 
   pub short-good : (t : ℕ) → t < P .periods → available (P .units) (A .marks) t < P .demand at t + P .spare at t
       → At (ended (plain-line short-key (suc t ∷ []))) (nodes-due (with-leaf F never) ps)
-  unfolding judge tests next kind-of after-node split-again too-deep not-short not-stuck
+  unfolding judge tests next-due line-kind-of after-node split-again too-deep not-short not-stuck
   short-good t h k =
       let f = node-form P short-line in
       let l = ended (plain-line short-key (suc t ∷ [])) in
@@ -134,7 +134,7 @@ module _ (P : Instance) (F : Figures) (A : Above) (d : ℕ) (ps : List Pending) 
 
   pub stuck-good : (U : ℕ) → U < length (P .units) → T (stuck-at (P .periods) (P .units) (A .marks) U)
       → At (ended (plain-line stuck-key (suc U ∷ []))) (nodes-due (with-leaf F never) ps)
-  unfolding judge tests next kind-of after-node split-again too-deep not-short not-stuck
+  unfolding judge tests next-due line-kind-of after-node split-again too-deep not-short not-stuck
   stuck-good U h k =
       let f = node-form P stuck-line in
       let l = ended (plain-line stuck-key (suc U ∷ [])) in
@@ -146,7 +146,7 @@ module _ (P : Instance) (F : Figures) (A : Above) (d : ℕ) (ps : List Pending) 
       (form-passes f l (rules P A d stuck-line l) .1 (p, (refl, (refl, (refl, (r, tt))))))
 
   pub price-good : 1 ≤ P .periods → (q : List ℕ) → Multipliers P q → At (ended (plain-line price-key q)) (reserve-due F A q ps)
-  unfolding judge tests next kind-of after-node split-again too-deep not-short not-stuck
+  unfolding judge tests next-due line-kind-of after-node split-again too-deep not-short not-stuck
   price-good some q m =
       let f = node-form P price-line in
       let l = ended (plain-line price-key q) in
@@ -159,13 +159,13 @@ module _ (P : Instance) (F : Figures) (A : Above) (d : ℕ) (ps : List Pending) 
   pub reserve-good : 1 ≤ P .periods → (q s : List ℕ) → Multipliers P s → T (not (any-stuck (P .periods) (P .units) (A .marks)))
       → judge P (reserve-due F A q ps) (ended (plain-line reserve-key s))
       ≡ good (nodes-due (with-leaf F (number (leaf-value P (A .marks) (λ t. q at t) (λ t. s at t)))) ps)
-  unfolding judge tests next
+  unfolding judge tests next-due
   reserve-good some q s m k =
       let f = reserve-form P in
       let l = ended (plain-line reserve-key s) in
       let w = multipliers-fit P reserve-key some s m in
       let p = rendered-good f false s w in
-      none-good (next P (reserve-due F A q ps) l) (reserve-tests P A l)
+      none-good (next-due P (reserve-due F A q ps) l) (reserve-tests P A l)
       (form-passes f l (35 if any-stuck (P .periods) (P .units) (A .marks) ∷ []) .1 (p, (T-not _ k, tt)))
       ∙ ap (λ (vs : List ℕ). good (nodes-due (with-leaf F (number (leaf-value P (A .marks) (λ t. q at t) (λ t. vs at t)))) ps)) (rendered-numbers f false s w)
 
@@ -183,7 +183,7 @@ module _ (P : Instance) (F : Figures) (A : Above) (d : ℕ) (ps : List Pending) 
         → NodeWas l (nodes-due (with-leaf F never) ps)
     price-was : (q : List ℕ) → l ≡ ended (plain-line price-key q) → Multipliers P q → NodeWas l (reserve-due F A q ps)
 
-  by-kind : (k : Kind) (l : Line) → None (node-tests P A d k l) → NodeWas l (after-node P F (pending A d) ps k l)
+  by-kind : (k : LineKind) (l : Line) → None (node-tests P A d k l) → NodeWas l (after-node P F (pending A d) ps k l)
   unfolding after-node split-again too-deep not-short not-stuck
   by-kind split-line l n =
       let g = form-passes (node-form P split-line) l (rules P A d split-line l) .0 n in
@@ -207,10 +207,10 @@ module _ (P : Instance) (F : Figures) (A : Above) (d : ℕ) (ps : List Pending) 
       price-was (numbers-of (node-form P price-line) l) (w .line) (was-multipliers P price-key l w)
 
   pub node-was : (l : Line) (s : Due) → At l s → NodeWas l s
-  unfolding judge tests next
+  unfolding judge tests next-due
   node-was l s e =
-      let g = good-none (after-node P F (pending A d) ps (kind-of l) l) s (node-tests P A d (kind-of l) l) e in
-      subst (λ (x : Due). NodeWas l x) (g .1) (by-kind (kind-of l) l (g .0))
+      let g = good-none (after-node P F (pending A d) ps (line-kind-of l) l) s (node-tests P A d (line-kind-of l) l) e in
+      subst (λ (x : Due). NodeWas l x) (g .1) (by-kind (line-kind-of l) l (g .0))
 
   pub record ReserveWas (q : List ℕ) (l : Line) (s′ : Due) : Type 0 where
     pub s : List ℕ
@@ -220,9 +220,9 @@ module _ (P : Instance) (F : Figures) (A : Above) (d : ℕ) (ps : List Pending) 
     pub due : s′ ≡ nodes-due (with-leaf F (number (leaf-value P (A .marks) (λ t. q at t) (λ t. s at t)))) ps
 
   pub reserve-was : (q : List ℕ) (l : Line) (s : Due) → judge P (reserve-due F A q ps) l ≡ good s → ReserveWas q l s
-  unfolding judge tests next
+  unfolding judge tests next-due
   reserve-was q l s e =
-      let g = good-none (next P (reserve-due F A q ps) l) s (reserve-tests P A l) e in
+      let g = good-none (next-due P (reserve-due F A q ps) l) s (reserve-tests P A l) e in
       let n = form-passes (reserve-form P) l (35 if any-stuck (P .periods) (P .units) (A .marks) ∷ []) .0 (g .0) in
       let w = plain-was reserve-key (P .periods) 0 1000000000 l (n .0) in
       record {

@@ -9,19 +9,19 @@ use lib.ListN.{drop}
 use Rattle.model.specs.Instance.{Instance}
 use Rattle.model.specs.Above.{Above}
 use Rattle.model.specs.Tree.{Bound}
-use Rattle.text.specs.Lines.{Line, missing, unended, ended, bytesOf, due, later, linesOf, lineAt}
-use Rattle.text.specs.Forms.{malformed, after}
+use Rattle.text.specs.Lines.{Line, missing, unended, ended, bytes-of, due, later, lines-of, line-at}
+use Rattle.text.specs.Forms.{malformed, place-after}
 use Rattle.text.specs.Course.{Found, refused, good, Judged, refused-at, judged-from}
 use Rattle.text.specs.Tests.{found}
 use Rattle.text.proofs.Tests.{found-refused-is, none-good, good-none}
-use Rattle.text.proofs.Steps as steps
+use Rattle.text.proofs.LineByLine as steps
 use Rattle.tree.specs.declared.figures.Tally.{Tally}
 use Rattle.tree.specs.declared.leaf.Read.{Read}
 use Rattle.tree.specs.declared.leaf.Read.the-variants.{Refused, Tree}
-use Rattle.tree.specs.NodeLines.{Kind, split-line, short-line, stuck-line, price-line, kind-of}
-use Rattle.tree.specs.Due.{Figures, Pending, pending, Due, writer-due, nodes-due, reserve-due, nothing-due, tests, next, after-node, judge, end}
-use Rattle.tree.specs.Coded.{figures, tally-of, none-read}
-use Rattle.tree.specs.Reading.{over, read-lines, read-from, node-read, trees-read, Placed}
+use Rattle.tree.specs.NodeLines.{LineKind, split-line, short-line, stuck-line, price-line, line-kind-of}
+use Rattle.tree.specs.Course.{Bounded, Pending, pending, Due, writer-due, nodes-due, reserve-due, nothing-due, tests, next-due, after-node, judge, end}
+use Rattle.tree.specs.Coded.{bounded, tally-of, none-read}
+use Rattle.tree.specs.ReadAnswers.{all-read, read-lines, read-from, node-read, trees-read, Placed}
 use Rattle.tree.proofs.Bounds.{coded-back}
 use Rattle.tree.proofs.Rows.{unread, Moved, ended-moved}
 
@@ -29,7 +29,7 @@ use Rattle.tree.proofs.Rows.{unread, Moved, ended-moved}
 
 -- a line that is missing is 12, whatever is due
 judge-missing : (P : Instance) (s : Due) → judge P s missing ≡ refused 12
-unfolding judge tests kind-of malformed
+unfolding judge tests line-kind-of malformed
 judge-missing P writer-due = refl
 judge-missing P (nodes-due F []) = refl
 judge-missing P (nodes-due F (p ∷ ps)) = refl
@@ -37,32 +37,32 @@ judge-missing P (reserve-due F A q ps) = refl
 judge-missing P (nothing-due F) = refl
 
 -- for a whole text
-abbrev pub from : Instance → List ℕ → ℕ → ℕ → Due → Judged Figures
-from P text at l s = judged-from (judge P) end l s (linesOf (drop at text))
+abbrev pub judged-at : Instance → List ℕ → ℕ → ℕ → Due → Judged Bounded
+judged-at P text at l s = judged-from (judge P) end l s (lines-of (drop at text))
 
 module _ (P : Instance) (text : List ℕ) (at l : ℕ) (s : Due) (e : end s ≡ none) where
-  pub step-refused : (n : ℕ) → judge P s (lineAt text at) ≡ refused n → from P text at l s ≡ refused-at n l
+  pub step-refused : (n : ℕ) → judge P s (line-at text at) ≡ refused n → judged-at P text at l s ≡ refused-at n l
   step-refused n j = steps.step-refused (judge P) end (judge-missing P) text at l s e n j
 
-  pub step-good : (s′ : Due) (place : ℕ) → judge P s (lineAt text at) ≡ good s′ → Moved text at place → from P text at l s ≡ from P text place (l + 1) s′
+  pub step-good : (s′ : Due) (place : ℕ) → judge P s (line-at text at) ≡ good s′ → Moved text at place → judged-at P text at l s ≡ judged-at P text place (l + 1) s′
   step-good s′ place j m =
       steps.step-good (judge P) end (judge-missing P) text at l s s′ place j (m .lines)
-      ∙ ap (λ (k : ℕ). from P text place k s′) (let q : suc l ≡ l + 1 = omega arith in q)
+      ∙ ap (λ (k : ℕ). judged-at P text place k s′) (let q : suc l ≡ l + 1 = omega arith in q)
 
 -- for a reader
 module _ (P : Instance) (text : List ℕ) (at l : ℕ) where
-  pub read-over : (F : Figures) → read-from P text at l (nodes-due F []) ≡ Tree at l (tally-of F)
+  pub read-over : (F : Bounded) → read-from P text at l (nodes-due F []) ≡ Tree at l (tally-of F)
   unfolding read-lines
-  read-over F = go (linesOf (drop at text))
+  read-over F = go (lines-of (drop at text))
     where
       go : (ls : List Line) → read-lines P at l (nodes-due F []) ls ≡ Tree at l (tally-of F)
       go [] = refl
       go (x ∷ ls) = refl
 
-  module _ (s : Due) (e : over s ≡ none) where
-    pub read-refused : (n : ℕ) → judge P s (lineAt text at) ≡ refused n → read-from P text at l s ≡ Refused n l
+  module _ (s : Due) (e : all-read s ≡ none) where
+    pub read-refused : (n : ℕ) → judge P s (line-at text at) ≡ refused n → read-from P text at l s ≡ Refused n l
     unfolding read-lines
-    read-refused n j = go (linesOf (drop at text)) j
+    read-refused n j = go (lines-of (drop at text)) j
       where
         go : (ls : List Line) → judge P s (due ls) ≡ refused n → read-lines P at l s ls ≡ Refused n l
         go [] j =
@@ -71,21 +71,21 @@ module _ (P : Instance) (text : List ℕ) (at l : ℕ) where
             rw (e, ← q) refl
         go (x ∷ ls) j = rw (e, j) refl
 
-    pub read-good : (s′ : Due) (place : ℕ) → judge P s (lineAt text at) ≡ good s′ → Moved text at place → read-from P text at l s ≡ read-from P text place (l + 1) s′
+    pub read-good : (s′ : Due) (place : ℕ) → judge P s (line-at text at) ≡ good s′ → Moved text at place → read-from P text at l s ≡ read-from P text place (l + 1) s′
     unfolding read-lines
     read-good s′ place j m =
-        go (linesOf (drop at text)) j
-        ∙ ap (λ (ls : List Line). read-lines P (after (lineAt text at) at) (l + 1) s′ ls) (sym (m .lines))
-        ∙ ap (λ (k : ℕ). read-lines P k (l + 1) s′ (linesOf (drop place text))) (sym (m .place))
+        go (lines-of (drop at text)) j
+        ∙ ap (λ (ls : List Line). read-lines P (place-after (line-at text at) at) (l + 1) s′ ls) (sym (m .lines))
+        ∙ ap (λ (k : ℕ). read-lines P k (l + 1) s′ (lines-of (drop place text))) (sym (m .place))
       where
-        go : (ls : List Line) → judge P s (due ls) ≡ good s′ → read-lines P at l s ls ≡ read-lines P (after (due ls) at) (l + 1) s′ (later ls)
+        go : (ls : List Line) → judge P s (due ls) ≡ good s′ → read-lines P at l s ls ≡ read-lines P (place-after (due ls) at) (l + 1) s′ (later ls)
         go [] j = absurd (let z : refused 12 ≡ good s′ = sym (judge-missing P s) ∙ j in let y : _≡_ {A = ℕ} 0 1 = cc in omega arith)
         go (x ∷ ls) j = rw (e, j) refl
 
     -- what is due decides only by what the line is found to be
-    pub read-same : (s′ : Due) → over s′ ≡ none → judge P s (lineAt text at) ≡ judge P s′ (lineAt text at) → read-from P text at l s ≡ read-from P text at l s′
+    pub read-same : (s′ : Due) → all-read s′ ≡ none → judge P s (line-at text at) ≡ judge P s′ (line-at text at) → read-from P text at l s ≡ read-from P text at l s′
     unfolding read-lines
-    read-same s′ e′ j = go (linesOf (drop at text)) j
+    read-same s′ e′ j = go (lines-of (drop at text)) j
       where
         go : (ls : List Line) → judge P s (due ls) ≡ judge P s′ (due ls) → read-lines P at l s ls ≡ read-lines P at l s′ ls
         go [] j = rw (e, e′) refl
@@ -107,7 +107,7 @@ held (nodes-due F ps) = tally-of F
 held (reserve-due F A q ps) = tally-of F
 held (nothing-due F) = tally-of F
 
-abbrev by : ℕ → Figures → Figures
+abbrev by : ℕ → Bounded → Bounded
 by w F = record { writer = w; bound = F .bound; splits = F .splits; leaves = F .leaves }
 
 -- the same in a text by the writer w, with the nodes `rest` after it
@@ -119,13 +119,13 @@ within w rest (nothing-due F) = nothing-due F
 
 -- what holds where a line of a node is due, and x stands there
 pub record NodeLine (P : Instance) (s : Due) (x : Line) : Type 0 where
-  pub not-over : over s ≡ none
-  pub none-over : (w : ℕ) (rest : List Pending) → over (within w rest s) ≡ none
+  pub not-over : all-read s ≡ none
+  pub none-over : (w : ℕ) (rest : List Pending) → all-read (within w rest s) ≡ none
   pub none-ends : (w : ℕ) (rest : List Pending) → end (within w rest s) ≡ none
   pub same-tests : (w : ℕ) (rest : List Pending) → tests P (within w rest s) x ≡ tests P s x
-  pub same-next : (w : ℕ) (rest : List Pending) → next P (within w rest s) x ≡ within w rest (next P s x)
-  pub goes-in : InTree (next P s x)
-  pub counted : held (next P s x) .splits + held (next P s x) .leaves ≤ held s .splits + held s .leaves + 1
+  pub same-next : (w : ℕ) (rest : List Pending) → next-due P (within w rest s) x ≡ within w rest (next-due P s x)
+  pub goes-in : InTree (next-due P s x)
+  pub counted : held (next-due P s x) .splits + held (next-due P s x) .leaves ≤ held s .splits + held s .leaves + 1
   pub unended-12 : (b : List ℕ) → judge P s (unended b) ≡ refused 12
 
 -- what is due after a line that is good where s is due: the same in any text, still in the tree, and at most one split or leaf more
@@ -134,27 +134,27 @@ Goes s inside s′ =
     ((w : ℕ) (rest : List Pending) → inside w rest ≡ within w rest s′)
     × InTree s′ × (held s′ .splits + held s′ .leaves ≤ held s .splits + held s .leaves + 1)
 
-node-line : (P : Instance) (F : Figures) (p : Pending) (ps : List Pending) (x : Line) → NodeLine P (nodes-due F (p ∷ ps)) x
-unfolding judge tests malformed next after-node
+node-line : (P : Instance) (F : Bounded) (p : Pending) (ps : List Pending) (x : Line) → NodeLine P (nodes-due F (p ∷ ps)) x
+unfolding judge tests malformed next-due after-node
 node-line P F p ps x = record {
   not-over = refl;
   none-over = λ w rest. refl;
   none-ends = λ w rest. refl;
   same-tests = λ w rest. refl;
-  same-next = go (kind-of x) .0;
-  goes-in = go (kind-of x) .1;
-  counted = go (kind-of x) .2;
+  same-next = go (line-kind-of x) .0;
+  goes-in = go (line-kind-of x) .1;
+  counted = go (line-kind-of x) .2;
   unended-12 = λ b. refl;
 }
   where
-    go : (k : Kind) → Goes (nodes-due F (p ∷ ps)) (λ w rest. after-node P (by w F) p (ps ++ rest) k x) (after-node P F p ps k x)
+    go : (k : LineKind) → Goes (nodes-due F (p ∷ ps)) (λ w rest. after-node P (by w F) p (ps ++ rest) k x) (after-node P F p ps k x)
     go split-line = ((λ w rest. refl), tt, omega arith)
     go short-line = ((λ w rest. refl), tt, omega arith)
     go stuck-line = ((λ w rest. refl), tt, omega arith)
     go price-line = ((λ w rest. refl), tt, omega arith)
 
-reserve-line : (P : Instance) (F : Figures) (A : Above) (q : List ℕ) (ps : List Pending) (x : Line) → NodeLine P (reserve-due F A q ps) x
-unfolding judge tests malformed next
+reserve-line : (P : Instance) (F : Bounded) (A : Above) (q : List ℕ) (ps : List Pending) (x : Line) → NodeLine P (reserve-due F A q ps) x
+unfolding judge tests malformed next-due
 reserve-line P F A q ps x = record {
   not-over = refl;
   none-over = λ w rest. refl;
@@ -168,7 +168,7 @@ reserve-line P F A q ps x = record {
 
 -- ---- what holds where no node is left, and of each line of a node, holds of every reading
 
-good-ended : (P : Instance) (s : Due) → ((b : List ℕ) → judge P s (unended b) ≡ refused 12) → (x : Line) (s′ : Due) → judge P s x ≡ good s′ → x ≡ ended (bytesOf x)
+good-ended : (P : Instance) (s : Due) → ((b : List ℕ) → judge P s (unended b) ≡ refused 12) → (x : Line) (s′ : Due) → judge P s x ≡ good s′ → x ≡ ended (bytes-of x)
 good-ended P s u missing s′ j = absurd (let z : refused 12 ≡ good s′ = sym (judge-missing P s) ∙ j in let y : _≡_ {A = ℕ} 0 1 = cc in omega arith)
 good-ended P s u (unended b) s′ j = absurd (let z : refused 12 ≡ good s′ = sym (u b) ∙ j in let y : _≡_ {A = ℕ} 0 1 = cc in omega arith)
 good-ended P s u (ended b) s′ j = refl
@@ -179,39 +179,39 @@ pub record Stops (P : Instance) (s : Due) (x : Line) (n : ℕ) : Type 0 where
   pub inside : (w : ℕ) (rest : List Pending) → judge P (within w rest s) x ≡ refused n
 
 pub record Passes (P : Instance) (s : Due) (x : Line) : Type 0 where
-  pub alone : judge P s x ≡ good (next P s x)
-  pub inside : (w : ℕ) (rest : List Pending) → judge P (within w rest s) x ≡ good (within w rest (next P s x))
+  pub alone : judge P s x ≡ good (next-due P s x)
+  pub inside : (w : ℕ) (rest : List Pending) → judge P (within w rest s) x ≡ good (within w rest (next-due P s x))
 
 module _ (P : Instance) (text : List ℕ) (Claim : ℕ → ℕ → Due → Type 0)
-    (done : (at l : ℕ) (F : Figures) → Claim at l (nodes-due F []))
-    (stop : (at l : ℕ) (s : Due) → NodeLine P s (lineAt text at) → (n : ℕ) → Stops P s (lineAt text at) n → Claim at l s)
-    (pass : (at l : ℕ) (s : Due) → NodeLine P s (lineAt text at) → Passes P s (lineAt text at) → Moved text at (after (lineAt text at) at)
-    → Claim (after (lineAt text at) at) (l + 1) (next P s (lineAt text at)) → Claim at l s) where
+    (done : (at l : ℕ) (F : Bounded) → Claim at l (nodes-due F []))
+    (stop : (at l : ℕ) (s : Due) → NodeLine P s (line-at text at) → (n : ℕ) → Stops P s (line-at text at) n → Claim at l s)
+    (pass : (at l : ℕ) (s : Due) → NodeLine P s (line-at text at) → Passes P s (line-at text at) → Moved text at (place-after (line-at text at) at)
+    → Claim (place-after (line-at text at) at) (l + 1) (next-due P s (line-at text at)) → Claim at l s) where
   -- of every reading with fewer lines left
   abbrev Below : ℕ → Type 0
   Below k = (at l : ℕ) (s : Due) → InTree s → unread text at < k → Claim at l s
 
-  line-of : (k : ℕ) → Below k → (at l : ℕ) (s : Due) → NodeLine P s (lineAt text at) → unread text at ≤ k → Claim at l s
+  line-of : (k : ℕ) → Below k → (at l : ℕ) (s : Due) → NodeLine P s (line-at text at) → unread text at ≤ k → Claim at l s
   unfolding judge
-  line-of k below at l s i h = go (judge P s (lineAt text at)) refl
+  line-of k below at l s i h = go (judge P s (line-at text at)) refl
     where
-      go : (f : Found Due) → found (tests P s (lineAt text at)) (next P s (lineAt text at)) ≡ f → Claim at l s
+      go : (f : Found Due) → found (tests P s (line-at text at)) (next-due P s (line-at text at)) ≡ f → Claim at l s
       go (refused n) j =
-          let first = found-refused-is (next P s (lineAt text at)) n (tests P s (lineAt text at)) .0 j in
-          stop at l s i n (record { alone = j; inside = λ w rest. rw (i .same-tests w rest) (found-refused-is _ n (tests P s (lineAt text at)) .1 first) })
+          let first = found-refused-is (next-due P s (line-at text at)) n (tests P s (line-at text at)) .0 j in
+          stop at l s i n (record { alone = j; inside = λ w rest. rw (i .same-tests w rest) (found-refused-is _ n (tests P s (line-at text at)) .1 first) })
       go (good s′) j =
-          let none = good-none (next P s (lineAt text at)) s′ (tests P s (lineAt text at)) j .0 in
-          let m = ended-moved text at _ (good-ended P s (i .unended-12) (lineAt text at) s′ j) in
+          let none = good-none (next-due P s (line-at text at)) s′ (tests P s (line-at text at)) j .0 in
+          let m = ended-moved text at _ (good-ended P s (i .unended-12) (line-at text at) s′ j) in
           pass at l s i (record {
-            alone = none-good _ (tests P s (lineAt text at)) none;
-            inside = λ w rest. rw (i .same-tests w rest) (none-good _ (tests P s (lineAt text at)) none ∙ ap good (i .same-next w rest));
+            alone = none-good _ (tests P s (line-at text at)) none;
+            inside = λ w rest. rw (i .same-tests w rest) (none-good _ (tests P s (line-at text at)) none ∙ ap good (i .same-next w rest));
           }) m (below _ (l + 1) _ (i .goes-in) (let z = m .fewer in omega arith))
 
   reading-of : (k : ℕ) → Below k → (at l : ℕ) (s : Due) → InTree s → unread text at ≤ k → Claim at l s
   reading-of k below at l writer-due t h = absurd t
   reading-of k below at l (nodes-due F []) t h = done at l F
-  reading-of k below at l (nodes-due F (p ∷ ps)) t h = line-of k below at l (nodes-due F (p ∷ ps)) (node-line P F p ps (lineAt text at)) h
-  reading-of k below at l (reserve-due F A q ps) t h = line-of k below at l (reserve-due F A q ps) (reserve-line P F A q ps (lineAt text at)) h
+  reading-of k below at l (nodes-due F (p ∷ ps)) t h = line-of k below at l (nodes-due F (p ∷ ps)) (node-line P F p ps (line-at text at)) h
+  reading-of k below at l (reserve-due F A q ps) t h = line-of k below at l (reserve-due F A q ps) (reserve-line P F A q ps (line-at text at)) h
   reading-of k below at l (nothing-due F) t h = absurd t
 
   all-below : (k : ℕ) → Below k
@@ -223,36 +223,36 @@ module _ (P : Instance) (text : List ℕ) (Claim : ℕ → ℕ → Due → Type 
 
 -- ---- one reading after another, and a whole text
 
-figures-back : (w : ℕ) (F : Figures) → by w F ≡ figures w (tally-of F)
+figures-back : (w : ℕ) (F : Bounded) → by w F ≡ bounded w (tally-of F)
 figures-back w F = ap (λ (b : Bound). record { writer = w; bound = b; splits = F .splits; leaves = F .leaves }) (sym (coded-back (F .bound)))
 
 module _ (P : Instance) (text : List ℕ) {X : Type 0} (course : ℕ → ℕ → Due → X) (refusal : ℕ → ℕ → X) (w : ℕ) (rest : List Pending) where
   -- on from what was read, by the writer w, with `rest` still to be read
   abbrev pub on : Read → X
   on (Refused n l) = refusal n l
-  on (Tree place l S) = course place l (nodes-due (figures w S) rest)
+  on (Tree place l S) = course place l (nodes-due (bounded w S) rest)
 
-  module _ (stop : (at l : ℕ) (s : Due) → NodeLine P s (lineAt text at) → (n : ℕ) → judge P (within w rest s) (lineAt text at) ≡ refused n → course at l (within w rest s) ≡ refusal n l)
-      (pass : (at l : ℕ) (s s′ : Due) → NodeLine P s (lineAt text at) → judge P (within w rest s) (lineAt text at) ≡ good s′ → Moved text at (after (lineAt text at) at)
-      → course at l (within w rest s) ≡ course (after (lineAt text at) at) (l + 1) s′) where
+  module _ (stop : (at l : ℕ) (s : Due) → NodeLine P s (line-at text at) → (n : ℕ) → judge P (within w rest s) (line-at text at) ≡ refused n → course at l (within w rest s) ≡ refusal n l)
+      (pass : (at l : ℕ) (s s′ : Due) → NodeLine P s (line-at text at) → judge P (within w rest s) (line-at text at) ≡ good s′ → Moved text at (place-after (line-at text at) at)
+      → course at l (within w rest s) ≡ course (place-after (line-at text at) at) (l + 1) s′) where
     pub goes-on : (at l : ℕ) (s : Due) → InTree s → course at l (within w rest s) ≡ on (read-from P text at l s)
     goes-on = every-reading P text (λ at l s. course at l (within w rest s) ≡ on (read-from P text at l s))
-        (λ at l F. ap (λ (G : Figures). course at l (nodes-due G rest)) (figures-back w F) ∙ ap on (sym (read-over P text at l F)))
+        (λ at l F. ap (λ (G : Bounded). course at l (nodes-due G rest)) (figures-back w F) ∙ ap on (sym (read-over P text at l F)))
         (λ at l s i n j. stop at l s i n (j .inside w rest) ∙ ap on (sym (read-refused P text at l s (i .not-over) n (j .alone))))
         (λ at l s i j m c. pass at l s _ i (j .inside w rest) m ∙ c ∙ ap on (sym (read-good P text at l s (i .not-over) _ _ (j .alone) m)))
 
 -- what is judged after a node, with `rest` still to be read
-abbrev pub read-on : Instance → List ℕ → ℕ → List Pending → Read → Judged Figures
-read-on P text w rest r = on P text (from P text) refused-at w rest r
+abbrev pub read-on : Instance → List ℕ → ℕ → List Pending → Read → Judged Bounded
+read-on P text w rest r = on P text (judged-at P text) refused-at w rest r
 
 module _ (P : Instance) (text : List ℕ) (at l : ℕ) (S : Tally) (A : Above) (d : ℕ) where
   -- document 01's judgement of a text, from a node on, is that of what follows the node as it was read
-  pub node-judged : (w : ℕ) (rest : List Pending) → from P text at l (nodes-due (figures w S) (pending A d ∷ rest)) ≡ read-on P text w rest (node-read P text at l S A d)
+  pub node-judged : (w : ℕ) (rest : List Pending) → judged-at P text at l (nodes-due (bounded w S) (pending A d ∷ rest)) ≡ read-on P text w rest (node-read P text at l S A d)
   unfolding node-read
-  node-judged w rest = goes-on P text (from P text) refused-at w rest
+  node-judged w rest = goes-on P text (judged-at P text) refused-at w rest
       (λ at l s i n j. step-refused P text at l (within w rest s) (i .none-ends w rest) n j)
       (λ at l s s′ i j m. step-good P text at l (within w rest s) (i .none-ends w rest) s′ _ j m)
-      at l (nodes-due (figures 0 S) (pending A d ∷ [])) tt
+      at l (nodes-due (bounded 0 S) (pending A d ∷ [])) tt
 
   -- the second tree of a split is read on from the first
   pub second-read : (B : Above) → trees-read P text at l S A B d ≡ on P text (read-from P text) Refused 0 (pending B d ∷ []) (node-read P text at l S A d)
@@ -262,7 +262,7 @@ module _ (P : Instance) (text : List ℕ) (at l : ℕ) (S : Tally) (A : Above) (
       goes-on P text (read-from P text) Refused 0 rest
       (λ at l s i n j. read-refused P text at l (within 0 rest s) (i .none-over 0 rest) n j)
       (λ at l s s′ i j m. read-good P text at l (within 0 rest s) (i .none-over 0 rest) s′ _ j m)
-      at l (nodes-due (figures 0 S) (pending A d ∷ [])) tt
+      at l (nodes-due (bounded 0 S) (pending A d ∷ [])) tt
 
 -- ---- places
 
@@ -295,15 +295,15 @@ later-ends : (text : List ℕ) (at place n k : ℕ) (r : Read) → unread text p
 later-ends text at place n k (Refused m l) e h c = tt
 later-ends text at place n k (Tree p l S) e h c = (c .0, let x = c .1 in omega arith)
 
-reading-ends : (P : Instance) (text : List ℕ) (at l : ℕ) (s : Due) → InTree s → Placed text at l (held s) → Ends text at (left (over s)) (read-from P text at l s)
-reading-ends P text = every-reading P text (λ at l s. Placed text at l (held s) → Ends text at (left (over s)) (read-from P text at l s))
+reading-ends : (P : Instance) (text : List ℕ) (at l : ℕ) (s : Due) → InTree s → Placed text at l (held s) → Ends text at (left (all-read s)) (read-from P text at l s)
+reading-ends P text = every-reading P text (λ at l s. Placed text at l (held s) → Ends text at (left (all-read s)) (read-from P text at l s))
     (λ at l F p. rw (read-over P text at l F) (p, omega arith))
     (λ at l s i n j p. rw (read-refused P text at l s (i .not-over) n (j .alone)) tt)
     (λ at l s i j m c p.
-    let x = lineAt text at in
-    rw (read-good P text at l s (i .not-over) (next P s x) (after x at) (j .alone) m)
-    (later-ends text at (after x at) (left (over (next P s x))) (left (over s)) (read-from P text (after x at) (l + 1) (next P s x)) (m .fewer) (left-one (over s))
-    (c (moved-placed text at l (held s) p (after x at) m (held (next P s x)) (i .counted)))))
+    let x = line-at text at in
+    rw (read-good P text at l s (i .not-over) (next-due P s x) (place-after x at) (j .alone) m)
+    (later-ends text at (place-after x at) (left (all-read (next-due P s x))) (left (all-read s)) (read-from P text (place-after x at) (l + 1) (next-due P s x)) (m .fewer) (left-one (all-read s))
+    (c (moved-placed text at l (held s) p (place-after x at) m (held (next-due P s x)) (i .counted)))))
 
 -- after a tree, if one was read, fewer lines are left
 abbrev pub Past : List ℕ → ℕ → Read → Type 0
@@ -313,7 +313,7 @@ Past text at (Tree place l S) = Placed text place l S × (unread text place < un
 pub node-past : (P : Instance) (text : List ℕ) (at l : ℕ) (S : Tally) (A : Above) (d : ℕ) → Placed text at l S → (r : Read) → r ≡ node-read P text at l S A d → Past text at r
 unfolding node-read
 node-past P text at l S A d p r e =
-    let s = nodes-due (figures 0 S) (pending A d ∷ []) in
+    let s = nodes-due (bounded 0 S) (pending A d ∷ []) in
     go r (rw e (reading-ends P text at l s tt (record { short = p .short; inside = p .inside; numbered = p .numbered; counted = p .counted })))
   where
     go : (r : Read) → Ends text at 1 r → Past text at r

@@ -4,19 +4,19 @@ use mathlib.Core.List.{List, [], _∷_, _++_}
 use Prim.Native.Nat.{ℕ}
 use native.Mathlib.Omega.{arith}
 use lib.Dec.{lit≤}
-use Rattle.decimal.specs.Decimal.{digits, digitsBy}
+use Rattle.decimal.specs.Decimal.{digits, digits-by}
 use Rattle.model.specs.Leaf.{available, is-stuck}
 use Rattle.model.specs.Examples.{example}
-use Rattle.text.specs.Lines.{kindTree}
+use Rattle.text.specs.Lines.{kind-tree}
 use Rattle.text.specs.Course.{refused-at, judged-from}
-use Rattle.text.specs.Forms.{malformed, wrongCount, outOfRange}
+use Rattle.text.specs.Forms.{malformed, wrong-count, outside-range}
 use Rattle.text.specs.Rendering.{plain-line, text-of}
 use Rattle.text.specs.Writer.{writer-key}
 use Rattle.tree.specs.Rendering.{split-key, price-key, reserve-key}
-use Rattle.tree.specs.NodeLines.{kind-of, split-again, too-deep, not-short, not-stuck}
-use Rattle.tree.specs.Refusals.{Refused}
-use Rattle.tree.specs.Due.{tests, after-node, next, judge, judged}
-use Rattle.tree.proofs.Answers.{refused-is-first}
+use Rattle.tree.specs.NodeLines.{line-kind-of, split-again, too-deep, not-short, not-stuck}
+use Rattle.tree.specs.Refusals.{RefusedAt}
+use Rattle.tree.specs.Course.{tests, after-node, next-due, judge, tree-judged}
+use Rattle.tree.proofs.Acceptance.{refused-is}
 
 -- split=1,1 / split=1,2 / price=1,1 / reserve=1,1 / price=1,1: unit 1 is stuck above the last line
 abbrev to-price : List (List ℕ)
@@ -25,26 +25,26 @@ to-price =
     ∷ plain-line reserve-key (1 ∷ 1 ∷ []) ∷ plain-line price-key (1 ∷ 1 ∷ []) ∷ []
 
 abbrev up-to-price : List ℕ
-up-to-price = text-of (kindTree ∷ to-price)
+up-to-price = text-of (kind-tree ∷ to-price)
 
 abbrev up-to-reserve : List ℕ
-up-to-reserve = text-of (kindTree ∷ (to-price ++ (plain-line reserve-key (1 ∷ 1 ∷ []) ∷ [])))
+up-to-reserve = text-of (kind-tree ∷ (to-price ++ (plain-line reserve-key (1 ∷ 1 ∷ []) ∷ [])))
 
 -- line 7, the price line, passes: alone it leaves the line after it missing
-pub price-line-passes : judged example up-to-price ≡ refused-at 12 8
-unfolding judged judged-from judge tests next after-node kind-of malformed wrongCount outOfRange split-again too-deep not-short not-stuck available is-stuck digits digitsBy
+pub price-line-passes : tree-judged example up-to-price ≡ refused-at 12 8
+unfolding tree-judged judged-from judge tests next-due after-node line-kind-of malformed wrong-count outside-range split-again too-deep not-short not-stuck available is-stuck digits digits-by
 price-line-passes = refl
 
-pub reserve-line-refused : judged example up-to-reserve ≡ refused-at 35 8
-unfolding judged judged-from judge tests next after-node kind-of malformed wrongCount outOfRange split-again too-deep not-short not-stuck available is-stuck digits digitsBy
+pub reserve-line-refused : tree-judged example up-to-reserve ≡ refused-at 35 8
+unfolding tree-judged judged-from judge tests next-due after-node line-kind-of malformed wrong-count outside-range split-again too-deep not-short not-stuck available is-stuck digits digits-by
 reserve-line-refused = refl
 
 -- as document 01 says it: 35 at line 8, and no number at line 7
-pub stuck-at-reserve : Refused example up-to-reserve 35 8 × ((n : ℕ) → Refused example up-to-reserve n 7 → ⊥)
+pub stuck-at-reserve : RefusedAt example up-to-reserve 35 8 × ((n : ℕ) → RefusedAt example up-to-reserve n 7 → ⊥)
 stuck-at-reserve = (
-  refused-is-first example (lit≤ tt) up-to-reserve 35 8 .0 reserve-line-refused,
+  refused-is example (lit≤ tt) up-to-reserve 35 8 .0 reserve-line-refused,
   (λ n r.
-      let e = sym (refused-is-first example (lit≤ tt) up-to-reserve n 7 .1 r) ∙ reserve-line-refused in
+      let e = sym (refused-is example (lit≤ tt) up-to-reserve n 7 .1 r) ∙ reserve-line-refused in
       let z : _≡_ {A = ℕ} 7 8 = cc in
       omega arith),
 )

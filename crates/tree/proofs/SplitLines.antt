@@ -9,8 +9,8 @@ use lib.ListN.{length}
 use borrow.Author.Tests.{ltb-false}
 use Rattle.model.specs.Instance.{Instance, _at_}
 use Rattle.model.specs.Above.{Above, fix}
-use Rattle.text.specs.Lines.{lineAt}
-use Rattle.text.specs.Forms.{numbers-of, after}
+use Rattle.text.specs.Lines.{line-at}
+use Rattle.text.specs.Forms.{numbers-of, place-after}
 use Rattle.text.specs.Forms as forms
 use Rattle.text.specs.Course.{Found, refused, good}
 use Rattle.text.specs.Tests.{Test, _if_, found}
@@ -18,12 +18,12 @@ use Rattle.text.proofs.Tests.{found-refused-is, none-good, good-none}
 use Rattle.text.proofs.Verdicts.{form-found, form-passes}
 use Rattle.tree.specs.declared.splitting.SplitLine.{SplitLine}
 use Rattle.tree.specs.declared.splitting.SplitLine.the-variants as split
-use Rattle.tree.specs.NodeLines.{split-line, kind-of, node-form, named, is-fixed, split-again, too-deep, not-short, not-stuck, node-tests}
-use Rattle.tree.specs.Due.{with-split, pending, nodes-due, after-node, judge}
-use Rattle.tree.specs.Reading.{split-by, split-line-read}
+use Rattle.tree.specs.NodeLines.{split-line, line-kind-of, node-form, named, is-fixed, split-again, too-deep, not-short, not-stuck, node-tests}
+use Rattle.tree.specs.Course.{with-split, pending, nodes-due, after-node, judge}
+use Rattle.tree.specs.ReadAnswers.{split-by, split-line-read}
 use Rattle.tree.proofs.NodeLines.{rules, was-split}
 use Rattle.tree.proofs.Rows.{LineRefused, refused-found, Moved, line-moved}
-use Rattle.tree.proofs.Steps.{AtNode}
+use Rattle.tree.proofs.WaysThrough.{AtNode}
 use Rattle.tree.proofs.Leaves.{judge-by}
 
 -- what the refusals' tests say where nothing is refused
@@ -32,25 +32,25 @@ none-refused true y e = absurd (omega arith)
 none-refused false true e = absurd (omega arith)
 none-refused false false e = (refl, refl)
 
-module _ (P : Instance) (text : List ℕ) (here : ℕ) (g : forms.good (node-form P split-line) (lineAt text here) ≡ true) (vs : List ℕ)
-    (is : vs ≡ numbers-of (node-form P split-line) (lineAt text here)) where
+module _ (P : Instance) (text : List ℕ) (here : ℕ) (g : forms.good-line (node-form P split-line) (line-at text here) ≡ true) (vs : List ℕ)
+    (is : vs ≡ numbers-of (node-form P split-line) (line-at text here)) where
   pub record TwoValues : Type 0 where
     pub low-unit : 1 ≤ vs at 0
     pub unit : vs at 0 - 1 < length (P .units)
     pub low-period : 1 ≤ vs at 1
     pub period : vs at 1 - 1 < P .periods
-    pub is-unit : vs at 0 - 1 ≡ named (node-form P split-line) (lineAt text here) 0
-    pub is-period : vs at 1 - 1 ≡ named (node-form P split-line) (lineAt text here) 1
+    pub is-unit : vs at 0 - 1 ≡ named (node-form P split-line) (line-at text here) 0
+    pub is-period : vs at 1 - 1 ≡ named (node-form P split-line) (line-at text here) 1
 
   pub two-values : TwoValues
   two-values =
-      let w = was-split P (lineAt text here) g in
+      let w = was-split P (line-at text here) g in
       let a = ap (λ (xs : List ℕ). xs at 0) is in
       let b = ap (λ (xs : List ℕ). xs at 1) is in
       let x = w .first in
       let y = w .second in
-      let i : vs at 0 - 1 ≡ pred (numbers-of (node-form P split-line) (lineAt text here) at 0) = omega arith in
-      let j : vs at 1 - 1 ≡ pred (numbers-of (node-form P split-line) (lineAt text here) at 1) = omega arith in
+      let i : vs at 0 - 1 ≡ pred (numbers-of (node-form P split-line) (line-at text here) at 0) = omega arith in
+      let j : vs at 1 - 1 ≡ pred (numbers-of (node-form P split-line) (line-at text here) at 1) = omega arith in
       record {
         low-unit = omega arith;
         unit = rw i (w .unit);
@@ -63,12 +63,12 @@ module _ (P : Instance) (text : List ℕ) (here : ℕ) (g : forms.good (node-for
 -- ---- what the reader answers
 
 module _ (P : Instance) (text : List ℕ) (here : ℕ) (A : Above) (d : ℕ) where
-  pub split-refused : (n : ℕ) → LineRefused (node-form P split-line) (lineAt text here) n → split.Refused n ≡ split-line-read P text here A d
+  pub split-refused : (n : ℕ) → LineRefused (node-form P split-line) (line-at text here) n → split.Refused n ≡ split-line-read P text here A d
   unfolding split-line-read
-  split-refused n h = ap split-by (sym (refused-found (node-form P split-line) (lineAt text here) n (rules P A d split-line (lineAt text here)) (split.On _ _ _) h))
+  split-refused n h = ap split-by (sym (refused-found (node-form P split-line) (line-at text here) n (rules P A d split-line (line-at text here)) (split.On _ _ _) h))
 
-  module _ (g : forms.good (node-form P split-line) (lineAt text here) ≡ true) (vs : List ℕ) (is : vs ≡ numbers-of (node-form P split-line) (lineAt text here)) where
-    again : split-again P A split-line (lineAt text here) ≡ is-fixed (A .marks (vs at 0 - 1) (vs at 1 - 1))
+  module _ (g : forms.good-line (node-form P split-line) (line-at text here) ≡ true) (vs : List ℕ) (is : vs ≡ numbers-of (node-form P split-line) (line-at text here)) where
+    again : split-again P A split-line (line-at text here) ≡ is-fixed (A .marks (vs at 0 - 1) (vs at 1 - 1))
     unfolding split-again
     again =
         let w = two-values P text here g vs is in
@@ -77,12 +77,12 @@ module _ (P : Instance) (text : List ℕ) (here : ℕ) (A : Above) (d : ℕ) whe
     -- the tests that are left, by 31 and 32
     by-two : (x y : Bool) → is-fixed (A .marks (vs at 0 - 1) (vs at 1 - 1)) ≡ x → ltb 63 d ≡ y
         → split-line-read P text here A d
-        ≡ split-by (found (31 if x ∷ 32 if y ∷ 33 if false ∷ 34 if false ∷ []) (split.On (vs at 0 - 1) (vs at 1 - 1) (after (lineAt text here) here)))
+        ≡ split-by (found (31 if x ∷ 32 if y ∷ 33 if false ∷ 34 if false ∷ []) (split.On (vs at 0 - 1) (vs at 1 - 1) (place-after (line-at text here) here)))
     unfolding split-line-read too-deep not-short not-stuck
     by-two x y p q =
         let w = two-values P text here g vs is in
-        let l = lineAt text here in
-        let s = split.On (named (node-form P split-line) l 0) (named (node-form P split-line) l 1) (after l here) in
+        let l = line-at text here in
+        let s = split.On (named (node-form P split-line) l 0) (named (node-form P split-line) l 1) (place-after l here) in
         ap split-by (form-found (node-form P split-line) l (rules P A d split-line l) s g)
         ∙ ap (λ (z : Bool). split-by (found (31 if z ∷ 32 if ltb 63 d ∷ 33 if false ∷ 34 if false ∷ []) s)) (again ∙ p)
         ∙ ap (λ (z : Bool). split-by (found (31 if x ∷ 32 if z ∷ 33 if false ∷ 34 if false ∷ []) s)) q
@@ -100,7 +100,7 @@ module _ (P : Instance) (text : List ℕ) (here : ℕ) (A : Above) (d : ℕ) whe
         go false false a b c = absurd (h c)
 
     -- neither does
-    pub split-good : cond {A = ℕ} (is-fixed (A .marks (vs at 0 - 1) (vs at 1 - 1))) 31 (cond (ltb 63 d) 32 0) ≡ 0 → (next : ℕ) → next ≡ after (lineAt text here) here
+    pub split-good : cond {A = ℕ} (is-fixed (A .marks (vs at 0 - 1) (vs at 1 - 1))) 31 (cond (ltb 63 d) 32 0) ≡ 0 → (next : ℕ) → next ≡ place-after (line-at text here) here
         → split.On (vs at 0 - 1) (vs at 1 - 1) next ≡ split-line-read P text here A d
     split-good q next n =
         let f = none-refused (is-fixed (A .marks (vs at 0 - 1) (vs at 1 - 1))) (ltb 63 d) q in
@@ -108,7 +108,7 @@ module _ (P : Instance) (text : List ℕ) (here : ℕ) (A : Above) (d : ℕ) whe
 
 -- ---- what the answer says
 
-module _ (P : Instance) (text : List ℕ) (here : ℕ) (A : Above) (d : ℕ) (e : kind-of (lineAt text here) ≡ split-line) where
+module _ (P : Instance) (text : List ℕ) (here : ℕ) (A : Above) (d : ℕ) (e : line-kind-of (line-at text here) ≡ split-line) where
   pub record SplitOn (U t next : ℕ) : Type 0 where
     pub judged : AtNode P text here A d
         (λ F rest. good (nodes-due (with-split F) (pending (fix U t false A) (suc d) ∷ pending (fix U t true A) (suc d) ∷ rest)))
@@ -118,10 +118,10 @@ module _ (P : Instance) (text : List ℕ) (here : ℕ) (A : Above) (d : ℕ) (e 
     pub moved : Moved text here next
 
   tests : List Test
-  tests = node-tests P A d split-line (lineAt text here)
+  tests = node-tests P A d split-line (line-at text here)
 
   said : SplitLine
-  said = split.On (named (node-form P split-line) (lineAt text here) 0) (named (node-form P split-line) (lineAt text here) 1) (after (lineAt text here) here)
+  said = split.On (named (node-form P split-line) (line-at text here) 0) (named (node-form P split-line) (line-at text here) 1) (place-after (line-at text here) here)
 
   pub split-on : (U t next : ℕ) → split.On U t next ≡ split-line-read P text here A d → SplitOn U t next
   unfolding split-line-read tests said too-deep after-node
@@ -131,14 +131,14 @@ module _ (P : Instance) (text : List ℕ) (here : ℕ) (A : Above) (d : ℕ) (e 
       go (refused n) p r = absurd (let z : _≡_ {A = ℕ} 0 1 = cc in omega arith)
       go (good x) p r =
           let h = good-none said x tests p in
-          let f = form-passes (node-form P split-line) (lineAt text here) (rules P A d split-line (lineAt text here)) .0 (h .0) in
-          let w = was-split P (lineAt text here) (f .0) in
+          let f = form-passes (node-form P split-line) (line-at text here) (rules P A d split-line (line-at text here)) .0 (h .0) in
+          let w = was-split P (line-at text here) (f .0) in
           let q = r ∙ sym (h .1) in
-          let u : U ≡ named (node-form P split-line) (lineAt text here) 0 = cc in
-          let v : t ≡ named (node-form P split-line) (lineAt text here) 1 = cc in
-          let n : next ≡ after (lineAt text here) here = cc in
+          let u : U ≡ named (node-form P split-line) (line-at text here) 0 = cc in
+          let v : t ≡ named (node-form P split-line) (line-at text here) 1 = cc in
+          let n : next ≡ place-after (line-at text here) here = cc in
           record {
-            judged = λ F rest. judge-by P text here A d split-line e F rest ∙ none-good (after-node P F (pending A d) rest split-line (lineAt text here)) tests (h .0) ∙ rw (u, v) refl;
+            judged = λ F rest. judge-by P text here A d split-line e F rest ∙ none-good (after-node P F (pending A d) rest split-line (line-at text here)) tests (h .0) ∙ rw (u, v) refl;
             unit = rw u (w .unit);
             period = rw v (w .period);
             depth = ltb-false 63 d (f .1 .1 .0);
@@ -149,10 +149,10 @@ module _ (P : Instance) (text : List ℕ) (here : ℕ) (A : Above) (d : ℕ) (e 
   unfolding split-line-read tests said
   split-off n r F rest = go (found tests said) refl r
     where
-      go : (x : Found SplitLine) → found tests said ≡ x → split.Refused n ≡ split-by x → judge P (nodes-due F (pending A d ∷ rest)) (lineAt text here) ≡ refused n
+      go : (x : Found SplitLine) → found tests said ≡ x → split.Refused n ≡ split-by x → judge P (nodes-due F (pending A d ∷ rest)) (line-at text here) ≡ refused n
       go (refused m) p r =
           let q : m ≡ n = cc in
-          let s = after-node P F (pending A d) rest split-line (lineAt text here) in
+          let s = after-node P F (pending A d) rest split-line (line-at text here) in
           judge-by P text here A d split-line e F rest ∙ found-refused-is s m tests .1 (found-refused-is said m tests .0 p) ∙ ap refused q
       go (good x) p r =
           let q = r ∙ sym (good-none said x tests p .1) in

@@ -6,9 +6,9 @@ use native.Mathlib.Omega.{arith}
 use lib.ListN.{length, drop}
 use Rattle.model.specs.Instance.{Instance}
 use Rattle.model.specs.Above.{root}
-use Rattle.text.specs.Lines.{Line, linesOf, lineAt, kindTree, endTree}
+use Rattle.text.specs.Lines.{Line, lines-of, line-at, kind-tree, end-tree}
 use Rattle.text.specs.Course.{refused-at, judged-from}
-use Rattle.text.specs.Ends.{endOf, endedBy, EndDue}
+use Rattle.text.specs.Ends.{end-of, ended-by, EndDue}
 use Rattle.text.specs.declared.End.{End}
 use Rattle.text.specs.declared.End.the-variants.{Last}
 use Rattle.text.specs.Writer.{writer-form}
@@ -22,35 +22,35 @@ use Rattle.tree.specs.declared.figures.Bound.{Bound}
 use Rattle.tree.specs.declared.leaf.Read as code
 use Rattle.tree.specs.declared.leaf.Read.the-variants as read
 use Rattle.tree.specs.declared.TreeRead.the-variants as answer
-use Rattle.tree.specs.Due.{Figures, by-writer, pending, writer-due, nodes-due, nothing-due, tests, next, judge, end, IsTree, judged}
-use Rattle.tree.specs.Coded.{figures, none-read}
-use Rattle.tree.specs.Reading.{read-as, Placed, Came, ended-as}
+use Rattle.tree.specs.Course.{Bounded, by-writer, pending, writer-due, nodes-due, nothing-due, tests, next-due, judge, end, IsTree, tree-judged}
+use Rattle.tree.specs.Coded.{bounded, none-read}
+use Rattle.tree.specs.ReadAnswers.{read-as, Placed, Came, ended-as}
 use Rattle.tree.proofs.Bounds.{coded-is}
 use Rattle.tree.proofs.Rows.{LineRefused, Moved, refused-found, line-moved}
-use Rattle.tree.proofs.ReadLines.{from, step-refused, step-good, read-on, Past}
+use Rattle.tree.proofs.ReadLines.{judged-at, step-refused, step-good, read-on, Past}
 
 -- ---- the first two lines
 
 -- after the first line the second starts at the eleventh byte
-pub text-read : (P : Instance) (text : List ℕ) → IsTree text → judged P text ≡ from P text 10 2 writer-due
-unfolding judged
-text-read P text e = ap (λ (ls : List Line). judged-from (judge P) end 2 writer-due ls) (sym (next-lines text kindTree 0 (tree-is (lineAt text 0) .0 e)))
+pub text-read : (P : Instance) (text : List ℕ) → IsTree text → tree-judged P text ≡ judged-at P text 10 2 writer-due
+unfolding tree-judged
+text-read P text e = ap (λ (ls : List Line). judged-from (judge P) end 2 writer-due ls) (sym (next-lines text kind-tree 0 (tree-is (line-at text 0) .0 e)))
 
 module _ (P : Instance) (text : List ℕ) where
-  pub writer-refused : (n : ℕ) → LineRefused writer-form (lineAt text 10) n → from P text 10 2 writer-due ≡ refused-at n 2
+  pub writer-refused : (n : ℕ) → LineRefused writer-form (line-at text 10) n → judged-at P text 10 2 writer-due ≡ refused-at n 2
   unfolding judge tests
-  writer-refused n h = step-refused P text 10 2 writer-due refl n (refused-found writer-form (lineAt text 10) n [] (next P writer-due (lineAt text 10)) h)
+  writer-refused n h = step-refused P text 10 2 writer-due refl n (refused-found writer-form (line-at text 10) n [] (next-due P writer-due (line-at text 10)) h)
 
-  module _ {w n : ℕ} (h : Passed (lineAt text 10) 10 w n) where
+  module _ {w n : ℕ} (h : Passed (line-at text 10) 10 w n) where
     pub writer-moved : Moved text 10 n
     writer-moved = line-moved writer-form text 10 n (h .line-good) (h .next-is)
 
-    pub writer-read : from P text 10 2 writer-due ≡ from P text n 3 (nodes-due (by-writer w) (pending root 0 ∷ []))
-    unfolding judge tests next
-    writer-read =
-        step-good P text 10 2 writer-due refl (next P writer-due (lineAt text 10)) n
-        (form-found writer-form (lineAt text 10) [] (next P writer-due (lineAt text 10)) (h .line-good)) writer-moved
-        ∙ ap (λ (x : ℕ). from P text n 3 (nodes-due (by-writer x) (pending root 0 ∷ []))) (sym (h .writer-is))
+    pub writer-line-read : judged-at P text 10 2 writer-due ≡ judged-at P text n 3 (nodes-due (by-writer w) (pending root 0 ∷ []))
+    unfolding judge tests next-due
+    writer-line-read =
+        step-good P text 10 2 writer-due refl (next-due P writer-due (line-at text 10)) n
+        (form-found writer-form (line-at text 10) [] (next-due P writer-due (line-at text 10)) (h .line-good)) writer-moved
+        ∙ ap (λ (x : ℕ). judged-at P text n 3 (nodes-due (by-writer x) (pending root 0 ∷ []))) (sym (h .writer-is))
 
     pub tree-placed : length text ≤ 1048576 → Placed text n 3 none-read
     tree-placed short =
@@ -64,8 +64,8 @@ pub past-came : (text : List ℕ) (here : ℕ) (r : code.Read) → Past text her
 past-came text here (read.Refused n l) h = tt
 past-came text here (read.Tree n l S) h = h .0
 
-ends : (P : Instance) (F : Figures) → EndDue (judge P) end endTree (nodes-due F []) F
-unfolding judge tests next
+ends : (P : Instance) (F : Bounded) → EndDue (judge P) end end-tree (nodes-due F []) F
+unfolding judge tests next-due
 ends P F = record {
   then = nothing-due F;
   not-there = refl;
@@ -79,12 +79,12 @@ ends P F = record {
 -- ---- the answer
 
 -- what is answered after a tree, by what stands where the end line is due
-pub tree-ended : (text : List ℕ) (w : ℕ) {n l : ℕ} {S : Tally} {r : code.Read} → r ≡ read.Tree n l S → (e : End) → e ≡ endOf endTree (linesOf (drop n text))
-    → read-as (endedBy l (figures w S) e) ≡ ended-as text w r
+pub tree-ended : (text : List ℕ) (w : ℕ) {n l : ℕ} {S : Tally} {r : code.Read} → r ≡ read.Tree n l S → (e : End) → e ≡ end-of end-tree (lines-of (drop n text))
+    → read-as (ended-by l (bounded w S) e) ≡ ended-as text w r
 unfolding ended-as
-tree-ended text w {n} {l} {S} t e q = ap (λ (x : End). read-as (endedBy l (figures w S) x)) q ∙ ap (ended-as text w) (sym t)
+tree-ended text w {n} {l} {S} t e q = ap (λ (x : End). read-as (ended-by l (bounded w S) x)) q ∙ ap (ended-as text w) (sym t)
 
-pub tree-accepted : (text : List ℕ) (w : ℕ) {n l : ℕ} {S : Tally} {r : code.Read} → r ≡ read.Tree n l S → Last ≡ endOf endTree (linesOf (drop n text))
+pub tree-accepted : (text : List ℕ) (w : ℕ) {n l : ℕ} {S : Tally} {r : code.Read} → r ≡ read.Tree n l S → Last ≡ end-of end-tree (lines-of (drop n text))
     → answer.Accepted w (S .bound) (S .splits) (S .leaves) ≡ ended-as text w r
 unfolding read-as
 tree-accepted text w {n} {l} {S} t q = ap (λ (b : Bound). answer.Accepted w b (S .splits) (S .leaves)) (sym (coded-is (S .bound))) ∙ tree-ended text w t Last q
@@ -92,4 +92,4 @@ tree-accepted text w {n} {l} {S} t q = ap (λ (b : Bound). answer.Accepted w b (
 pub ended-read : (P : Instance) (text : List ℕ) (w : ℕ) (r : code.Read) → ended-as text w r ≡ read-as (read-on P text w [] r)
 unfolding ended-as read-as
 ended-read P text w (read.Refused n l) = refl
-ended-read P text w (read.Tree n l S) = sym (ap read-as (end-judged (judge P) end endTree (nodes-due (figures w S) []) (figures w S) (ends P (figures w S)) l (drop n text)))
+ended-read P text w (read.Tree n l S) = sym (ap read-as (end-judged (judge P) end end-tree (nodes-due (bounded w S) []) (bounded w S) (ends P (bounded w S)) l (drop n text)))

@@ -10,23 +10,23 @@ use borrow.Author.Tests.{le-leb}
 use Rattle.model.specs.Instance.{Instance}
 use Rattle.model.specs.Above.{Above, root, fix}
 use Rattle.model.specs.Tree.{Tree, split, short, stuck, price, Limits}
-use Rattle.text.specs.Lines.{ended, bytesOf, linesOf, endTree}
-use Rattle.text.specs.Forms.{form, cutValues, sizes, withinAll}
+use Rattle.text.specs.Lines.{ended, bytes-of, lines-of, end-tree}
+use Rattle.text.specs.Forms.{form, cut-values, sizes, all-within}
 use Rattle.text.specs.Rendering.{plain-line}
 use Rattle.text.specs.Writer.{writer-key}
 use Rattle.text.proofs.Accepted.{rendered-numbers}
 use Rattle.tree.specs.Rendering.{split-key, short-key, stuck-key, price-key, reserve-key, node-lines, tree-lines, render}
-use Rattle.tree.specs.NodeLines.{Kind, split-line, short-line, stuck-line, price-line, kind-of}
+use Rattle.tree.specs.NodeLines.{LineKind, split-line, short-line, stuck-line, price-line, line-kind-of}
 use Rattle.tree.proofs.Written.{render-cut}
 
 -- ---- one line
 
-within-self : (vs : List ℕ) → withinAll vs vs vs ≡ true
+within-self : (vs : List ℕ) → all-within vs vs vs ≡ true
 within-self [] = refl
 within-self (v ∷ vs) = simp (le-leb v v (omega arith), within-self vs)
 
 -- the numbers of a line, read back
-read-back : (key vs : List ℕ) → 0 < length vs → sizes (cutValues (drop (length key) (plain-line key vs))) ≡ vs
+read-back : (key vs : List ℕ) → 0 < length vs → sizes (cut-values (drop (length key) (plain-line key vs))) ≡ vs
 read-back key vs h =
     rendered-numbers (form key 0 vs vs) false vs (record {
       some = h;
@@ -36,7 +36,7 @@ read-back key vs h =
     })
 
 numbers-once : (key vs ws : List ℕ) → 0 < length vs → 0 < length ws → plain-line key vs ≡ plain-line key ws → vs ≡ ws
-numbers-once key vs ws h k e = sym (read-back key vs h) ∙ ap (λ (l : List ℕ). sizes (cutValues (drop (length key) l))) e ∙ read-back key ws k
+numbers-once key vs ws h k e = sym (read-back key vs h) ∙ ap (λ (l : List ℕ). sizes (cut-values (drop (length key) l))) e ∙ read-back key ws k
 
 -- ---- one node
 
@@ -48,21 +48,21 @@ tail : List (List ℕ) → List (List ℕ)
 tail [] = []
 tail (l ∷ ls) = ls
 
-kind : Tree → Kind
+kind : Tree → LineKind
 kind (split U t x y) = split-line
 kind (short t) = short-line
 kind (stuck U) = stuck-line
 kind (price q s) = price-line
 
-kind-first : (t : Tree) (r : List (List ℕ)) → kind-of (ended (head (node-lines t ++ r))) ≡ kind t
-unfolding kind kind-of head node-lines
+kind-first : (t : Tree) (r : List (List ℕ)) → line-kind-of (ended (head (node-lines t ++ r))) ≡ kind t
+unfolding kind line-kind-of head node-lines
 kind-first (split U t x y) r = refl
 kind-first (short t) r = refl
 kind-first (stuck U) r = refl
 kind-first (price q s) r = refl
 
 kind-same : (t u : Tree) (r v : List (List ℕ)) → node-lines t ++ r ≡ node-lines u ++ v → kind t ≡ kind u
-kind-same t u r v e = sym (kind-first t r) ∙ ap (λ (ls : List (List ℕ)). kind-of (ended (head ls))) e ∙ kind-first u v
+kind-same t u r v e = sym (kind-first t r) ∙ ap (λ (ls : List (List ℕ)). line-kind-of (ended (head ls))) e ∙ kind-first u v
 
 -- every price leaf has multipliers
 abbrev Priced : Tree → Type 0
@@ -79,7 +79,7 @@ limits-priced P h A d (stuck U) l = tt
 limits-priced P h A d (price q s) l = (let e = l .0 .0 in omega arith, let e = l .1 .0 in omega arith)
 
 -- two kinds are told apart
-code : Kind → ℕ
+code : LineKind → ℕ
 code split-line = 0
 code short-line = 1
 code stuck-line = 2
@@ -134,15 +134,15 @@ pub tree-once : (P : Instance) → 1 ≤ P .periods → (w w′ : ℕ) (t t′ :
     → (w ≡ w′) × (t ≡ t′)
 unfolding head tail
 tree-once P h w w′ t t′ l l′ e =
-    let ls = sym (written w t) ∙ ap (λ (s : List ℕ). map bytesOf (linesOf s)) e ∙ written w′ t′ in
+    let ls = sym (written w t) ∙ ap (λ (s : List ℕ). map bytes-of (lines-of s)) e ∙ written w′ t′ in
     let a : plain-line writer-key (w ∷ []) ≡ plain-line writer-key (w′ ∷ []) = ap (λ (x : List (List ℕ)). head (tail x)) ls in
     let b = numbers-once writer-key (w ∷ []) (w′ ∷ []) (omega arith) (omega arith) a in
-    let c = once t t′ (endTree ∷ []) (endTree ∷ []) (limits-priced P h root 0 t l) (limits-priced P h root 0 t′ l′) (ap (λ (x : List (List ℕ)). tail (tail x)) ls) in
+    let c = once t t′ (end-tree ∷ []) (end-tree ∷ []) (limits-priced P h root 0 t l) (limits-priced P h root 0 t′ l′) (ap (λ (x : List (List ℕ)). tail (tail x)) ls) in
     (cc, c .0)
   where
-    bytes-ended : (x : List (List ℕ)) → map bytesOf (map ended x) ≡ x
+    bytes-ended : (x : List (List ℕ)) → map bytes-of (map ended x) ≡ x
     bytes-ended [] = refl
     bytes-ended (y ∷ x) = ap (λ (z : List (List ℕ)). y ∷ z) (bytes-ended x)
 
-    written : (w : ℕ) (t : Tree) → map bytesOf (linesOf (render w t)) ≡ tree-lines w t
-    written w t = ap (map bytesOf) (render-cut w t) ∙ bytes-ended (tree-lines w t)
+    written : (w : ℕ) (t : Tree) → map bytes-of (lines-of (render w t)) ≡ tree-lines w t
+    written w t = ap (map bytes-of) (render-cut w t) ∙ bytes-ended (tree-lines w t)

@@ -9,14 +9,14 @@ use Rattle.model.specs.Instance.{Instance}
 use Rattle.model.specs.Ranges.{GoodWriter}
 use Rattle.model.specs.Above.{root}
 use Rattle.model.specs.Tree.{Tree, Limits}
-use Rattle.text.specs.Lines.{Line, ended, due, later, linesOf, kindTree, endTree}
+use Rattle.text.specs.Lines.{Line, ended, due, later, lines-of, kind-tree, end-tree}
 use Rattle.text.specs.Rendering.{plain-line}
 use Rattle.text.specs.Writer.{writer-key}
 use Rattle.text.specs.Tests.{none-yet}
 use Rattle.text.proofs.Texts.{whole-is}
 use Rattle.text.proofs.WellFormed.{form-only, unrefused-passed, passed-unrefused}
 use Rattle.tree.specs.Rendering.{node-lines, render}
-use Rattle.tree.specs.Due.{by-writer, pending, writer-due, nothing-due, tests, next, end}
+use Rattle.tree.specs.Course.{by-writer, pending, writer-due, nothing-due, tests, next-due, end}
 use Rattle.tree.specs.WellFormed.{WellFormed}
 use Rattle.tree.proofs.Bounds.{add}
 use Rattle.tree.proofs.Written.{lines-one, render-lines}
@@ -33,12 +33,12 @@ module _ (P : Instance) (some : 1 ≤ P .periods) where
     where
       forth : WellFormed P text → (length text ≤ 1048576) × ((w : ℕ) × (t : Tree) × ((text ≡ render w t) × GoodWriter w × Limits P root 0 t))
       forth f =
-          let p = unrefused-passed (λ s l. form-only (tests P s l)) (next P) end 2 writer-due (later (linesOf text))
-          (λ n m r. let b = line-broken-is P some n m (later (linesOf text)) .0 r in f .unbroken n m (b .0) (b .1)) in
-          let w = passed-left P writer-due (p .1 .last) (later (linesOf text)) (p .0) (p .1 .passed) (p .1 .ends) in
+          let p = unrefused-passed (λ s l. form-only (tests P s l)) (next-due P) end 2 writer-due (later (lines-of text))
+          (λ n m r. let b = line-broken-is P some n m (later (lines-of text)) .0 r in f .unbroken n m (b .0) (b .1)) in
+          let w = passed-left P writer-due (p .1 .last) (later (lines-of text)) (p .0) (p .1 .passed) (p .1 .ends) in
           (f .short, go w (w .forest .trees) (w .forest .limited) (w .forest .lines))
         where
-          go : (w : FormWhole P (later (linesOf text))) (ts : List Tree) → Limited P (pending root 0 ∷ []) ts → w .after ≡ map ended (forest-lines ts)
+          go : (w : FormWhole P (later (lines-of text))) (ts : List Tree) → Limited P (pending root 0 ∷ []) ts → w .after ≡ map ended (forest-lines ts)
               → (w : ℕ) × (t : Tree) × ((text ≡ render w t) × GoodWriter w × Limits P root 0 t)
           go w [] g l = absurd g
           go w (t ∷ u ∷ ts) g l = absurd (g .1)
@@ -46,7 +46,7 @@ module _ (P : Instance) (some : 1 ≤ P .periods) where
             w .writer,
             t,
             (
-              whole-is text kindTree (plain-line writer-key (w .writer ∷ []) ∷ (node-lines t ++ (endTree ∷ []))) (f .first) (lines-one (w .writer) t) .0
+              whole-is text kind-tree (plain-line writer-key (w .writer ∷ []) ∷ (node-lines t ++ (end-tree ∷ []))) (f .first) (lines-one (w .writer) t) .0
                   (w .lines ∙ ap (λ (x : List Line). ended (plain-line writer-key (w .writer ∷ [])) ∷ x) l),
               w .range,
               g .0,
@@ -55,13 +55,13 @@ module _ (P : Instance) (some : 1 ≤ P .periods) where
 
       back : (length text ≤ 1048576) × ((w : ℕ) × (t : Tree) × ((text ≡ render w t) × GoodWriter w × Limits P root 0 t)) → WellFormed P text
       back (h, (w, t, (e, ok, within))) =
-          let ls = ap linesOf e ∙ render-lines w t in
+          let ls = ap lines-of e ∙ render-lines w t in
           let F = add P root (by-writer w) t in
           let a = also P some (writer-good P w ok)
-          (both P some (map ended (node-lines t)) (ended endTree ∷ []) (node-passes P some root 0 (by-writer w) [] t within) (also P some (end-good P F) none-yet)) in
+          (both P some (map ended (node-lines t)) (ended end-tree ∷ []) (node-passes P some root 0 (by-writer w) [] t within) (also P some (end-good P F) none-yet)) in
           record {
             short = h;
             first = ap due ls;
-            unbroken = λ n m o b. passed-unrefused (λ s l. form-only (tests P s l)) (next P) end 2 writer-due (later (linesOf text)) F
-                (rw (ap later ls) (record { last = nothing-due F; passed = a; ends = refl })) n m (line-broken-is P some n m (later (linesOf text)) .1 (o, b));
+            unbroken = λ n m o b. passed-unrefused (λ s l. form-only (tests P s l)) (next-due P) end 2 writer-due (later (lines-of text)) F
+                (rw (ap later ls) (record { last = nothing-due F; passed = a; ends = refl })) n m (line-broken-is P some n m (later (lines-of text)) .1 (o, b));
           }

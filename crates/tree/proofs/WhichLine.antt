@@ -10,9 +10,10 @@ use lib.ListN.{length, length-append}
 use Rattle.model.specs.Instance.{Instance}
 use Rattle.model.specs.Above.{Above, root}
 use Rattle.model.specs.Tree.{Holds}
-use Rattle.text.specs.Lines.{Line, ended, due, later, linesOf, endTree}
+use Rattle.text.specs.Lines.{Line, ended, due, later, lines-of, end-tree}
 use Rattle.text.specs.Writer.{writer-form}
-use Rattle.text.specs.Tests.{First, tests-before, RefusedAt}
+use Rattle.text.specs.Tests as lines
+use Rattle.text.specs.Tests.{FirstTrue, tests-before}
 use Rattle.text.specs.LineRefused.{Unfit, Beginning, Refuses, at-numbers, at-last, behind-last, LineRefused}
 use Rattle.text.specs.WellFormed.{of-form}
 use Rattle.text.proofs.Tests.{first-every}
@@ -22,10 +23,10 @@ use Rattle.text.proofs.WhichLine as which
 use Rattle.text.proofs.WhichLine.{Follows}
 use Rattle.tree.specs.Rendering.{node-lines}
 use Rattle.tree.specs.Places.{Place, node-at, reserve-at, LineAt, HoldsAmong}
-use Rattle.tree.specs.Refusals.{WrittenTree, written-lines, NodeBreaks, ReserveBreaks, Breaks, InLimits, HoldsSoFar, BrokenAt, Refused}
+use Rattle.tree.specs.Refusals.{WrittenTree, written-lines, NodeBreaks, ReserveBreaks, Breaks, InLimits, HoldsSoFar, BrokenAt, RefusedAt}
 use Rattle.tree.specs.Refusals as refusals
-use Rattle.tree.specs.Due.{Due, writer-due, nodes-due, tests, next, end}
-use Rattle.tree.specs.Due as machine
+use Rattle.tree.specs.Course.{Due, writer-due, nodes-due, tests, next-due, end}
+use Rattle.tree.specs.Course as machine
 use Rattle.tree.proofs.FormLines.{all-of-form}
 use Rattle.tree.proofs.FormTests.{form-first}
 use Rattle.tree.proofs.LinePlaces.{line-among, line-once}
@@ -35,13 +36,13 @@ use Rattle.tree.proofs.LinesBegin.{begun}
 use Rattle.tree.proofs.LeavesHold.{leaves-hold}
 
 lines-long : (v : WrittenTree) → length (written-lines v) ≡ 2 + length (node-lines (v .tree))
-lines-long v = let e = length-append (node-lines (v .tree)) (endTree ∷ []) in omega arith
+lines-long v = let e = length-append (node-lines (v .tree)) (end-tree ∷ []) in omega arith
 
 module _ (P : Instance) (some : 1 ≤ P .periods) where
   -- ---- the first test that holds is the number that refuses the line at its place
 
   abbrev Number : WrittenTree → ℕ → List Line → ℕ → Type 0
-  Number v k left n = Refuses written-lines endTree (HoldsSoFar P) (Breaks P) v k left n
+  Number v k left n = Refuses written-lines end-tree (HoldsSoFar P) (Breaks P) v k left n
 
   module _ (v : WrittenTree) (k : ℕ) (left : List Line) where
     -- the writer line
@@ -78,7 +79,7 @@ module _ (P : Instance) (some : 1 ≤ P .periods) where
     reserve-breaks i A q z c n (behind-last e f) = absurd (let h = lines-long v in let m = line-among c in omega arith)
 
     -- the end line
-    end-missing : k ≡ suc (length (node-lines (v .tree))) → (n : ℕ) → Number v k left n → (n ≡ 12) × (due left ≡ ended endTree → ⊥)
+    end-missing : k ≡ suc (length (node-lines (v .tree))) → (n : ℕ) → Number v k left n → (n ≡ 12) × (due left ≡ ended end-tree → ⊥)
     end-missing z n (at-numbers (refusals.at-writer e u)) = absurd (omega arith)
     end-missing z n (at-numbers (refusals.at-node e a b)) = absurd (let m = line-among a in omega arith)
     end-missing z n (at-numbers (refusals.at-reserve e a b)) = absurd (let m = line-among a in omega arith)
@@ -94,7 +95,7 @@ module _ (P : Instance) (some : 1 ≤ P .periods) where
     something-left z n (behind-last e f) = (refl, f)
 
     at-place-refuses : (i : ℕ) (w : Place) (s : Due) → k ≡ suc i → LineAt root 0 (v .tree) i w → DueAt w s → (n : ℕ)
-        → First n (tests-before (tests P) (next P) end s left) ↔ Number v k left n
+        → FirstTrue n (tests-before (tests P) (next-due P) end s left) ↔ Number v k left n
     at-place-refuses i w s z c (node-due {A} {d} {F} {ps}) n =
         let law = node-first P A d F ps left n in
         (λ h. at-numbers (refusals.at-node z c (law .0 h)), λ r. law .1 (node-breaks i A d z c n r))
@@ -102,26 +103,26 @@ module _ (P : Instance) (some : 1 ≤ P .periods) where
         let law = reserve-first P some A q F ps left n in
         (λ h. at-numbers (refusals.at-reserve z c (law .0 h)), λ r. law .1 (reserve-breaks i A q z c n r))
 
-    refuses : (s : Due) → Stands v k s → (n : ℕ) → First n (tests-before (tests P) (next P) end s left) ↔ Number v k left n
+    refuses : (s : Due) → Stands v k s → (n : ℕ) → FirstTrue n (tests-before (tests P) (next-due P) end s left) ↔ Number v k left n
     unfolding tests
     refuses s (at-writer z) n =
-        let law = numbers-due (tests P) (next P) end writer-due writer-form (λ l. []) refl (λ l. refl) left n in
+        let law = numbers-due (tests P) (next-due P) end writer-due writer-form (λ l. []) refl (λ l. refl) left n in
         (λ h. at-numbers (refusals.at-writer z (go (law .0 h))), λ r. law .1 (inl (writer-unfit z n r)))
       where
-        go : {X : Type 0} → Unfit writer-form (due left) n ⊎ (X × First n []) → Unfit writer-form (due left) n
+        go : {X : Type 0} → Unfit writer-form (due left) n ⊎ (X × FirstTrue n []) → Unfit writer-form (due left) n
         go (inl u) = u
         go (inr (t, f)) = absurd (first-every (λ _. ⊥) n [] tt f)
     refuses s (at-place {i} {w} z c t) n = at-place-refuses i w s z c t n
     refuses s (at-end {F} z) n =
-        let law = word-due (tests P) (next P) end (nodes-due F []) endTree refl (λ l. refl) left n in
+        let law = word-due (tests P) (next-due P) end (nodes-due F []) end-tree refl (λ l. refl) left n in
         (λ h. subst (Number v k left) (sym (law .0 h .0)) (at-last (omega (arith, lines-long v)) (law .0 h .1)), λ r. law .1 (end-missing z n r))
     refuses s (past-end {F} z) n =
-        let law = nothing-due (tests P) (next P) end (machine.nothing-due F) F refl (λ l. refl) left n in
+        let law = nothing-due (tests P) (next-due P) end (machine.nothing-due F) F refl (λ l. refl) left n in
         (λ h. subst (Number v k left) (sym (law .0 h .0)) (behind-last (omega (arith, lines-long v)) (law .0 h .1)), λ r. law .1 (something-left z n r))
 
   -- ---- all tests
 
-  pub all-follow : Follows (tests P) (next P) end written-lines endTree (HoldsSoFar P) (Breaks P) writer-due Stands
+  pub all-follow : Follows (tests P) (next-due P) end written-lines end-tree (HoldsSoFar P) (Breaks P) writer-due Stands
   all-follow = record {
     passes = λ v ls b. begins-come P (tests P) (Holds P) (HoldsAmong P) some (all-takes P some) v (b .within .0 .0) (b .within .0 .1) ls (b .more) (b .whole) (b .within .1);
     begins = λ s ls p.
@@ -132,13 +133,13 @@ module _ (P : Instance) (some : 1 ≤ P .periods) where
 
   module _ (n m : ℕ) where
     pub line-refused-is : (ls : List Line)
-        → RefusedAt (tests P) (next P) end n m 2 writer-due ls ↔ LineRefused written-lines endTree (HoldsSoFar P) (Breaks P) n m ls
-    line-refused-is ls = which.line-refused-is (tests P) (next P) end written-lines endTree (HoldsSoFar P) (Breaks P) all-follow n m ls
+        → lines.RefusedAt (tests P) (next-due P) end n m 2 writer-due ls ↔ LineRefused written-lines end-tree (HoldsSoFar P) (Breaks P) n m ls
+    line-refused-is ls = which.line-refused-is (tests P) (next-due P) end written-lines end-tree (HoldsSoFar P) (Breaks P) all-follow n m ls
 
     -- with the refused line the lines begin no text of a tree within the limits whose leaves, as far as they end there, hold
-    pub with-it-none : (text : List ℕ) (r : Refused P text n m) (x : Line) (rest : List Line) → r .left ≡ x ∷ rest
+    pub with-it-none : (text : List ℕ) (r : RefusedAt P text n m) (x : Line) (rest : List Line) → r .left ≡ x ∷ rest
         → (v : WrittenTree) → Beginning written-lines (HoldsSoFar P) (r .before ++ (x ∷ [])) v → ⊥
-    with-it-none text = which.with-it-none (tests P) (next P) end written-lines endTree (HoldsSoFar P) (Breaks P) all-follow n m (later (linesOf text))
+    with-it-none text = which.with-it-none (tests P) (next-due P) end written-lines end-tree (HoldsSoFar P) (Breaks P) all-follow n m (later (lines-of text))
 
   -- ---- the tests of the form
 
@@ -146,17 +147,17 @@ module _ (P : Instance) (some : 1 ≤ P .periods) where
   FormBreaks v k l n = (of-form n ≡ true) × Breaks P v k l n
 
   module _ (W : WrittenTree → ℕ → Type 0) (v : WrittenTree) (k : ℕ) (left : List Line) where
-    of-form-only : (n : ℕ) → of-form n ≡ true → Refuses written-lines endTree W (Breaks P) v k left n → Refuses written-lines endTree (InLimits P) FormBreaks v k left n
+    of-form-only : (n : ℕ) → of-form n ≡ true → Refuses written-lines end-tree W (Breaks P) v k left n → Refuses written-lines end-tree (InLimits P) FormBreaks v k left n
     of-form-only n o (at-numbers b) = at-numbers (o, b)
     of-form-only n o (at-last e f) = at-last e f
     of-form-only n o (behind-last e f) = behind-last e f
 
-    of-all : (n : ℕ) → Refuses written-lines endTree (InLimits P) FormBreaks v k left n → (of-form n ≡ true) × Refuses written-lines endTree W (Breaks P) v k left n
+    of-all : (n : ℕ) → Refuses written-lines end-tree (InLimits P) FormBreaks v k left n → (of-form n ≡ true) × Refuses written-lines end-tree W (Breaks P) v k left n
     of-all n (at-numbers (o, b)) = (o, at-numbers b)
     of-all n (at-last e f) = (refl, at-last e f)
     of-all n (behind-last e f) = (refl, behind-last e f)
 
-  form-follow : Follows (λ s l. form-only (tests P s l)) (next P) end written-lines endTree (InLimits P) FormBreaks writer-due Stands
+  form-follow : Follows (λ s l. form-only (tests P s l)) (next-due P) end written-lines end-tree (InLimits P) FormBreaks writer-due Stands
   form-follow = record {
     passes = λ v ls b. begins-come P (λ s l. form-only (tests P s l)) (λ A t. Unit {0}) (λ A k t. Unit {0}) some (form-takes P some) v (b .within .0) (b .within .1) ls (b .more) (b .whole) tt;
     begins = λ s ls p. let b = begun P some s ls p in (b .text, record { more = b .more; whole = b .whole; within = b .within });
@@ -170,13 +171,13 @@ module _ (P : Instance) (some : 1 ≤ P .periods) where
 
   -- a number of the form breaks a line at its place exactly where its test is the first of these that holds
   pub line-broken-is : (n m : ℕ) (ls : List Line)
-      → RefusedAt (λ s l. form-only (tests P s l)) (next P) end n m 2 writer-due ls ↔ ((of-form n ≡ true) × BrokenAt P n m ls)
+      → lines.RefusedAt (λ s l. form-only (tests P s l)) (next-due P) end n m 2 writer-due ls ↔ ((of-form n ≡ true) × BrokenAt P n m ls)
   line-broken-is n m ls = (λ r. narrow (law .0 r), λ b. law .1 (widen (b .0) (b .1)))
     where
-      law : RefusedAt (λ s l. form-only (tests P s l)) (next P) end n m 2 writer-due ls ↔ LineRefused written-lines endTree (InLimits P) FormBreaks n m ls
-      law = which.line-refused-is (λ s l. form-only (tests P s l)) (next P) end written-lines endTree (InLimits P) FormBreaks form-follow n m ls
+      law : lines.RefusedAt (λ s l. form-only (tests P s l)) (next-due P) end n m 2 writer-due ls ↔ LineRefused written-lines end-tree (InLimits P) FormBreaks n m ls
+      law = which.line-refused-is (λ s l. form-only (tests P s l)) (next-due P) end written-lines end-tree (InLimits P) FormBreaks form-follow n m ls
 
-      narrow : LineRefused written-lines endTree (InLimits P) FormBreaks n m ls → (of-form n ≡ true) × BrokenAt P n m ls
+      narrow : LineRefused written-lines end-tree (InLimits P) FormBreaks n m ls → (of-form n ≡ true) × BrokenAt P n m ls
       narrow r =
           let f = of-all (InLimits P) (r .value) (length (r .before)) (r .left) n (r .refuses) in
           let b = r .begins in (
@@ -192,7 +193,7 @@ module _ (P : Instance) (some : 1 ≤ P .periods) where
             },
           )
 
-      widen : of-form n ≡ true → BrokenAt P n m ls → LineRefused written-lines endTree (InLimits P) FormBreaks n m ls
+      widen : of-form n ≡ true → BrokenAt P n m ls → LineRefused written-lines end-tree (InLimits P) FormBreaks n m ls
       widen o r =
           let b = r .begins in
           record {

@@ -5,7 +5,7 @@ use mathlib.Core.List.{List, [], _∷_}
 use Prim.Native.Nat.{ℕ}
 use lib.Dec.{lit<, lit≤}
 use lib.IntN.{pos}
-use Rattle.decimal.specs.Decimal.{digits, digitsBy}
+use Rattle.decimal.specs.Decimal.{digits, digits-by}
 use Rattle.model.specs.declared.generator.Generator.{Generator}
 use Rattle.model.specs.Instance.{Instance}
 use Rattle.model.specs.Above.{root}
@@ -13,22 +13,22 @@ use Rattle.model.specs.Cost.{row-cost}
 use Rattle.model.specs.Leaf.{available, rows-of, is-stuck, revenue, value, unit-least, units-least, requirement, leaf-value}
 use Rattle.model.specs.Tree.{Tree, split, short, price, Limits, Holds, Bound, number, bound, splits, leaves}
 use Rattle.refusal.specs.Refusals.{line-refusal}
-use Rattle.text.specs.Lines.{kindTree}
+use Rattle.text.specs.Lines.{kind-tree}
 use Rattle.text.specs.Course.{accepted, refused-at, judged-from}
-use Rattle.text.specs.Forms.{malformed, wrongCount, outOfRange}
+use Rattle.text.specs.Forms.{malformed, wrong-count, outside-range}
 use Rattle.text.specs.Rendering.{plain-line, text-of}
 use Rattle.text.specs.Writer.{writer-key}
 use Rattle.text.proofs.Courses as courses
 use Rattle.text.proofs.WellFormed.{form-only}
 use Rattle.tree.specs.Rendering.{split-key, short-key, node-lines, render}
-use Rattle.tree.specs.NodeLines.{kind-of, split-again, too-deep, not-short, not-stuck}
-use Rattle.tree.specs.Due.{writer-due, tests, after-node, next, judge, end, judged}
+use Rattle.tree.specs.NodeLines.{line-kind-of, split-again, too-deep, not-short, not-stuck}
+use Rattle.tree.specs.Course.{writer-due, tests, after-node, next-due, judge, end, tree-judged}
 use Rattle.tree.specs.WellFormed.{WellFormed}
-use Rattle.tree.specs.Reading.{coded, read-as, tree-read}
+use Rattle.tree.specs.ReadAnswers.{coded, read-as, tree-read}
 use Rattle.tree.specs.declared.figures.Bound.the-variants.{Number}
 use Rattle.tree.specs.declared.TreeRead.the-variants.{Refused, Accepted}
 use Rattle.tree.proofs.Complete.{tree-accepted}
-use Rattle.tree.proofs.Answers.{refused-is-first}
+use Rattle.tree.proofs.Acceptance.{refused-is}
 use Rattle.tree.proofs.ReadAnswers.{read-refused}
 use Rattle.tree.proofs.WhichLine.{line-broken-is}
 use Rattle.tree.proofs.WellFormed.{well-formed-is}
@@ -59,7 +59,7 @@ text =
     101 ∷ 110 ∷ 100 ∷ 61 ∷ 116 ∷ 114 ∷ 101 ∷ 101 ∷ 10 ∷ []
 
 written : render 3 tree ≡ text
-unfolding render node-lines digits digitsBy
+unfolding render node-lines digits digits-by
 written = refl
 
 within : Limits problem root 0 tree
@@ -71,9 +71,9 @@ unfolding Holds available is-stuck
 holds = ((lit< tt, lit< tt), tt)
 
 -- one split line and two leaves, and the bound of the tree
-pub accepted-tree : judged problem text ≡ accepted (record { writer = 3; bound = bound problem root tree; splits = 1; leaves = 2 })
+pub accepted-tree : tree-judged problem text ≡ accepted (record { writer = 3; bound = bound problem root tree; splits = 1; leaves = 2 })
 unfolding splits leaves
-accepted-tree = ap (judged problem) (sym written) ∙ tree-accepted problem (lit≤ tt) 3 tree (lit≤ tt, lit≤ tt) within holds
+accepted-tree = ap (tree-judged problem) (sym written) ∙ tree-accepted problem (lit≤ tt) 3 tree (lit≤ tt, lit≤ tt) within holds
 
 pub bound-1980 : bound problem root tree ≡ number (pos 1980)
 unfolding bound leaf-value units-least unit-least rows-of value revenue requirement row-cost
@@ -84,7 +84,7 @@ bound-1980 = refl
 abbrev lone-price : Tree
 lone-price = price (10 ∷ 14 ∷ []) (0 ∷ 2 ∷ [])
 
-pub lone-price-accepted : judged problem (render 3 lone-price) ≡ accepted (record { writer = 3; bound = number (pos 1940); splits = 0; leaves = 1 })
+pub lone-price-accepted : tree-judged problem (render 3 lone-price) ≡ accepted (record { writer = 3; bound = number (pos 1940); splits = 0; leaves = 1 })
 unfolding splits leaves Limits Holds is-stuck bound leaf-value units-least unit-least rows-of value revenue requirement row-cost
 lone-price-accepted =
     tree-accepted problem (lit≤ tt) 3 lone-price (lit≤ tt, lit≤ tt)
@@ -97,8 +97,8 @@ abbrev no-writer : List ℕ
 no-writer =
     107 ∷ 105 ∷ 110 ∷ 100 ∷ 61 ∷ 116 ∷ 114 ∷ 101 ∷ 101 ∷ 10 ∷ []
 
-no-writer-refused : judged problem no-writer ≡ refused-at 12 2
-unfolding judged judged-from judge tests next after-node kind-of malformed wrongCount outOfRange split-again too-deep not-short not-stuck available is-stuck
+no-writer-refused : tree-judged problem no-writer ≡ refused-at 12 2
+unfolding tree-judged judged-from judge tests next-due after-node line-kind-of malformed wrong-count outside-range split-again too-deep not-short not-stuck available is-stuck
 no-writer-refused = refl
 
 -- writer=0
@@ -107,8 +107,8 @@ writer-zero =
     107 ∷ 105 ∷ 110 ∷ 100 ∷ 61 ∷ 116 ∷ 114 ∷ 101 ∷ 101 ∷ 10 ∷
     119 ∷ 114 ∷ 105 ∷ 116 ∷ 101 ∷ 114 ∷ 61 ∷ 48 ∷ 10 ∷ []
 
-writer-zero-refused : judged problem writer-zero ≡ refused-at 13 2
-unfolding judged judged-from judge tests next after-node kind-of malformed wrongCount outOfRange split-again too-deep not-short not-stuck available is-stuck
+writer-zero-refused : tree-judged problem writer-zero ≡ refused-at 13 2
+unfolding tree-judged judged-from judge tests next-due after-node line-kind-of malformed wrong-count outside-range split-again too-deep not-short not-stuck available is-stuck
 writer-zero-refused = refl
 
 -- a lone short=2
@@ -119,8 +119,8 @@ lone-short =
     115 ∷ 104 ∷ 111 ∷ 114 ∷ 116 ∷ 61 ∷ 50 ∷ 10 ∷
     101 ∷ 110 ∷ 100 ∷ 61 ∷ 116 ∷ 114 ∷ 101 ∷ 101 ∷ 10 ∷ []
 
-lone-short-refused : judged problem lone-short ≡ refused-at 33 3
-unfolding judged judged-from judge tests next after-node kind-of malformed wrongCount outOfRange split-again too-deep not-short not-stuck available is-stuck
+lone-short-refused : tree-judged problem lone-short ≡ refused-at 33 3
+unfolding tree-judged judged-from judge tests next-due after-node line-kind-of malformed wrong-count outside-range split-again too-deep not-short not-stuck available is-stuck
 lone-short-refused = refl
 
 -- a lone stuck=1
@@ -131,8 +131,8 @@ lone-stuck =
     115 ∷ 116 ∷ 117 ∷ 99 ∷ 107 ∷ 61 ∷ 49 ∷ 10 ∷
     101 ∷ 110 ∷ 100 ∷ 61 ∷ 116 ∷ 114 ∷ 101 ∷ 101 ∷ 10 ∷ []
 
-lone-stuck-refused : judged problem lone-stuck ≡ refused-at 34 3
-unfolding judged judged-from judge tests next after-node kind-of malformed wrongCount outOfRange split-again too-deep not-short not-stuck available is-stuck
+lone-stuck-refused : tree-judged problem lone-stuck ≡ refused-at 34 3
+unfolding tree-judged judged-from judge tests next-due after-node line-kind-of malformed wrong-count outside-range split-again too-deep not-short not-stuck available is-stuck
 lone-stuck-refused = refl
 
 -- split=0,1
@@ -142,8 +142,8 @@ no-unit =
     119 ∷ 114 ∷ 105 ∷ 116 ∷ 101 ∷ 114 ∷ 61 ∷ 51 ∷ 10 ∷
     115 ∷ 112 ∷ 108 ∷ 105 ∷ 116 ∷ 61 ∷ 48 ∷ 44 ∷ 49 ∷ 10 ∷ []
 
-no-unit-refused : judged problem no-unit ≡ refused-at 13 3
-unfolding judged judged-from judge tests next after-node kind-of malformed wrongCount outOfRange split-again too-deep not-short not-stuck available is-stuck
+no-unit-refused : tree-judged problem no-unit ≡ refused-at 13 3
+unfolding tree-judged judged-from judge tests next-due after-node line-kind-of malformed wrong-count outside-range split-again too-deep not-short not-stuck available is-stuck
 no-unit-refused = refl
 
 -- split=3: one value, and out of range
@@ -153,8 +153,8 @@ one-value =
     119 ∷ 114 ∷ 105 ∷ 116 ∷ 101 ∷ 114 ∷ 61 ∷ 51 ∷ 10 ∷
     115 ∷ 112 ∷ 108 ∷ 105 ∷ 116 ∷ 61 ∷ 51 ∷ 10 ∷ []
 
-one-value-refused : judged problem one-value ≡ refused-at 14 3
-unfolding judged judged-from judge tests next after-node kind-of malformed wrongCount outOfRange split-again too-deep not-short not-stuck available is-stuck
+one-value-refused : tree-judged problem one-value ≡ refused-at 14 3
+unfolding tree-judged judged-from judge tests next-due after-node line-kind-of malformed wrong-count outside-range split-again too-deep not-short not-stuck available is-stuck
 one-value-refused = refl
 
 -- end=tree where a node is due
@@ -164,8 +164,8 @@ no-tree =
     119 ∷ 114 ∷ 105 ∷ 116 ∷ 101 ∷ 114 ∷ 61 ∷ 51 ∷ 10 ∷
     101 ∷ 110 ∷ 100 ∷ 61 ∷ 116 ∷ 114 ∷ 101 ∷ 101 ∷ 10 ∷ []
 
-no-tree-refused : judged problem no-tree ≡ refused-at 12 3
-unfolding judged judged-from judge tests next after-node kind-of malformed wrongCount outOfRange split-again too-deep not-short not-stuck available is-stuck
+no-tree-refused : tree-judged problem no-tree ≡ refused-at 12 3
+unfolding tree-judged judged-from judge tests next-due after-node line-kind-of malformed wrong-count outside-range split-again too-deep not-short not-stuck available is-stuck
 no-tree-refused = refl
 
 -- the first tree under split=1,1 begins with split=1,1
@@ -176,8 +176,8 @@ split-twice =
     115 ∷ 112 ∷ 108 ∷ 105 ∷ 116 ∷ 61 ∷ 49 ∷ 44 ∷ 49 ∷ 10 ∷
     115 ∷ 112 ∷ 108 ∷ 105 ∷ 116 ∷ 61 ∷ 49 ∷ 44 ∷ 49 ∷ 10 ∷ []
 
-split-twice-refused : judged problem split-twice ≡ refused-at 31 4
-unfolding judged judged-from judge tests next after-node kind-of malformed wrongCount outOfRange split-again too-deep not-short not-stuck available is-stuck
+split-twice-refused : tree-judged problem split-twice ≡ refused-at 31 4
+unfolding tree-judged judged-from judge tests next-due after-node line-kind-of malformed wrong-count outside-range split-again too-deep not-short not-stuck available is-stuck
 split-twice-refused = refl
 
 -- unit 1 off in period 1 and on in period 2, against TD: at the reserve line
@@ -192,8 +192,8 @@ stuck-unit =
     112 ∷ 114 ∷ 105 ∷ 99 ∷ 101 ∷ 61 ∷ 49 ∷ 44 ∷ 49 ∷ 10 ∷
     114 ∷ 101 ∷ 115 ∷ 101 ∷ 114 ∷ 118 ∷ 101 ∷ 61 ∷ 49 ∷ 44 ∷ 49 ∷ 10 ∷ []
 
-stuck-unit-refused : judged problem stuck-unit ≡ refused-at 35 8
-unfolding judged judged-from judge tests next after-node kind-of malformed wrongCount outOfRange split-again too-deep not-short not-stuck available is-stuck
+stuck-unit-refused : tree-judged problem stuck-unit ≡ refused-at 35 8
+unfolding tree-judged judged-from judge tests next-due after-node line-kind-of malformed wrong-count outside-range split-again too-deep not-short not-stuck available is-stuck
 stuck-unit-refused = refl
 
 -- a price line where the reserve line is due
@@ -204,8 +204,8 @@ no-reserve =
     112 ∷ 114 ∷ 105 ∷ 99 ∷ 101 ∷ 61 ∷ 49 ∷ 44 ∷ 49 ∷ 10 ∷
     112 ∷ 114 ∷ 105 ∷ 99 ∷ 101 ∷ 61 ∷ 49 ∷ 44 ∷ 49 ∷ 10 ∷ []
 
-no-reserve-refused : judged problem no-reserve ≡ refused-at 12 4
-unfolding judged judged-from judge tests next after-node kind-of malformed wrongCount outOfRange split-again too-deep not-short not-stuck available is-stuck
+no-reserve-refused : tree-judged problem no-reserve ≡ refused-at 12 4
+unfolding tree-judged judged-from judge tests next-due after-node line-kind-of malformed wrong-count outside-range split-again too-deep not-short not-stuck available is-stuck
 no-reserve-refused = refl
 
 -- a byte 10 after the end line
@@ -218,28 +218,28 @@ one-byte-more =
     101 ∷ 110 ∷ 100 ∷ 61 ∷ 116 ∷ 114 ∷ 101 ∷ 101 ∷ 10 ∷
     10 ∷ []
 
-one-byte-more-refused : judged problem one-byte-more ≡ refused-at 12 6
-unfolding judged judged-from judge tests next after-node kind-of malformed wrongCount outOfRange split-again too-deep not-short not-stuck available is-stuck
+one-byte-more-refused : tree-judged problem one-byte-more ≡ refused-at 12 6
+unfolding tree-judged judged-from judge tests next-due after-node line-kind-of malformed wrong-count outside-range split-again too-deep not-short not-stuck available is-stuck
 one-byte-more-refused = refl
 
 -- ---- well-formed, though a leaf doesn't hold
 
 -- a text of the kind by writer 1, with these lines after that
 abbrev nodes : List (List ℕ) → List ℕ
-nodes bs = text-of (kindTree ∷ plain-line writer-key (1 ∷ []) ∷ bs)
+nodes bs = text-of (kind-tree ∷ plain-line writer-key (1 ∷ []) ∷ bs)
 
 -- a lone short=2 (33); the same where a second tree or the end line is due is judged on: split=2,2 / short=1 / short=3 has 33 at line 4 and 13 at line 5
 pub lone-short-formed : WellFormed problem lone-short
-unfolding Limits render node-lines digits digitsBy
+unfolding Limits render node-lines digits digits-by
 lone-short-formed = well-formed-is problem (lit≤ tt) lone-short .1 (lit≤ tt, (3, short 1, (refl, (lit≤ tt, lit≤ tt), lit< tt)))
 
-pub judged-on : (judged problem (nodes (plain-line split-key (2 ∷ 2 ∷ []) ∷ plain-line short-key (1 ∷ []) ∷ plain-line short-key (3 ∷ []) ∷ [])) ≡ refused-at 33 4)
+pub judged-on : (tree-judged problem (nodes (plain-line split-key (2 ∷ 2 ∷ []) ∷ plain-line short-key (1 ∷ []) ∷ plain-line short-key (3 ∷ []) ∷ [])) ≡ refused-at 33 4)
     × (WellFormed problem (nodes (plain-line split-key (2 ∷ 2 ∷ []) ∷ plain-line short-key (1 ∷ []) ∷ plain-line short-key (3 ∷ []) ∷ [])) → ⊥)
-unfolding judged judged-from judge tests next after-node kind-of malformed wrongCount outOfRange split-again too-deep not-short not-stuck available is-stuck digits digitsBy
+unfolding tree-judged judged-from judge tests next-due after-node line-kind-of malformed wrong-count outside-range split-again too-deep not-short not-stuck available is-stuck digits digits-by
 judged-on = (
   refl,
   λ f. f .unbroken 13 5 refl
-      (line-broken-is problem (lit≤ tt) 13 5 _ .0 (courses.refused-is (λ s l. form-only (tests problem s l)) (next problem) end 13 5 2 writer-due _ .0 refl) .1),
+      (line-broken-is problem (lit≤ tt) 13 5 _ .0 (courses.refused-is (λ s l. form-only (tests problem s l)) (next-due problem) end 13 5 2 writer-due _ .0 refl) .1),
 )
 
 -- ---- the marked specimens, as read_tree answers them
@@ -253,4 +253,4 @@ unfolding tree-read read-as
 specimen-price = ap read-as lone-price-accepted
 
 pub specimen-short : tree-read problem lone-short ≡ Refused (line-refusal 33 3)
-specimen-short = read-refused problem (lit≤ tt) lone-short 33 3 .1 (refused-is-first problem (lit≤ tt) lone-short 33 3 .0 lone-short-refused)
+specimen-short = read-refused problem (lit≤ tt) lone-short 33 3 .1 (refused-is problem (lit≤ tt) lone-short 33 3 .0 lone-short-refused)

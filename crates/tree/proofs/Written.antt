@@ -4,33 +4,33 @@ use mathlib.Core.Bool.{false}
 use mathlib.Core.List.{List, [], _∷_, _++_, map}
 use Prim.Native.Nat.{ℕ, suc}
 use Rattle.model.specs.Tree.{Tree, split, short, stuck, price}
-use Rattle.text.specs.Lines.{Line, ended, linesOf, kindTree, endTree}
+use Rattle.text.specs.Lines.{Line, ended, lines-of, kind-tree, end-tree}
 use Rattle.text.specs.Rendering.{plain-line}
 use Rattle.text.specs.Writer.{writer-key}
-use Rattle.text.proofs.Bytes.{one-line}
+use Rattle.text.proofs.Bytes.{rendered-one-line}
 use Rattle.text.proofs.Texts.{OneLines, one-lines-both, lines-text}
 use Rattle.tree.specs.Rendering.{split-key, short-key, stuck-key, price-key, reserve-key, node-lines, tree-lines, render}
 
 node-one : (t : Tree) → OneLines (node-lines t)
 unfolding node-lines
-node-one (split U t x y) = (one-line split-key 0 false (suc U ∷ suc t ∷ []) refl, one-lines-both (node-lines x) (node-lines y) (node-one x) (node-one y))
-node-one (short t) = (one-line short-key 0 false (suc t ∷ []) refl, tt)
-node-one (stuck U) = (one-line stuck-key 0 false (suc U ∷ []) refl, tt)
-node-one (price q s) = (one-line price-key 0 false q refl, (one-line reserve-key 0 false s refl, tt))
+node-one (split U t x y) = (rendered-one-line split-key 0 false (suc U ∷ suc t ∷ []) refl, one-lines-both (node-lines x) (node-lines y) (node-one x) (node-one y))
+node-one (short t) = (rendered-one-line short-key 0 false (suc t ∷ []) refl, tt)
+node-one (stuck U) = (rendered-one-line stuck-key 0 false (suc U ∷ []) refl, tt)
+node-one (price q s) = (rendered-one-line price-key 0 false q refl, (rendered-one-line reserve-key 0 false s refl, tt))
 
 pub map-both : (a b : List (List ℕ)) → map ended (a ++ b) ≡ map ended a ++ map ended b
 map-both [] b = refl
 map-both (x ∷ a) b = ap (λ (y : List Line). ended x ∷ y) (map-both a b)
 
 pub lines-one : (w : ℕ) (t : Tree) → OneLines (tree-lines w t)
-lines-one w t = (refl, (one-line writer-key 0 false (w ∷ []) refl, one-lines-both (node-lines t) (endTree ∷ []) (node-one t) (refl, tt)))
+lines-one w t = (refl, (rendered-one-line writer-key 0 false (w ∷ []) refl, one-lines-both (node-lines t) (end-tree ∷ []) (node-one t) (refl, tt)))
 
 -- the lines of a text, cut
-pub render-cut : (w : ℕ) (t : Tree) → linesOf (render w t) ≡ map ended (tree-lines w t)
+pub render-cut : (w : ℕ) (t : Tree) → lines-of (render w t) ≡ map ended (tree-lines w t)
 unfolding render
 render-cut w t = lines-text (tree-lines w t) (lines-one w t)
 
 pub render-lines : (w : ℕ) (t : Tree)
-    → linesOf (render w t) ≡ ended kindTree ∷ ended (plain-line writer-key (w ∷ [])) ∷ (map ended (node-lines t) ++ (ended endTree ∷ []))
+    → lines-of (render w t) ≡ ended kind-tree ∷ ended (plain-line writer-key (w ∷ [])) ∷ (map ended (node-lines t) ++ (ended end-tree ∷ []))
 render-lines w t =
-    render-cut w t ∙ ap (λ (x : List Line). ended kindTree ∷ ended (plain-line writer-key (w ∷ [])) ∷ x) (map-both (node-lines t) (endTree ∷ []))
+    render-cut w t ∙ ap (λ (x : List Line). ended kind-tree ∷ ended (plain-line writer-key (w ∷ [])) ∷ x) (map-both (node-lines t) (end-tree ∷ []))

@@ -12,7 +12,7 @@ use Rattle.tree.specs.declared.figures.Bound.{Bound}
 use Rattle.tree.specs.declared.figures.Bound.the-variants.{Never, Number}
 use Rattle.tree.specs.declared.figures.Tally.{Tally}
 use Rattle.tree.specs.NodeLines.{is-fixed}
-use Rattle.tree.specs.Due.{Figures}
+use Rattle.tree.specs.Course.{Bounded}
 
 -- ---- what stands above a node
 
@@ -38,10 +38,10 @@ abbrev pub lower-of : Bound → Bound → Bound
 lower-of a b = coded (lower (bound-of a) (bound-of b))
 
 -- a tally has no writer
-abbrev pub figures : ℕ → Tally → Figures
-figures w S = record { writer = w; bound = bound-of (S .bound); splits = S .splits; leaves = S .leaves }
+abbrev pub bounded : ℕ → Tally → Bounded
+bounded w S = record { writer = w; bound = bound-of (S .bound); splits = S .splits; leaves = S .leaves }
 
-abbrev pub tally-of : Figures → Tally
+abbrev pub tally-of : Bounded → Tally
 tally-of F = record { bound = coded (F .bound); splits = F .splits; leaves = F .leaves }
 
 abbrev pub none-read : Tally

@@ -1,10 +1,10 @@
 -- The code's kinds of node lines.
 use Rattle.tree.specs.declared.node.NodeKind.{NodeKind}
 use Rattle.tree.specs.declared.node.NodeKind.the-variants.{Split, Short, Stuck, Price}
-use Rattle.tree.specs.NodeLines.{Kind, split-line, short-line, stuck-line, price-line}
+use Rattle.tree.specs.NodeLines.{LineKind, split-line, short-line, stuck-line, price-line}
 
-abbrev pub node-kind : NodeKind → Kind
-node-kind Split = split-line
-node-kind Short = short-line
-node-kind Stuck = stuck-line
-node-kind Price = price-line
+abbrev pub line-kind : NodeKind → LineKind
+line-kind Split = split-line
+line-kind Short = short-line
+line-kind Stuck = stuck-line
+line-kind Price = price-line

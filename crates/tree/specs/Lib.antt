@@ -3,9 +3,9 @@ pub mod Rendering
 pub mod NodeLines
 pub mod Places
 pub mod Refusals
-pub mod Due
-pub mod Answers
+pub mod Course
+pub mod Acceptance
 pub mod Coded
 pub mod Kinds
-pub mod Reading
+pub mod ReadAnswers
 pub mod WellFormed

@@ -7,7 +7,7 @@ use lib.ListN.{length}
 use Rattle.model.specs.Instance.{Instance, _at_}
 use Rattle.model.specs.Above.{Mark, free, fixed, Above}
 use Rattle.model.specs.Leaf.{available, stuck-at, any-stuck}
-use Rattle.text.specs.Lines.{Line, bytesOf, begins}
+use Rattle.text.specs.Lines.{Line, bytes-of, begins}
 use Rattle.text.specs.Forms.{Form, form, plain, numbers-of, form-tests}
 use Rattle.text.specs.Tests.{Test, _if_}
 use Rattle.tree.specs.Rendering.{split-key, short-key, stuck-key, price-key, reserve-key}
@@ -15,19 +15,19 @@ use Rattle.tree.specs.Rendering.{split-key, short-key, stuck-key, price-
 -- ---- what a line is due to be
 
 -- the four node lines
-pub data Kind : Type 0 where
-  split-line short-line stuck-line price-line : Kind
+pub data LineKind : Type 0 where
+  split-line short-line stuck-line price-line : LineKind
 
 -- by the key that the line begins with; a line with no node's key is no price line either
-unfoldable pub kind-of : Line → Kind
-kind-of l =
-    cond (begins split-key (bytesOf l)) split-line
-    (cond (begins short-key (bytesOf l)) short-line
-    (cond (begins stuck-key (bytesOf l)) stuck-line
+unfoldable pub line-kind-of : Line → LineKind
+line-kind-of l =
+    cond (begins split-key (bytes-of l)) split-line
+    (cond (begins short-key (bytes-of l)) short-line
+    (cond (begins stuck-key (bytes-of l)) stuck-line
     price-line))
 
 -- a unit and a period, each from 1 on; or a multiplier for each period
-abbrev pub node-form : Instance → Kind → Form
+abbrev pub node-form : Instance → LineKind → Form
 node-form P split-line = form split-key 0 (1 ∷ 1 ∷ []) (length (P .units) ∷ P .periods ∷ [])
 node-form P short-line = plain short-key 1 1 (P .periods)
 node-form P stuck-line = plain stuck-key 1 1 (length (P .units))
@@ -47,21 +47,21 @@ is-fixed free = false
 is-fixed (fixed b) = true
 
 -- 31: a split on a status that is fixed already
-unfoldable pub split-again : Instance → Above → Kind → Line → Bool
+unfoldable pub split-again : Instance → Above → LineKind → Line → Bool
 split-again P A split-line l = is-fixed (A .marks (named (node-form P split-line) l 0) (named (node-form P split-line) l 1))
 split-again P A short-line l = false
 split-again P A stuck-line l = false
 split-again P A price-line l = false
 
 -- 32: a split deeper than 63
-unfoldable pub too-deep : ℕ → Kind → Bool
+unfoldable pub too-deep : ℕ → LineKind → Bool
 too-deep d split-line = ltb 63 d
 too-deep d short-line = false
 too-deep d stuck-line = false
 too-deep d price-line = false
 
 -- 33: what is available reaches D + R
-unfoldable pub not-short : Instance → Above → Kind → Line → Bool
+unfoldable pub not-short : Instance → Above → LineKind → Line → Bool
 not-short P A split-line l = false
 not-short P A short-line l =
     let t = named (node-form P short-line) l 0 in
@@ -70,7 +70,7 @@ not-short P A stuck-line l = false
 not-short P A price-line l = false
 
 -- 34: a run of the unit's statuses obeys and agrees
-unfoldable pub not-stuck : Instance → Above → Kind → Line → Bool
+unfoldable pub not-stuck : Instance → Above → LineKind → Line → Bool
 not-stuck P A split-line l = false
 not-stuck P A short-line l = false
 not-stuck P A stuck-line l = not (stuck-at (P .periods) (P .units) (A .marks) (named (node-form P stuck-line) l 0))
@@ -79,7 +79,7 @@ not-stuck P A price-line l = false
 -- ---- the order of the numbers (document 01, Numbers that come from the docket)
 
 -- a node line
-abbrev pub node-tests : Instance → Above → ℕ → Kind → Line → List Test
+abbrev pub node-tests : Instance → Above → ℕ → LineKind → Line → List Test
 node-tests P A d k l =
     form-tests (node-form P k) l
     (31 if split-again P A k l ∷ 32 if too-deep d k ∷ 33 if not-short P A k l ∷ 34 if not-stuck P A k l ∷ [])

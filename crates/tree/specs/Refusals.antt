@@ -8,12 +8,12 @@ use Rattle.model.specs.Instance.{Instance}
 use Rattle.model.specs.Ranges.{GoodWriter}
 use Rattle.model.specs.Above.{free, Above, root}
 use Rattle.model.specs.Tree.{Tree, short, stuck, price, Limits, Holds, Multipliers}
-use Rattle.text.specs.Lines.{Line, ended, later, linesOf, endTree}
+use Rattle.text.specs.Lines.{Line, ended, later, lines-of, end-tree}
 use Rattle.text.specs.Rendering.{plain-line}
 use Rattle.text.specs.Writer.{writer-form}
 use Rattle.text.specs.LineRefused.{Renders, Unfit, LineRefused}
 use Rattle.tree.specs.Rendering.{split-key, short-key, stuck-key, reserve-key, lines-after}
-use Rattle.tree.specs.NodeLines.{Kind, node-form, reserve-form}
+use Rattle.tree.specs.NodeLines.{LineKind, node-form, reserve-form}
 use Rattle.tree.specs.Places.{node-at, reserve-at, LineAt, HoldsAmong}
 
 -- a writer and a tree
@@ -28,17 +28,17 @@ written-lines v = lines-after (v .writer) (v .tree)
 -- n refuses the line l where a node is due at depth d with A above it
 pub data NodeBreaks (P : Instance) (A : Above) (d : ℕ) (l : Line) : ℕ → Type 0 where
   -- 12: it shows no values after any node's key
-  no-node : ((k : Kind) → Unfit (node-form P k) l 12) → NodeBreaks P A d l 12
+  no-node : ((k : LineKind) → Unfit (node-form P k) l 12) → NodeBreaks P A d l 12
   -- 14, 13: it does after the key of one
-  unfit : {n : ℕ} (k : Kind) (neg : Bool) (vs : List ℕ) → Renders (node-form P k) l neg vs → Unfit (node-form P k) l n → NodeBreaks P A d l n
+  unfit : {n : ℕ} (k : LineKind) (neg : Bool) (vs : List ℕ) → Renders (node-form P k) l neg vs → Unfit (node-form P k) l n → NodeBreaks P A d l n
   -- 31: a split on a status that is fixed already
   again : (U t : ℕ) → U < length (P .units) → t < P .periods → l ≡ ended (plain-line split-key (suc U ∷ suc t ∷ [])) → (A .marks U t ≡ free → ⊥) → NodeBreaks P A d l 31
   -- 32: a split deeper than 63
-  too-deep : (U t : ℕ) → U < length (P .units) → t < P .periods → l ≡ ended (plain-line split-key (suc U ∷ suc t ∷ [])) → A .marks U t ≡ free → 63 < d
+  deeper : (U t : ℕ) → U < length (P .units) → t < P .periods → l ≡ ended (plain-line split-key (suc U ∷ suc t ∷ [])) → A .marks U t ≡ free → 63 < d
       → NodeBreaks P A d l 32
   -- 33, 34: a leaf that does not meet its rule
-  not-short : (t : ℕ) → Limits P A d (short t) → l ≡ ended (plain-line short-key (suc t ∷ [])) → (Holds P A (short t) → ⊥) → NodeBreaks P A d l 33
-  not-stuck : (U : ℕ) → Limits P A d (stuck U) → l ≡ ended (plain-line stuck-key (suc U ∷ [])) → (Holds P A (stuck U) → ⊥) → NodeBreaks P A d l 34
+  short-fails : (t : ℕ) → Limits P A d (short t) → l ≡ ended (plain-line short-key (suc t ∷ [])) → (Holds P A (short t) → ⊥) → NodeBreaks P A d l 33
+  stuck-fails : (U : ℕ) → Limits P A d (stuck U) → l ≡ ended (plain-line stuck-key (suc U ∷ [])) → (Holds P A (stuck U) → ⊥) → NodeBreaks P A d l 34
 
 -- n refuses the line l where the reserve line of a price leaf is due, with A above the leaf and q its price multipliers
 pub data ReserveBreaks (P : Instance) (A : Above) (q : List ℕ) (l : Line) : ℕ → Type 0 where
@@ -63,8 +63,8 @@ module _ (P : Instance) where
 
   -- the lines before line m begin the text of a writer and a tree within the limits, and n refuses line m, of lines after the first
   abbrev pub BrokenAt : ℕ → ℕ → List Line → Type 0
-  BrokenAt n m ls = LineRefused written-lines endTree InLimits Breaks n m ls
+  BrokenAt n m ls = LineRefused written-lines end-tree InLimits Breaks n m ls
 
   -- and the leaves before it meet their rules: so it is the text that n refuses
-  abbrev pub Refused : List ℕ → ℕ → ℕ → Type 0
-  Refused text n m = LineRefused written-lines endTree HoldsSoFar Breaks n m (later (linesOf text))
+  abbrev pub RefusedAt : List ℕ → ℕ → ℕ → Type 0
+  RefusedAt text n m = LineRefused written-lines end-tree HoldsSoFar Breaks n m (later (lines-of text))

@@ -2,7 +2,7 @@
 use mathlib.Core.List.{List, [], _∷_, _++_}
 use Prim.Native.Nat.{ℕ, suc}
 use Rattle.model.specs.Tree.{Tree, split, short, stuck, price}
-use Rattle.text.specs.Lines.{kindTree, endTree}
+use Rattle.text.specs.Lines.{kind-tree, end-tree}
 use Rattle.text.specs.Rendering.{plain-line, text-of}
 use Rattle.text.specs.Writer.{writer-key}
 
@@ -35,11 +35,11 @@ node-lines (price q s) = plain-line price-key q ∷ plain-line reserve-key s ∷
 
 -- the lines of the text after the first
 abbrev pub lines-after : ℕ → Tree → List (List ℕ)
-lines-after w t = plain-line writer-key (w ∷ []) ∷ (node-lines t ++ (endTree ∷ []))
+lines-after w t = plain-line writer-key (w ∷ []) ∷ (node-lines t ++ (end-tree ∷ []))
 
 -- all lines of the text
 abbrev pub tree-lines : ℕ → Tree → List (List ℕ)
-tree-lines w t = kindTree ∷ lines-after w t
+tree-lines w t = kind-tree ∷ lines-after w t
 
 -- the text of a tree by the writer w
 unfoldable pub render : ℕ → Tree → List ℕ

@@ -2,9 +2,9 @@
 use Prim.Native.Nat.{ℕ}
 use mathlib.Core.List.{List}
 use Rattle.model.specs.Instance.{Instance}
-use Rattle.text.specs.Lines.{kindTree}
+use Rattle.text.specs.Lines.{kind-tree}
 use Rattle.text.specs.WellFormed.{Formed}
 use Rattle.tree.specs.Refusals.{BrokenAt}
 
 abbrev pub WellFormed : Instance → List ℕ → Type 0
-WellFormed P text = Formed kindTree (BrokenAt P) text
+WellFormed P text = Formed kind-tree (BrokenAt P) text

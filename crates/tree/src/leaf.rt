@@ -3,10 +3,10 @@ ghost use mathlib.Core.Path.{_≡_};
 ghost use lib.ListN.{length, take};
 ghost use Rattle.model.specs.Tree.{Multipliers};
 ghost use Rattle.numbers.specs.Numbers.{instance-in, Laid};
-ghost use Rattle.text.specs.Lines.{lineAt};
-ghost use Rattle.tree.specs.NodeLines.{kind-of, short-line, stuck-line, price-line};
+ghost use Rattle.text.specs.Lines.{line-at};
+ghost use Rattle.tree.specs.NodeLines.{line-kind-of, short-line, stuck-line, price-line};
 ghost use Rattle.tree.specs.Coded.{above-of};
-ghost use Rattle.tree.specs.Reading.{leaf-read, reserve-read, Placed};
+ghost use Rattle.tree.specs.ReadAnswers.{leaf-read, reserve-read, Placed};
 use crate::figures::Bound;
 use crate::figures::Tally;
 use crate::naming::NamedLine;
@@ -45,7 +45,7 @@ pub fn read_short(
     requires { ⌜ Laid (now numbers) ⌝ }
     requires { ⌜ length (now fixed) ≡ 1536 ⌝ }
     requires { ⌜ Placed (now text) at line tally ⌝ }
-    requires { ⌜ kind-of (lineAt (now text) at) ≡ short-line ⌝ }
+    requires { ⌜ line-kind-of (line-at (now text) at) ≡ short-line ⌝ }
     ensures { λ r. ⌜ r ≡ leaf-read (instance-in (now (numbers .entry))) (now (text .entry)) at line tally (above-of (instance-in (now (numbers .entry)) .periods) (now (fixed .entry))) ⌝ }
 {
     let periods = periods_in(numbers);
@@ -77,7 +77,7 @@ pub fn read_stuck(
     requires { ⌜ Laid (now numbers) ⌝ }
     requires { ⌜ length (now fixed) ≡ 1536 ⌝ }
     requires { ⌜ Placed (now text) at line tally ⌝ }
-    requires { ⌜ kind-of (lineAt (now text) at) ≡ stuck-line ⌝ }
+    requires { ⌜ line-kind-of (line-at (now text) at) ≡ stuck-line ⌝ }
     ensures { λ r. ⌜ r ≡ leaf-read (instance-in (now (numbers .entry))) (now (text .entry)) at line tally (above-of (instance-in (now (numbers .entry)) .periods) (now (fixed .entry))) ⌝ }
 {
     let units = units_in(numbers);
@@ -145,7 +145,7 @@ pub fn read_price(
     requires { ⌜ Laid (now numbers) ⌝ }
     requires { ⌜ length (now fixed) ≡ 1536 ⌝ }
     requires { ⌜ Placed (now text) at line tally ⌝ }
-    requires { ⌜ kind-of (lineAt (now text) at) ≡ price-line ⌝ }
+    requires { ⌜ line-kind-of (line-at (now text) at) ≡ price-line ⌝ }
     ensures { λ r. ⌜ r ≡ leaf-read (instance-in (now (numbers .entry))) (now (text .entry)) at line tally (above-of (instance-in (now (numbers .entry)) .periods) (now (fixed .entry))) ⌝ }
 {
     let periods = periods_in(numbers);

@@ -2,8 +2,8 @@
 ghost use mathlib.Core.Path.{_≡_};
 ghost use mathlib.Core.Bool.{true};
 ghost use Prim.Native.Nat.{_≤_};
-ghost use Rattle.text.specs.Lines.{oneLine};
-ghost use Rattle.tree.specs.Reading.{named-line-read};
+ghost use Rattle.text.specs.Lines.{one-line};
+ghost use Rattle.tree.specs.ReadAnswers.{named-line-read};
 use text::Verdict;
 
 // What such a line is at its place: refused by a number, or the one that it names, from 0, with the next line's start.
@@ -14,7 +14,7 @@ pub enum NamedLine {
 
 // What the line that starts at `at` with key is, where it may name 1 to most.
 pub fn read_named(text: &[u8], at: usize, key: &[u8], most: usize) -> NamedLine
-    requires { ⌜ (oneLine (now key) ≡ true) × (most ≤ 48) ⌝ }
+    requires { ⌜ (one-line (now key) ≡ true) × (most ≤ 48) ⌝ }
     ensures { λ r. ⌜ r ≡ named-line-read (now (key .entry)) most (now (text .entry)) at ⌝ }
 {
     let mut values = [0u64; 1];

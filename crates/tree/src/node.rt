@@ -3,11 +3,11 @@ ghost use mathlib.Core.Path.{_≡_};
 ghost use Prim.Native.Nat.{_+_, _≤_, _<_};
 ghost use lib.ListN.{length, set};
 ghost use Rattle.numbers.specs.Numbers.{instance-in, Laid};
-ghost use Rattle.text.specs.Lines.{lineAt};
-ghost use Rattle.tree.specs.NodeLines.{kind-of};
+ghost use Rattle.text.specs.Lines.{line-at};
+ghost use Rattle.tree.specs.NodeLines.{line-kind-of};
 ghost use Rattle.tree.specs.Coded.{above-of};
-ghost use Rattle.tree.specs.Kinds.{node-kind};
-ghost use Rattle.tree.specs.Reading.{node-read, trees-read, Placed};
+ghost use Rattle.tree.specs.Kinds.{line-kind};
+ghost use Rattle.tree.specs.ReadAnswers.{node-read, trees-read, Placed};
 use crate::above::OFF;
 use crate::above::ON;
 use crate::figures::Tally;
@@ -29,7 +29,7 @@ pub enum NodeKind {
 
 // Which node line starts at `at`, by its key; where it has none of the keys, a price line is missed.
 fn find_kind(text: &[u8], at: usize) -> NodeKind
-    ensures { λ r. ⌜ node-kind r ≡ kind-of (lineAt (now (text .entry)) at) ⌝ }
+    ensures { λ r. ⌜ line-kind r ≡ line-kind-of (line-at (now (text .entry)) at) ⌝ }
 {
     if text::starts(text, at, b"split=") {
         return NodeKind::Split;

@@ -4,7 +4,7 @@ ghost use Prim.Native.Nat.{_+_, _*_, _≤_, _<_};
 ghost use lib.ListN.{length};
 ghost use Rattle.numbers.specs.Numbers.{instance-in, Laid};
 ghost use Rattle.tree.specs.Coded.{above-of, split-refusal};
-ghost use Rattle.tree.specs.Reading.{split-line-read};
+ghost use Rattle.tree.specs.ReadAnswers.{split-line-read};
 use crate::above::is_fixed;
 use numbers::periods_in;
 use numbers::units_in;

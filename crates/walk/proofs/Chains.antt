@@ -12,15 +12,15 @@ use lib.Seq.{getD-set-same, getD-set-other}
 use Rattle.model.specs.Walk.{plus, lesser}
 use Rattle.model.specs.Table.{kept, chain-at, Chained}
 use Rattle.model.proofs.Coded.{plus-some, lesser-some}
-use Rattle.walk.specs.Steps.{Written, Backed}
+use Rattle.walk.specs.GoingBack.{Rewritten, Backed}
 
 -- ---- a run that is written
 
-pub written-none : (l : List ℕ) (from : ℕ) (f : ℕ → ℕ) → Written l l from from f
+pub written-none : (l : List ℕ) (from : ℕ) (f : ℕ → ℕ) → Rewritten l l from from f
 written-none l from f = record { same = refl; inside = λ k i j. absurd (omega arith); below = λ k i. refl; above = λ k i. refl }
 
-pub written-more : (old new : List ℕ) (from i x : ℕ) (f : ℕ → ℕ) → from ≤ i → i < length old → Written old new from i f → x ≡ f i
-    → Written old (set new i x) from (i + 1) f
+pub written-more : (old new : List ℕ) (from i x : ℕ) (f : ℕ → ℕ) → from ≤ i → i < length old → Rewritten old new from i f → x ≡ f i
+    → Rewritten old (set new i x) from (i + 1) f
 written-more old new from i x f h l W e =
     let there : i < length new = omega (arith, W .same) in
     record {
@@ -31,15 +31,15 @@ written-more old new from i x f h l W e =
       above = λ k j. getD-set-other new i k x 0 (omega arith) ∙ W .above k (omega arith);
     }
 
-pub written-ext : (old new : List ℕ) (from to : ℕ) (f g : ℕ → ℕ) → ((k : ℕ) → f k ≡ g k) → Written old new from to f → Written old new from to g
+pub written-ext : (old new : List ℕ) (from to : ℕ) (f g : ℕ → ℕ) → ((k : ℕ) → f k ≡ g k) → Rewritten old new from to f → Rewritten old new from to g
 written-ext old new from to f g h W = record { same = W .same; inside = λ k i j. W .inside k i j ∙ h k; below = W .below; above = W .above }
 
 -- ---- the three runs of a status
 
 -- one after the other: the states that cannot be left, those left early, and the last
 pub backed-is : (old mid new : List ℕ) (from end early last : ℕ) (allowed : Bool) (v x : ℕ) → from ≤ end → length old ≡ end + 1
-    → Written old mid 0 from (λ k. kept allowed v (getD old (k + 1) 0))
-    → Written mid new from end (λ k. lesser early (kept allowed v (getD mid (k + 1) 0)))
+    → Rewritten old mid 0 from (λ k. kept allowed v (getD old (k + 1) 0))
+    → Rewritten mid new from end (λ k. lesser early (kept allowed v (getD mid (k + 1) 0)))
     → x ≡ lesser last (kept allowed v (getD old end 0))
     → Backed old (set new end x) from early last allowed v
 backed-is old mid new from end early last allowed v x h e A B g =
@@ -81,8 +81,8 @@ backed-chained old new need from early last allowed v pos e B = record { same = 
 -- ---- where every state has a value
 
 -- a run that is written so is one of coded values
-pub written-within : (old new : List ℕ) (from to : ℕ) (f g : ℕ → ℕ) → ((k : ℕ) → from ≤ k → k < to → f k ≡ g k) → Written old new from to f
-    → Written old new from to g
+pub written-within : (old new : List ℕ) (from to : ℕ) (f g : ℕ → ℕ) → ((k : ℕ) → from ≤ k → k < to → f k ≡ g k) → Rewritten old new from to f
+    → Rewritten old new from to g
 written-within old new from to f g h W =
     record { same = W .same; inside = λ k i j. W .inside k i j ∙ h k i j; below = W .below; above = W .above }
 
@@ -92,8 +92,8 @@ lesser-plus-some early cost v h i = rw (plus-some cost v i) (lesser-some early (
 module _ (old : List ℕ) (has : (k : ℕ) → k < length old → 0 < getD old k 0) (from end early last cost : ℕ) (h : from ≤ end) (e : length old ≡ end + 1)
     (early-there : 0 < early) (last-there : 0 < last) where
   -- the three runs one after the other
-  pub valued-is : (mid new : List ℕ) (x : ℕ) → Written old mid 0 from (λ k. cost + getD old (k + 1) 0)
-      → Written mid new from end (λ k. min early (cost + getD mid (k + 1) 0)) → x ≡ min last (cost + getD old end 0)
+  pub valued-is : (mid new : List ℕ) (x : ℕ) → Rewritten old mid 0 from (λ k. cost + getD old (k + 1) 0)
+      → Rewritten mid new from end (λ k. min early (cost + getD mid (k + 1) 0)) → x ≡ min last (cost + getD old end 0)
       → Backed old (set new end x) from early last true cost
   valued-is mid new x A B g =
       let kept-low = written-within old mid 0 from _ (λ k. kept true cost (getD old (k + 1) 0))

@@ -17,7 +17,7 @@ use Rattle.model.specs.Walk.{plus, lesser, Values, move, back, walk, cap}
 use Rattle.model.specs.Table.{Tabled, values}
 use Rattle.model.proofs.Coded.{plus-some, plus-inv, lesser-left, lesser-right, lesser-one}
 use Rattle.model.proofs.Tests.{T-and, T-and-l, T-and-r}
-use Rattle.walk.specs.Steps.{Known, Rising, is-open}
+use Rattle.walk.specs.GoingBack.{Known, Rising, is-open}
 
 -- ---- one period back
 

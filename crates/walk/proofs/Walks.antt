@@ -23,7 +23,7 @@ use Rattle.model.proofs.WalkSizes.{walk-most, switch-cost-fits}
 use Rattle.model.proofs.WalkPeriods.{values-end, values-back, values-start, values-settled}
 use Rattle.walk.specs.Marks.{marks-of}
 use Rattle.walk.specs.Limits.{GoodCosts, GoodValue}
-use Rattle.walk.specs.Steps.{by-status, costs-of, Back, Known}
+use Rattle.walk.specs.GoingBack.{by-status, costs-of, Back, Known}
 
 -- ---- one period back, by the case of the state
 

@@ -15,7 +15,7 @@ use Rattle.model.proofs.WalkPeriods.{values-settled}
 use Rattle.model.proofs.Tables.{tabled-most, on-chained, off-chained, tabled-end, tabled-back, tabled-start}
 use Rattle.walk.specs.Marks.{marks-of}
 use Rattle.walk.specs.Limits.{GoodCosts, GoodValue}
-use Rattle.walk.specs.Steps.{costs-of, Tables, Back}
+use Rattle.walk.specs.GoingBack.{costs-of, Tables, Back}
 use Rattle.walk.proofs.Walks.{values-good}
 
 module _ (g : Generator) (good : GoodUnit g) (n : ℕ) (on off fixed : List ℕ) (C : GoodCosts n on off) where

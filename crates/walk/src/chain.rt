@@ -5,7 +5,7 @@ ghost use lib.ListN.{length};
 ghost use Rattle.model.specs.Instance.{_at_};
 ghost use Rattle.model.specs.Walk.{plus, lesser};
 ghost use Rattle.walk.specs.Limits.{GoodCost, GoodValue};
-ghost use Rattle.walk.specs.Steps.{Written};
+ghost use Rattle.walk.specs.GoingBack.{Rewritten};
 
 // A coded value with k added.
 fn plus_value(k: u64, v: u64) -> u64
@@ -49,7 +49,7 @@ pub fn first_early(need: usize, end: usize) -> usize
 // Gives the states from `from` to `to` the value v.
 pub fn fill_states(states: &mut [u64], from: usize, to: usize, v: u64)
     requires { ⌜ (from ≤ to) × (to ≤ length (now states)) ⌝ }
-    ensures { λ r. ⌜ Written (now (states .entry)) (now (states .exit)) from to (λ k. v) ⌝ }
+    ensures { λ r. ⌜ Rewritten (now (states .entry)) (now (states .exit)) from to (λ k. v) ⌝ }
 {
     let mut i = from;
     while i < to {
@@ -62,7 +62,7 @@ pub fn fill_states(states: &mut [u64], from: usize, to: usize, v: u64)
 pub fn keep_states(states: &mut [u64], from: usize, to: usize, cost: u64)
     requires { ⌜ (from ≤ to) × (to < length (now states)) ⌝ }
     requires { ⌜ GoodCost cost × ((k : ℕ) → from ≤ k → GoodValue ((now states) at k)) ⌝ }
-    ensures { λ r. ⌜ Written (now (states .entry)) (now (states .exit)) from to (λ k. plus cost ((now (states .entry)) at (k + 1))) ⌝ }
+    ensures { λ r. ⌜ Rewritten (now (states .entry)) (now (states .exit)) from to (λ k. plus cost ((now (states .entry)) at (k + 1))) ⌝ }
 {
     let mut i = from;
     while i < to {
@@ -75,7 +75,7 @@ pub fn keep_states(states: &mut [u64], from: usize, to: usize, cost: u64)
 fn lower_states(states: &mut [u64], from: usize, to: usize, early: u64, cost: u64)
     requires { ⌜ (from ≤ to) × (to < length (now states)) × (0 < early) ⌝ }
     requires { ⌜ GoodCost cost × ((k : ℕ) → from ≤ k → GoodValue ((now states) at k)) ⌝ }
-    ensures { λ r. ⌜ Written (now (states .entry)) (now (states .exit)) from to (λ k. lesser early (plus cost ((now (states .entry)) at (k + 1)))) ⌝ }
+    ensures { λ r. ⌜ Rewritten (now (states .entry)) (now (states .exit)) from to (λ k. lesser early (plus cost ((now (states .entry)) at (k + 1)))) ⌝ }
 {
     let mut i = from;
     while i < to {
@@ -88,7 +88,7 @@ fn lower_states(states: &mut [u64], from: usize, to: usize, early: u64, cost: u6
 pub fn leave_or_keep_states(states: &mut [u64], from: usize, to: usize, early: u64, cost: u64)
     requires { ⌜ (from ≤ to) × (to < length (now states)) ⌝ }
     requires { ⌜ GoodCost cost × ((k : ℕ) → from ≤ k → GoodValue ((now states) at k)) ⌝ }
-    ensures { λ r. ⌜ Written (now (states .entry)) (now (states .exit)) from to (λ k. lesser early (plus cost ((now (states .entry)) at (k + 1)))) ⌝ }
+    ensures { λ r. ⌜ Rewritten (now (states .entry)) (now (states .exit)) from to (λ k. lesser early (plus cost ((now (states .entry)) at (k + 1)))) ⌝ }
 {
     if early == 0 {
         keep_states(states, from, to, cost);

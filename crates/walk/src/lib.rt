@@ -10,7 +10,7 @@ ghost use Rattle.model.specs.Walk.{Values, back, walk};
 ghost use Rattle.model.specs.Table.{values};
 ghost use Rattle.walk.specs.Marks.{mark-of, marks-of};
 ghost use Rattle.walk.specs.Limits.{GoodCost, GoodCosts, GoodValue};
-ghost use Rattle.walk.specs.Steps.{by-status, costs-of, Tables};
+ghost use Rattle.walk.specs.GoingBack.{by-status, costs-of, Tables};
 
 mod chain;
 mod table;

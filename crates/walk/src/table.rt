@@ -9,7 +9,7 @@ ghost use Rattle.model.specs.Walk.{lesser};
 ghost use Rattle.model.specs.Table.{kept, Chained};
 ghost use Rattle.walk.specs.Marks.{mark-of};
 ghost use Rattle.walk.specs.Limits.{GoodCost, GoodValue};
-ghost use Rattle.walk.specs.Steps.{Back, Backed, Rising, is-open};
+ghost use Rattle.walk.specs.GoingBack.{Back, Backed, Rising, is-open};
 use crate::chain::fill_states;
 use crate::chain::first_early;
 use crate::chain::keep_states;

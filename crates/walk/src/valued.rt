@@ -8,7 +8,7 @@ ghost use Rattle.model.specs.Ranges.{Between, GoodUnit};
 ghost use Rattle.model.specs.Above.{Mark, allows};
 ghost use Rattle.model.specs.Table.{Chained};
 ghost use Rattle.walk.specs.Limits.{GoodCost, GoodValue};
-ghost use Rattle.walk.specs.Steps.{Written, Back, Valued};
+ghost use Rattle.walk.specs.GoingBack.{Rewritten, Back, Valued};
 use crate::chain::first_early;
 use model::generator::Generator;
 
@@ -26,7 +26,7 @@ fn smaller_value(x: u64, y: u64) -> u64
 fn keep_valued(states: &mut [u64], to: usize, cost: u64)
     requires { ⌜ to < length (now states) ⌝ }
     requires { ⌜ GoodCost cost × ((k : ℕ) → GoodValue ((now states) at k)) ⌝ }
-    ensures { λ r. ⌜ Written (now (states .entry)) (now (states .exit)) 0 to (λ k. cost + (now (states .entry)) at (k + 1)) ⌝ }
+    ensures { λ r. ⌜ Rewritten (now (states .entry)) (now (states .exit)) 0 to (λ k. cost + (now (states .entry)) at (k + 1)) ⌝ }
 {
     let mut i = 0;
     while i < to {
@@ -39,7 +39,7 @@ fn keep_valued(states: &mut [u64], to: usize, cost: u64)
 fn lower_valued(states: &mut [u64], from: usize, to: usize, early: u64, cost: u64)
     requires { ⌜ (from ≤ to) × (to < length (now states)) ⌝ }
     requires { ⌜ GoodCost cost × ((k : ℕ) → from ≤ k → GoodValue ((now states) at k)) ⌝ }
-    ensures { λ r. ⌜ Written (now (states .entry)) (now (states .exit)) from to (λ k. min early (cost + (now (states .entry)) at (k + 1))) ⌝ }
+    ensures { λ r. ⌜ Rewritten (now (states .entry)) (now (states .exit)) from to (λ k. min early (cost + (now (states .entry)) at (k + 1))) ⌝ }
 {
     let mut i = from;
     while i < to {

@@ -2,13 +2,13 @@
 use mathlib.Core.Path.{_≡_, refl}
 use mathlib.Core.List.{[], _∷_}
 use lib.IntN.{pos}
-use Rattle.decimal.specs.Decimal.{digits, digitsBy}
-use Rattle.writer.specs.Written.{over, figure, figureOf, line}
+use Rattle.decimal.specs.Decimal.{digits, digits-by}
+use Rattle.writer.specs.Written.{over, figure, figure-of, line}
 use Rattle.writer.specs.declared.Figure.the-variants.{Missing, Number}
 
 -- gap=0
-gap : line (103 ∷ 97 ∷ 112 ∷ 61 ∷ []) (figureOf (pos 0)) ≡ 103 ∷ 97 ∷ 112 ∷ 61 ∷ 48 ∷ 10 ∷ []
-unfolding figure figureOf digits digitsBy
+gap : line (103 ∷ 97 ∷ 112 ∷ 61 ∷ []) (figure-of (pos 0)) ≡ 103 ∷ 97 ∷ 112 ∷ 61 ∷ 48 ∷ 10 ∷ []
+unfolding figure figure-of digits digits-by
 gap = refl
 
 -- cost=none
@@ -18,5 +18,5 @@ no-cost = refl
 
 -- what is behind stays
 rest-stays : over (figure (Number 7)) (1 ∷ 2 ∷ 3 ∷ []) ≡ 55 ∷ 2 ∷ 3 ∷ []
-unfolding figure digits digitsBy
+unfolding figure digits digits-by
 rest-stays = refl

@@ -6,16 +6,16 @@ use mathlib.Core.List.{List, [], _∷_, _++_}
 use lib.ListN.{length, length-append}
 use lib.IntN.{ℤ, pos, negsuc}
 use Rattle.decimal.specs.Decimal.{digits, shown-whole}
-use Rattle.writer.specs.Written.{none, never, figure, figureOf, line}
+use Rattle.writer.specs.Written.{none-word, never-word, figure, figure-of, line}
 use Rattle.writer.specs.declared.Figure.{Figure}
 use Rattle.writer.specs.declared.Figure.the-variants.{Missing, Never, Number, Minus}
 
 module _ (f : Figure) where
-  pub is-missing : f ≡ Missing → figure f ≡ none
+  pub is-missing : f ≡ Missing → figure f ≡ none-word
   unfolding figure
   is-missing e = ap figure e
 
-  pub is-never : f ≡ Never → figure f ≡ never
+  pub is-never : f ≡ Never → figure f ≡ never-word
   unfolding figure
   is-never e = ap figure e
 
@@ -28,8 +28,8 @@ module _ (f : Figure) where
   is-minus n e = ap figure e
 
 -- the figure of a whole number shows it
-pub figure-shown : (z : ℤ) → figure (figureOf z) ≡ shown-whole z
-unfolding figure figureOf
+pub figure-shown : (z : ℤ) → figure (figure-of z) ≡ shown-whole z
+unfolding figure figure-of
 figure-shown (pos n) = refl
 figure-shown (negsuc n) = refl
 

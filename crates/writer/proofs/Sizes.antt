@@ -10,7 +10,7 @@ use lib.IntN.{ℤ, pos, negsuc, _+ℤ_, _-ℤ_, +ℤ-one}
 use lib.Signed.{mag, ltZ}
 use mir.Syntax.{w64}
 use mir.Val.{SFits}
-use Rattle.writer.specs.Written.{figureOf}
+use Rattle.writer.specs.Written.{figure-of}
 use Rattle.writer.specs.declared.Figure.the-variants.{Number, Minus}
 
 -- one more fits
@@ -25,8 +25,8 @@ turned (pos n) e = let k : n < 0 = ltb-true n 0 e in absurd (omega arith)
 turned (negsuc zero) e = rw (+ℤ-one (negsuc zero)) refl
 turned (negsuc (suc n)) e = rw (+ℤ-one (negsuc (suc n))) (ap pos (zero-add (suc n)))
 
-pub minus-is : (a : ℤ) → ltZ a (pos 0) ≡ true → Minus (mag a + 1) ≡ figureOf a
-unfolding figureOf
+pub minus-is : (a : ℤ) → ltZ a (pos 0) ≡ true → Minus (mag a + 1) ≡ figure-of a
+unfolding figure-of
 minus-is (pos n) e = let k : n < 0 = ltb-true n 0 e in absurd (omega arith)
 minus-is (negsuc n) e = ap Minus (add-one n)
 
@@ -34,7 +34,7 @@ pub from-zero : (a : ℤ) → ltZ a (pos 0) ≡ false → a ≡ pos (mag a)
 from-zero (pos n) e = refl
 from-zero (negsuc n) e = let z : _≡_ {A = ℕ} 0 1 = cc in absurd (omega arith)
 
-pub number-is : (a : ℤ) → ltZ a (pos 0) ≡ false → Number (mag a) ≡ figureOf a
-unfolding figureOf
+pub number-is : (a : ℤ) → ltZ a (pos 0) ≡ false → Number (mag a) ≡ figure-of a
+unfolding figure-of
 number-is (pos n) e = refl
 number-is (negsuc n) e = let z : _≡_ {A = ℕ} 0 1 = cc in absurd (omega arith)

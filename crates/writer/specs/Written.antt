@@ -16,23 +16,23 @@ over l b = l ++ drop (length l) b
 -- ---- document 01, The listing program: how a figure is shown, also one that is not there or not a number
 
 -- none
-abbrev pub none : List ℕ
-none = 110 ∷ 111 ∷ 110 ∷ 101 ∷ []
+abbrev pub none-word : List ℕ
+none-word = 110 ∷ 111 ∷ 110 ∷ 101 ∷ []
 
 -- never
-abbrev pub never : List ℕ
-never = 110 ∷ 101 ∷ 118 ∷ 101 ∷ 114 ∷ []
+abbrev pub never-word : List ℕ
+never-word = 110 ∷ 101 ∷ 118 ∷ 101 ∷ 114 ∷ []
 
 unfoldable pub figure : Figure → List ℕ
-figure Missing = none
-figure Never = never
+figure Missing = none-word
+figure Never = never-word
 figure (Number n) = digits n
 figure (Minus n) = 45 ∷ digits n
 
 -- the figure that shows a whole number
-unfoldable pub figureOf : ℤ → Figure
-figureOf (pos n) = Number n
-figureOf (negsuc n) = Minus (suc n)
+unfoldable pub figure-of : ℤ → Figure
+figure-of (pos n) = Number n
+figure-of (negsuc n) = Minus (suc n)
 
 -- a line: the key with its `=`, the figure, byte 10
 abbrev pub line : List ℕ → Figure → List ℕ

@@ -3,7 +3,7 @@ ghost use mathlib.Core.Path.{_≡_};
 ghost use Prim.Native.Nat.{_+_, _≤_};
 ghost use lib.ListN.{length};
 ghost use Rattle.decimal.specs.Decimal.{digits};
-ghost use Rattle.writer.specs.Written.{over, figureOf, figure, line};
+ghost use Rattle.writer.specs.Written.{over, figure-of, figure, line};
 
 // A value that a line shows: none, never, a number, or a number behind a minus.
 pub enum Figure {
@@ -55,7 +55,7 @@ fn write_number(buf: &mut [u8], n: u64) -> usize
 
 // The figure that shows z.
 pub fn figure_of(z: i64) -> Figure
-    ensures { λ r. ⌜ r ≡ figureOf z ⌝ }
+    ensures { λ r. ⌜ r ≡ figure-of z ⌝ }
 {
     if z < 0 {
         let up = z + 1;

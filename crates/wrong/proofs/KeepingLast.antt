@@ -1,6 +1,6 @@
 -- A docket that keeps the last of equal schedules, or of equal trees, breaks demand 3, however it reports: the same text by another writer is passed.
 use mathlib.Core.Path.{_≡_, refl, sym, subst, _∙_}
-use mathlib.Core.Bool.{Bool, true, false, not}
+use mathlib.Core.Bool.{Bool, true, false, not, cond}
 use Prim.Native.Nat.{ℕ}
 use native.Mathlib.Omega.{arith}
 use lib.Dec.{leb}
@@ -11,7 +11,7 @@ use Rattle.model.specs.Held.{view}
 use Rattle.model.specs.Tree.{Bound, never, number}
 use Rattle.model.proofs.Integers.{ltZ→nat}
 use Rattle.tree.specs.Coded.{bound-of}
-use Rattle.tree.specs.Reading.{coded}
+use Rattle.tree.specs.ReadAnswers.{coded}
 use Rattle.docket.specs.declared.Docket.{Docket}
 use Rattle.docket.specs.declared.held.CostBy.{CostBy}
 use Rattle.docket.specs.declared.held.HeldCost.{HeldCost}
@@ -19,9 +19,9 @@ use Rattle.docket.specs.declared.held.HeldCost.the-variants as held-cost
 use Rattle.docket.specs.declared.held.HeldBound.{HeldBound}
 use Rattle.docket.specs.declared.held.HeldBound.the-variants as held-bound
 use Rattle.answer.specs.declared.Answer.the-variants.{ScheduleHeld, SchedulePassed, TreeHeld, TreePassed}
-use Rattle.answer.specs.Answers.{its-cost, its-bound, Stated, stated, Carries}
+use Rattle.answer.specs.StatedAnswers.{its-cost, its-bound, Stated, stated, Carries}
 use Rattle.docket.specs.Verdicts.{Costed, Verdict, refused, problem, schedule, tree}
-use Rattle.docket.specs.Lodging.{pick, judged, lodged, with-schedule, with-bound, given-figures, is-less, is-higher}
+use Rattle.docket.specs.Lodging.{text-judged, lodged, with-schedule, with-bound, given-figures, is-less, is-higher}
 use Rattle.docket.specs.Demand3.{reached, Reporting, Writing, Demand3}
 use Rattle.wrong.specs.WrongDockets.{IsHeld, IsBound}
 use Rattle.wrong.specs.WrongHolding as wrong
@@ -31,7 +31,7 @@ use Rattle.wrong.proofs.WrongDockets as refuted
 
 -- what is told of a schedule, held or passed
 abbrev told : Docket → Costed → Bool → Stated
-told d s t = stated (pick t (lodged (with-schedule d s) (ScheduleHeld (s .cost))) (lodged d (SchedulePassed (s .cost))) .answer)
+told d s t = stated (cond t (lodged (with-schedule d s) (ScheduleHeld (s .cost))) (lodged d (SchedulePassed (s .cost))) .answer)
 
 no-bound-told : {A : Type 0} {c : ℕ} {b : Bound} {m n : ℕ} → its-bound b m n ≡ its-cost c → A
 no-bound-told e = absurd (let z : _≡_ {A = ℕ} 0 1 = cc in omega arith)
@@ -59,15 +59,15 @@ last-held d by (problem P) e c = tt
 last-held d by (schedule s) e c = told-held d s by (d .held .cost) e c
 last-held d by (tree F) e c = go (is-higher (F .bound) (d .held .bound)) c
   where
-    go : (t : Bool) → Carries (stated (pick t (lodged (with-bound d F) (TreeHeld (given-figures F))) (lodged d (TreePassed (given-figures F))) .answer)) (its-cost (by .cost))
-        → IsHeld (stated (pick t (lodged (with-bound d F) (TreeHeld (given-figures F))) (lodged d (TreePassed (given-figures F))) .answer))
+    go : (t : Bool) → Carries (stated (cond t (lodged (with-bound d F) (TreeHeld (given-figures F))) (lodged d (TreePassed (given-figures F))) .answer)) (its-cost (by .cost))
+        → IsHeld (stated (cond t (lodged (with-bound d F) (TreeHeld (given-figures F))) (lodged d (TreePassed (given-figures F))) .answer))
     go true c = tt
     go false c = no-bound-told c
 
 pub keeping-last-fails : {report : Reporting} {buffer : Writing} → Demand3 wrong.keeping-last report buffer → ⊥
 keeping-last-fails D = refuted.keeps-last wrong.keeping-last D (λ texts text by e c.
     let d = reached wrong.keeping-last texts in
-    last-held d by (judged (d .known) (view (d .problem)) text) e c)
+    last-held d by (text-judged (d .known) (view (d .problem)) text) e c)
 
 -- ---- the last of the highest
 
@@ -101,8 +101,8 @@ last-tree-held d b m n (schedule s) i c = go (is-less (s .cost) (d .held .cost))
 last-tree-held d b m n (tree F) i c = go (wrong.not-lower (F .bound) (d .held .bound)) refl c
   where
     go : (t : Bool) → wrong.not-lower (F .bound) (d .held .bound) ≡ t
-        → Carries (stated (pick t (lodged (with-bound d F) (TreeHeld (given-figures F))) (lodged d (TreePassed (given-figures F))) .answer)) (its-bound b m n)
-        → IsHeld (stated (pick t (lodged (with-bound d F) (TreeHeld (given-figures F))) (lodged d (TreePassed (given-figures F))) .answer))
+        → Carries (stated (cond t (lodged (with-bound d F) (TreeHeld (given-figures F))) (lodged d (TreePassed (given-figures F))) .answer)) (its-bound b m n)
+        → IsHeld (stated (cond t (lodged (with-bound d F) (TreeHeld (given-figures F))) (lodged d (TreePassed (given-figures F))) .answer))
     go true e c = tt
     go false e c =
         let f : bound-of (coded (F .bound)) ≡ b = cc in
@@ -113,4 +113,4 @@ last-tree-held d b m n (tree F) i c = go (wrong.not-lower (F .bound) (d .held .b
 pub keeping-last-tree-fails : {report : Reporting} {buffer : Writing} → Demand3 wrong.keeping-last-tree report buffer → ⊥
 keeping-last-tree-fails D = refuted.keeps-last-tree wrong.keeping-last-tree D (λ texts text b m n i c.
     let d = reached wrong.keeping-last-tree texts in
-    last-tree-held d b m n (judged (d .known) (view (d .problem)) text) i c)
+    last-tree-held d b m n (text-judged (d .known) (view (d .problem)) text) i c)

@@ -6,7 +6,7 @@ use mathlib.Core.Option.{none, some}
 use Prim.Native.Nat.{ℕ}
 use native.Mathlib.Omega.{arith}
 use lib.Dec.{lit<, lit≤}
-use Rattle.decimal.specs.Decimal.{digits, digitsBy}
+use Rattle.decimal.specs.Decimal.{digits, digits-by}
 use Rattle.model.specs.Cost.{row-cost}
 use Rattle.model.specs.Leaf.{available, rows-of, is-stuck, revenue, value, unit-least, units-least, requirement, leaf-value}
 use Rattle.model.specs.Tree.{Limits, Holds, bound, splits, leaves}
@@ -74,7 +74,7 @@ abbrev pub lone-text : List ℕ
 lone-text = rendered-trees.render 4 lone-price
 
 pub is-tree-too : Is (some example) tree-text-too (tree (figures 4 1980 1 2))
-unfolding rendered-trees.render rendered-trees.node-lines digits digitsBy Limits Holds available is-stuck bound leaf-value units-least unit-least rows-of value revenue requirement row-cost splits leaves
+unfolding rendered-trees.render rendered-trees.node-lines digits digits-by Limits Holds available is-stuck bound leaf-value units-least unit-least rows-of value revenue requirement row-cost splits leaves
 is-tree-too =
     a-tree 4 one-split (lit≤ tt) refl (lit≤ tt, lit≤ tt)
     (lit< tt, lit< tt, refl, lit≤ tt, lit< tt, ((refl, ((lit≤ tt, lit≤ tt), ((lit≤ tt, lit≤ tt), tt))), (refl, ((lit≤ tt, lit≤ tt), ((lit≤ tt, lit≤ tt), tt)))))

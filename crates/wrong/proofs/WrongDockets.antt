@@ -18,10 +18,10 @@ use Rattle.refusal.specs.declared.Refusal.{Refusal}
 use Rattle.problem.proofs.Examples.{example, example-formed}
 use Rattle.schedule.specs.Rendering as schedules
 use Rattle.tree.specs.Rendering as rendered-trees
-use Rattle.tree.specs.Due.{Figures}
+use Rattle.tree.specs.Course.{Bounded}
 use Rattle.docket.specs.declared.Docket.{Docket}
 use Rattle.docket.specs.declared.held.HeldBound.{HeldBound}
-use Rattle.answer.specs.Answers.{its-cost, its-bound, Stated, held, Carries}
+use Rattle.answer.specs.StatedAnswers.{its-cost, its-bound, Stated, held, Carries}
 use Rattle.docket.specs.Verdicts.{Costed, refused, problem, schedule, tree, trees}
 use Rattle.docket.specs.Texts.{Accepted, no-more}
 use Rattle.docket.specs.Demand3.{reached, held-if, HoldsUnder, Lodging, Reporting, Writing, Demand3}
@@ -122,7 +122,7 @@ module _ (lodge : Lodging) {report : Reporting} {buffer : Writing} (D : Demand3 
   pub invents : Invents lodge → ⊥
   invents r =
       let x = answered lodge D (r .texts) (r .verdicts) (r .texts-are) (rendered-trees.render (r .writer) (r .its)) _ (r .accepted) in
-      go (every (λ (G : Figures). higher (bound (r .P) root (r .its)) (G .bound)) (trees (r .verdicts))) (subst (λ (s : Stated). Carries s (its-bound (r .given) (r .some-splits) (r .some-leaves))) x (r .carries))
+      go (every (λ (G : Bounded). higher (bound (r .P) root (r .its)) (G .bound)) (trees (r .verdicts))) (subst (λ (s : Stated). Carries s (its-bound (r .given) (r .some-splits) (r .some-leaves))) x (r .carries))
     where
       go : (t : Bool) → Carries (held-if t (its-bound (bound (r .P) root (r .its)) (splits (r .its)) (leaves (r .its)))) (its-bound (r .given) (r .some-splits) (r .some-leaves)) → ⊥
       go true e = r .invented (let a : splits (r .its) ≡ r .some-splits = cc in sym a, let a : leaves (r .its) ≡ r .some-leaves = cc in sym a)

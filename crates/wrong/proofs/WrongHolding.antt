@@ -27,7 +27,7 @@ use Rattle.docket.specs.declared.held.HeldCost.the-variants as held-cost
 use Rattle.docket.specs.Docket.{fresh-docket}
 use Rattle.docket.specs.Verdicts.{Verdict, problem, schedule, tree}
 use Rattle.docket.specs.Texts.{Is}
-use Rattle.docket.specs.Lodging.{judged, with-problem}
+use Rattle.docket.specs.Lodging.{text-judged, with-problem}
 use Rattle.docket.specs.Demand3.{reached, Reporting, Writing, Demand3}
 use Rattle.docket.proofs.OneVerdict.{is-verdict}
 use Rattle.docket.proofs.Specimens.{problem-text, rows, figures, is-problem, is-cheap, is-tree}
@@ -45,8 +45,8 @@ module _ (h : Docket → Verdict → Lodged) (first : h fresh-docket (problem ex
   after-problem : wrong.holding-by h fresh-docket problem-text .docket ≡ begun
   after-problem = ap (λ (v : Verdict). h fresh-docket v .docket) (is-verdict none problem-text (problem example) tt is-problem) ∙ first
 
-  judged-is : judged true (view (arrays.held example)) text ≡ v
-  judged-is = ap (λ (P : Instance). judged true P text) (view-held example example-formed) ∙ is-verdict (some example) text v example-formed is
+  judged-is : text-judged true (view (arrays.held example)) text ≡ v
+  judged-is = ap (λ (P : Instance). text-judged true P text) (view-held example example-formed) ∙ is-verdict (some example) text v example-formed is
 
   after-one-more : reached (wrong.holding-by h) (problem-text ∷ text ∷ []) ≡ h begun v .docket
   after-one-more =

@@ -1,4 +1,5 @@
 -- Each way of lodging that answers as it should and leaves something else breaks demand 3, however it reports.
+use mathlib.Core.Bool.{cond}
 use mathlib.Core.Path.{_≡_, sym, ap, subst, _∙_}
 use mathlib.Core.List.{List, [], _∷_}
 use Prim.Native.Nat.{ℕ}
@@ -13,9 +14,9 @@ use Rattle.docket.specs.declared.held.HeldBound.the-variants as bound
 use Rattle.answer.specs.declared.Answer.{Answer}
 use Rattle.answer.specs.declared.Answer.the-variants.{Refused, TextHeld, ScheduleHeld, SchedulePassed, TreeHeld, TreePassed}
 use Rattle.docket.specs.Docket.{fresh-docket, no-cost, no-bound}
-use Rattle.answer.specs.Answers as answers
-use Rattle.answer.specs.Answers.{stated}
-use Rattle.docket.specs.Lodging.{pick, lodged, lodge-of}
+use Rattle.answer.specs.StatedAnswers as answers
+use Rattle.answer.specs.StatedAnswers.{stated}
+use Rattle.docket.specs.Lodging.{lodged, lodge-of}
 use Rattle.docket.specs.Demand3.{docket-after, reached, Unheld, Reporting, Writing, Demand3}
 use Rattle.docket.proofs.NextText.{answered}
 use Rattle.docket.proofs.Specimens.{problem-text, is-second}
@@ -28,14 +29,14 @@ pub keeping-first-fails : {report : Reporting} {buffer : Writing} → Demand3 wr
 keeping-first-fails D = states.keeps-first wrong.keeping-first D (λ texts text by e. stays (reached wrong.keeping-first texts) text by e)
   where
     stays : (d : Docket) (text : List ℕ) (by : CostBy) → d .held .cost ≡ cost.Number by → wrong.keeping-first d text .docket .held .cost ≡ cost.Number by
-    stays d text by e = ap (λ (c : HeldCost). pick (no-cost c) (lodge-of d text) (lodged d (lodge-of d text .answer)) .docket .held .cost) e ∙ e
+    stays d text by e = ap (λ (c : HeldCost). cond (no-cost c) (lodge-of d text) (lodged d (lodge-of d text .answer)) .docket .held .cost) e ∙ e
 
 pub keeping-first-bound-fails : {report : Reporting} {buffer : Writing} → Demand3 wrong.keeping-first-bound report buffer → ⊥
 keeping-first-bound-fails D = states.keeps-first-bound wrong.keeping-first-bound D (λ texts text b i.
     stays (reached wrong.keeping-first-bound texts) text (reached wrong.keeping-first-bound texts .held .bound) b i i)
   where
     stays : (d : Docket) (text : List ℕ) (h : HeldBound) (b : Bound) → IsBound h b → IsBound (d .held .bound) b
-        → IsBound (pick (no-bound h) (lodge-of d text) (lodged d (lodge-of d text .answer)) .docket .held .bound) b
+        → IsBound (cond (no-bound h) (lodge-of d text) (lodged d (lodge-of d text .answer)) .docket .held .bound) b
     stays d text bound.Nothing b i j = absurd i
     stays d text (bound.Number by) b i j = j
     stays d text (bound.Never by) b i j = j

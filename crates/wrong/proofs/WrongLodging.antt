@@ -1,12 +1,12 @@
 -- Each wrong way of lodging that is written out does what document 01 forbids, so demand 3 does not hold of it, however it reports.
 use mathlib.Core.Path.{_≡_, refl, sym, subst, _∙_}
-use mathlib.Core.Bool.{Bool, true}
+use mathlib.Core.Bool.{Bool, true, cond}
 use mathlib.Core.List.{[], _∷_}
 use Prim.Native.Nat.{ℕ}
 use native.Mathlib.Omega.{arith}
 use lib.IntN.{pos}
 use Rattle.model.specs.Tree.{Tree, stuck, short, Bound, never, number, splits, leaves}
-use Rattle.text.specs.Lines.{lineAt}
+use Rattle.text.specs.Lines.{line-at}
 use Rattle.text.specs.declared.Kind.{Kind}
 use Rattle.text.proofs.FirstLine as first-line
 use Rattle.problem.specs.Rendering as problems
@@ -19,11 +19,11 @@ use Rattle.answer.specs.declared.Answer.{Answer}
 use Rattle.answer.specs.declared.Answer.the-variants.{Refused, TextHeld, ScheduleHeld, SchedulePassed, TreeHeld, TreePassed}
 use Rattle.answer.specs.declared.TreeFigures.{TreeFigures}
 use Rattle.docket.specs.Docket.{fresh-docket}
-use Rattle.answer.specs.Answers as answers
-use Rattle.answer.specs.Answers.{Values, no-values, its-cost, its-bound, stated, tree-values, Carries}
+use Rattle.answer.specs.StatedAnswers as answers
+use Rattle.answer.specs.StatedAnswers.{AnswerValues, no-values, its-cost, its-bound, stated, tree-values, Carries}
 use Rattle.docket.specs.Verdicts.{problem}
 use Rattle.docket.specs.Texts.{no-more, then, a-problem}
-use Rattle.docket.specs.Lodging.{pick, lodged, lodge-of}
+use Rattle.docket.specs.Lodging.{lodged, lodge-of}
 use Rattle.docket.specs.Demand3.{reached, Reporting, Writing, Demand3}
 use Rattle.docket.proofs.OneVerdict.{tree-begins}
 use Rattle.docket.proofs.NextText.{answered}
@@ -43,23 +43,23 @@ never-changing-fails D = states.never-changes wrong.never-changing D (λ texts t
 pub passing-rest-fails : {report : Reporting} {buffer : Writing} → Demand3 wrong.passing-rest report buffer → ⊥
 passing-rest-fails D = refuted.passes-rest wrong.passing-rest D (λ texts vs text are a k.
     let d = reached wrong.passing-rest texts in
-    subst (λ (t : Bool). IsPassed (stated (pick t (lodged d (SchedulePassed 0)) (lodge-of d text) .answer))) (sym k) tt)
+    subst (λ (t : Bool). IsPassed (stated (cond t (lodged d (SchedulePassed 0)) (lodge-of d text) .answer))) (sym k) tt)
 
 pub refuse-rest-fails : {report : Reporting} {buffer : Writing} → Demand3 wrong.refuse-rest report buffer → ⊥
 refuse-rest-fails D = refuted.refuses-rest wrong.refuse-rest D (λ texts vs text are a k.
     let d = reached wrong.refuse-rest texts in
-    subst (λ (t : Bool). IsRefused (stated (pick t (wrong.refuse-all d text) (lodge-of d text) .answer))) (sym k) tt)
+    subst (λ (t : Bool). IsRefused (stated (cond t (wrong.refuse-all d text) (lodge-of d text) .answer))) (sym k) tt)
 
 -- ---- another answer for a tree
 
-clash : {A : Type 0} {x : Values} {b : Bound} {m n : ℕ} → (x ≡ no-values) → x ≡ its-bound b m n → A
+clash : {A : Type 0} {x : AnswerValues} {b : Bound} {m n : ℕ} → (x ≡ no-values) → x ≡ its-bound b m n → A
 clash e f = absurd (let z : _≡_ {A = ℕ} 0 1 = cc in omega arith)
 
 clash-cost : {A : Type 0} {c : ℕ} {b : Bound} {m n : ℕ} → its-cost c ≡ its-bound b m n → A
 clash-cost e = absurd (let z : _≡_ {A = ℕ} 0 1 = cc in omega arith)
 
 -- what is told of a tree is what was found, told anew
-retold-carries : (f : TreeFigures → TreeFigures) (a : Answer) (w : Values) → Carries (stated (wrong.retold f a)) w
+retold-carries : (f : TreeFigures → TreeFigures) (a : Answer) (w : AnswerValues) → Carries (stated (wrong.retold f a)) w
     → (A : Type 0) → ((x : TreeFigures) → tree-values (f x) ≡ w → A) → (w ≡ no-values → A) → ((c : ℕ) → its-cost c ≡ w → A)
     → A
 retold-carries f (Refused r) w e A k n c = absurd e
@@ -120,9 +120,9 @@ more-leaves-fails D = retelling-fails _ D (λ x p. let e = p .1 in omega arith)
 
 unexamined-accepts : (d : Docket) (w : ℕ) (t : Tree) → d .known ≡ true → IsRefused (stated (wrong.unexamined d (trees.render w t) .answer)) → ⊥
 unexamined-accepts d w t k r =
-    let e = first-line.tree-is (lineAt (trees.render w t) 0) .1 (tree-begins w t) in
+    let e = first-line.tree-is (line-at (trees.render w t) 0) .1 (tree-begins w t) in
     let s = subst (λ (x : Kind). IsRefused (stated (wrong.examine-no-tree x d (trees.render w t) .answer))) e r in
-    subst (λ (b : Bool). IsRefused (stated (pick b (lodged d (TreeHeld wrong.never-figures)) (lodge-of d (trees.render w t)) .answer))) k s
+    subst (λ (b : Bool). IsRefused (stated (cond b (lodged d (TreeHeld wrong.never-figures)) (lodge-of d (trees.render w t)) .answer))) k s
 
 pub stuck-unexamined-fails : {report : Reporting} {buffer : Writing} → Demand3 wrong.unexamined report buffer → ⊥
 stuck-unexamined-fails D = refuted.stuck-unexamined wrong.unexamined D (λ texts w U k ok u. unexamined-accepts (reached wrong.unexamined texts) w (stuck U) k)

@@ -1,6 +1,6 @@
 -- Each wrong way of reporting that is written out breaks demand 3, however texts are lodged.
 use mathlib.Core.Path.{_≡_, refl, sym, ap, _∙_}
-use mathlib.Core.Bool.{Bool, true, false}
+use mathlib.Core.Bool.{Bool, true, false, cond}
 use mathlib.Core.List.{List, [], _∷_, _++_, flatten}
 use mathlib.Core.Logic.{_⊎_, inl, inr}
 use mathlib.Core.Option.{none, some}
@@ -10,22 +10,21 @@ use lib.Dec.{lit<, lit≤}
 use lib.IntN.{pos, _-ℤ_}
 use lib.ListN.{length, getD, take, drop, replicate, length-replicate}
 use borrow.Author.Tests.{le-leb}
-use Rattle.refusal.specs.Refusals.{refusalOf, carriesLine, carriesUnit, carriesPeriod}
-use Rattle.writer.specs.Written.{figure, figureOf}
+use Rattle.refusal.specs.Refusals.{refusal-of, carries-line, carries-unit, carries-period}
+use Rattle.writer.specs.Written.{figure, figure-of}
 use Rattle.writer.specs.declared.Figure.{Figure}
 use Rattle.writer.specs.declared.Figure.the-variants.{Missing, Never, Number, Minus}
-use Rattle.report.specs.Report.{report-lines, has-room, placed, written-at, placed-at}
+use Rattle.report.specs.Report.{report-lines, has-room, put-at, written-at, placed-at}
 use Rattle.report.specs.declared.Figures as shown
 use Rattle.report.specs.declared.ReportAnswer.the-variants.{Refused, Written}
 use Rattle.problem.proofs.Examples.{example}
-use Rattle.report.specs.Answers.{its-length, stated}
+use Rattle.report.specs.StatedReports.{its-length, report-stated}
 use Rattle.docket.specs.declared.Docket.{Docket}
 use Rattle.docket.specs.declared.held.HeldBound.{HeldBound}
 use Rattle.docket.specs.declared.held.HeldBound.the-variants as bound
 use Rattle.docket.specs.Docket.{fresh-docket, sound}
 use Rattle.docket.specs.Verdicts.{problem, schedule, tree}
 use Rattle.docket.specs.Texts.{no-more}
-use Rattle.docket.specs.Lodging.{pick}
 use Rattle.docket.specs.Report.{text-shown, report-of}
 use Rattle.docket.specs.ReportDue.{figures-due}
 use Rattle.docket.specs.Demand3.{reached, Lodging, Writing, Demand3}
@@ -58,8 +57,8 @@ shown-by lodge f texts g s = go (has-room (s .b) (s .k) l) (s .answer-is) (s .bu
     l : List ℕ
     l = report-lines (f (reached lodge texts))
 
-    go : (t : Bool) → stated (pick t (Written (length l)) (Refused (refusalOf 43 0 0 0))) ≡ its-length (length (report-lines g))
-        → pick t (placed (s .b) (s .k) l) (s .b) ≡ take (s .k) (s .b) ++ (report-lines g ++ drop (s .k + length (report-lines g)) (s .b))
+    go : (t : Bool) → report-stated (cond t (Written (length l)) (Refused (refusal-of 43 0 0 0))) ≡ its-length (length (report-lines g))
+        → cond t (put-at (s .b) (s .k) l) (s .b) ≡ take (s .k) (s .b) ++ (report-lines g ++ drop (s .k + length (report-lines g)) (s .b))
         → g ≡ f (reached lodge texts)
     go true a e =
         lines-one g (f (reached lodge texts)) (drop (s .k + length (report-lines g)) (s .b)) (drop (s .k + length l) (s .b))
@@ -82,8 +81,8 @@ never-shown-fails lodge D =
     go (bound.Never b) f e = inr e
 
 -- the gap of 1980 and 1940
-other-gap : figureOf (pos 1940 -ℤ pos 1980) ≡ figureOf (pos 1980 -ℤ pos 1940) → ⊥
-unfolding figureOf
+other-gap : figure-of (pos 1940 -ℤ pos 1980) ≡ figure-of (pos 1980 -ℤ pos 1940) → ⊥
+unfolding figure-of
 other-gap e = minus 40 40 e
   where
     minus : (m n : ℕ) → Minus m ≡ Number n → ⊥
@@ -130,7 +129,7 @@ as-far-as-room-fails lodge D = refuted.not-refused lodge report-of wrong.as-far-
 })
 
 pub refusing-fails : (lodge : Lodging) → Demand3 lodge wrong.refusing wrong.leaving → ⊥
-unfolding nothing-lodged report-lines flatten figure refusalOf carriesLine carriesUnit carriesPeriod
+unfolding nothing-lodged report-lines flatten figure refusal-of carries-line carries-unit carries-period
 refusing-fails lodge D = refuted.not-written lodge wrong.refusing wrong.leaving D (record {
   after = nothing-lodged;
   b = replicate 200 0;

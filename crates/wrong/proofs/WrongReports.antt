@@ -8,13 +8,13 @@ use native.Mathlib.Omega.{arith}
 use lib.IntN.{pos}
 use lib.ListN.{length, take, drop}
 use lib.Seq.{drop-append-seam, length-take-le, take-at, drop-at, drop-drop}
-use Rattle.writer.specs.Written.{figureOf}
+use Rattle.writer.specs.Written.{figure-of}
 use Rattle.writer.specs.declared.Figure.{Figure}
 use Rattle.writer.specs.declared.Figure.the-variants.{Missing, Number}
 use Rattle.report.specs.declared.Figures as shown
 use Rattle.problem.proofs.Examples.{example}
-use Rattle.tree.specs.Due.{Figures}
-use Rattle.report.specs.Answers.{its-length}
+use Rattle.tree.specs.Course.{Bounded}
+use Rattle.report.specs.StatedReports.{its-length}
 use Rattle.docket.specs.Verdicts.{problem, schedule, tree}
 use Rattle.docket.specs.Texts.{Are}
 use Rattle.docket.specs.ReportDue.{figures-due}
@@ -67,17 +67,17 @@ module _ (lodge : Lodging) (report : Reporting) (buffer : Writing) (D : Demand3 
       no-number 1980 e
 
   pub one-bound-shown : (f : Figure) → OneBoundShown lodge report buffer f → ⊥
-  unfolding figureOf
+  unfolding figure-of
   one-bound-shown f r =
       let x = tree-shown (problem-text ∷ tree-text ∷ []) (figures 3 1980 1 2) tree-are in
       let y = tree-shown (problem-text ∷ lone-text ∷ []) (figures 4 1940 0 1) lone-are in
       two (r (problem-text ∷ tree-text ∷ []) _ x) (r (problem-text ∷ lone-text ∷ []) _ y)
     where
-      tree-shown : (texts : List (List ℕ)) (F : Figures) → Are none texts (problem example ∷ tree F ∷ [])
+      tree-shown : (texts : List (List ℕ)) (F : Bounded) → Are none texts (problem example ∷ tree F ∷ [])
           → Shows lodge report buffer texts (figures-due none (some F))
       tree-shown texts F are = shows-due lodge report buffer D texts (problem example ∷ tree F ∷ []) are _ (due-after (problem example ∷ tree F ∷ []))
 
-      two : (figureOf (pos 1980) ≡ Missing) ⊎ (figureOf (pos 1980) ≡ f) → (figureOf (pos 1940) ≡ Missing) ⊎ (figureOf (pos 1940) ≡ f) → ⊥
+      two : (figure-of (pos 1980) ≡ Missing) ⊎ (figure-of (pos 1980) ≡ f) → (figure-of (pos 1940) ≡ Missing) ⊎ (figure-of (pos 1940) ≡ f) → ⊥
       two (inl a) y = no-number 1980 (sym a)
       two (inr a) (inl b) = no-number 1940 (sym b)
       two (inr a) (inr b) = let z : _≡_ {A = ℕ} 1980 1940 = cc in omega arith

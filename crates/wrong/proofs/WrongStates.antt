@@ -14,7 +14,7 @@ use Rattle.model.proofs.Lists.{held-least, held-highest}
 use Rattle.model.proofs.Unbroken.{meets-shaped}
 use Rattle.judge.specs.Rows.{schedule-of}
 use Rattle.schedule.proofs.Filling.{rows-held}
-use Rattle.tree.specs.Due.{Figures}
+use Rattle.tree.specs.Course.{Bounded}
 use Rattle.docket.specs.declared.Docket.{Docket}
 use Rattle.docket.specs.declared.held.CostBy.{CostBy}
 use Rattle.docket.specs.declared.held.Held.{Held}
@@ -122,8 +122,8 @@ module _ (lodge : Lodging) {report : Reporting} {buffer : Writing} (D : Demand3 
   pub other-bound : OtherBound lodge → ⊥
   other-bound r =
       let l = r .after in
-      let f = first-held by-bound (raises-trans (λ (x : Figures). x .bound)) (raises-weak (λ (x : Figures). x .bound)) (held-highest (λ (x : Figures). x .bound)) (r .F) (trees (l .verdicts)) (r .first) in
-      let e : reached lodge (l .texts) ≡ docket-under (l .P) (least (l .verdicts)) (some (r .F)) = there l ∙ ap (λ (b : Option Figures). docket-under (l .P) (least (l .verdicts)) b) f in
+      let f = first-held by-bound (raises-trans (λ (x : Bounded). x .bound)) (raises-weak (λ (x : Bounded). x .bound)) (held-highest (λ (x : Bounded). x .bound)) (r .F) (trees (l .verdicts)) (r .first) in
+      let e : reached lodge (l .texts) ≡ docket-under (l .P) (least (l .verdicts)) (some (r .F)) = there l ∙ ap (λ (b : Option Bounded). docket-under (l .P) (least (l .verdicts)) b) f in
       r .other (subst (λ (b : HeldBound). IsBy b (r .F .bound) (r .F .writer)) (sym (ap (λ (d : Docket). d .held .bound) e)) (by-itself (r .F .bound) (r .F .writer)))
     where
       by-itself : (b : Bound) (w : ℕ) → IsBy (bound-by b w) b w

@@ -10,12 +10,12 @@ use Rattle.model.specs.Ranges.{WellFormed, GoodWriter}
 use Rattle.model.specs.Tree.{Tree, short, stuck, Bound, never, number, splits, leaves}
 use Rattle.problem.specs.Rendering as problems
 use Rattle.tree.specs.Rendering as rendered
-use Rattle.tree.specs.Answers.{figures-of}
+use Rattle.tree.specs.Acceptance.{bounded-of}
 use Rattle.docket.specs.declared.held.CostBy.{CostBy}
 use Rattle.docket.specs.declared.held.HeldCost.the-variants as cost
 use Rattle.docket.specs.declared.held.HeldBound.{HeldBound}
 use Rattle.docket.specs.declared.held.HeldBound.the-variants as bound
-use Rattle.answer.specs.Answers.{its-cost, its-bound, Stated, refused, held, passed, stated, Carries}
+use Rattle.answer.specs.StatedAnswers.{its-cost, its-bound, Stated, refused, held, passed, stated, Carries}
 use Rattle.docket.specs.Verdicts.{Verdict, tree, known-at-end}
 use Rattle.docket.specs.Texts.{Short, Is, Accepted, Are}
 use Rattle.docket.specs.Demand3.{Lodging, reached}
@@ -76,7 +76,7 @@ module _ (lodge : Lodging) where
     pub P : Instance
     pub writer : ℕ
     pub its : Tree
-    pub accepted : Is (known-at-end none verdicts) (rendered.render writer its) (tree (figures-of P writer its))
+    pub accepted : Is (known-at-end none verdicts) (rendered.render writer its) (tree (bounded-of P writer its))
     pub given : Bound
     pub some-splits : ℕ
     pub some-leaves : ℕ

@@ -1,5 +1,5 @@
 -- Wrong ways of holding what was judged, written out: each holds something else than document 01, The docket and its report, says.
-use mathlib.Core.Bool.{Bool, true, false, not}
+use mathlib.Core.Bool.{Bool, true, false, not, cond}
 use Prim.Native.Nat.{ℕ}
 use lib.Dec.{leb}
 use lib.IntN.{pos, _+ℤ_}
@@ -9,7 +9,7 @@ use Rattle.model.specs.declared.arrays.Problem.{Problem}
 use Rattle.model.specs.Held as arrays
 use Rattle.model.specs.Held.{view}
 use Rattle.model.specs.Tree.{Bound, never, number}
-use Rattle.tree.specs.Due.{Figures}
+use Rattle.tree.specs.Course.{Bounded}
 use Rattle.docket.specs.declared.Docket.{Docket}
 use Rattle.docket.specs.declared.Lodged.{Lodged}
 use Rattle.docket.specs.declared.held.HeldCost.{HeldCost}
@@ -20,12 +20,12 @@ use Rattle.answer.specs.declared.Answer.{Answer}
 use Rattle.answer.specs.declared.Answer.the-variants.{Refused, TextHeld, ScheduleHeld, SchedulePassed, TreeHeld, TreePassed}
 use Rattle.docket.specs.Docket.{fresh-docket, no-cost, no-bound}
 use Rattle.docket.specs.Verdicts.{Costed, Verdict, refused, problem, schedule, tree}
-use Rattle.docket.specs.Lodging.{pick, judged, lodged, with-held, with-problem, with-schedule, with-bound, given-figures, is-less, is-higher, hold, lodge-of}
+use Rattle.docket.specs.Lodging.{text-judged, lodged, with-held, with-problem, with-schedule, with-bound, given-figures, is-less, is-higher, hold, lodge-of}
 use Rattle.docket.specs.Demand3.{Lodging}
 
 -- a text is judged as it should be, and then held by h
 abbrev pub holding-by : (Docket → Verdict → Lodged) → Lodging
-holding-by h d text = h d (judged (d .known) (view (d .problem)) text)
+holding-by h d text = h d (text-judged (d .known) (view (d .problem)) text)
 
 -- ---- another schedule
 
@@ -33,7 +33,7 @@ holding-by h d text = h d (judged (d .known) (view (d .problem)) text)
 abbrev pub hold-schedule-if : (Docket → Costed → Bool) → (Docket → Costed → Docket) → Docket → Verdict → Lodged
 hold-schedule-if test held d (refused r) = hold d d (refused r)
 hold-schedule-if test held d (problem P) = hold d d (problem P)
-hold-schedule-if test held d (schedule s) = pick (test d s) (lodged (held d s) (ScheduleHeld (s .cost))) (lodged d (SchedulePassed (s .cost)))
+hold-schedule-if test held d (schedule s) = cond (test d s) (lodged (held d s) (ScheduleHeld (s .cost))) (lodged d (SchedulePassed (s .cost)))
 hold-schedule-if test held d (tree F) = hold d d (tree F)
 
 -- the last of equals: one that costs no more than the held one
@@ -70,12 +70,12 @@ one-writer = holding-by hold-by-one
 -- ---- another bound
 
 -- an accepted tree is held where the test says so, with this bound
-abbrev pub hold-tree-if : (Docket → Figures → Bool) → (Bound → Bound) → Docket → Verdict → Lodged
+abbrev pub hold-tree-if : (Docket → Bounded → Bool) → (Bound → Bound) → Docket → Verdict → Lodged
 hold-tree-if test raised d (refused r) = hold d d (refused r)
 hold-tree-if test raised d (problem P) = hold d d (problem P)
 hold-tree-if test raised d (schedule s) = hold d d (schedule s)
 hold-tree-if test raised d (tree F) =
-    pick (test d F)
+    cond (test d F)
     (lodged (with-bound d (record { writer = F .writer; bound = raised (F .bound); splits = F .splits; leaves = F .leaves })) (TreeHeld (given-figures F)))
     (lodged d (TreePassed (given-figures F)))
 
@@ -101,12 +101,12 @@ abbrev pub never-claimed : Lodging
 never-claimed = holding-by hold-never
 
 -- one more than the tree gave
-abbrev pub one-more : Bound → Bound
-one-more never = never
-one-more (number z) = number (z +ℤ pos 1)
+abbrev pub one-above : Bound → Bound
+one-above never = never
+one-above (number z) = number (z +ℤ pos 1)
 
 abbrev pub hold-more : Docket → Verdict → Lodged
-hold-more = hold-tree-if (λ d F. is-higher (F .bound) (d .held .bound)) one-more
+hold-more = hold-tree-if (λ d F. is-higher (F .bound) (d .held .bound)) one-above
 
 abbrev pub bound-raised : Lodging
 bound-raised = holding-by hold-more
@@ -130,10 +130,10 @@ demand-lost = holding-by hold-no-demand
 
 -- nothing changes once a schedule is held, or once a bound is
 abbrev pub keeping-first : Lodging
-keeping-first d text = pick (no-cost (d .held .cost)) (lodge-of d text) (lodged d (lodge-of d text .answer))
+keeping-first d text = cond (no-cost (d .held .cost)) (lodge-of d text) (lodged d (lodge-of d text .answer))
 
 abbrev pub keeping-first-bound : Lodging
-keeping-first-bound d text = pick (no-bound (d .held .bound)) (lodge-of d text) (lodged d (lodge-of d text .answer))
+keeping-first-bound d text = cond (no-bound (d .held .bound)) (lodge-of d text) (lodged d (lodge-of d text .answer))
 
 -- a refused text leaves nothing
 abbrev pub left-by : Docket → Answer → Docket

@@ -1,7 +1,8 @@
 -- Wrong ways of lodging, written out: each answers with a fault that document 01, Conditions of acceptance, names.
+use mathlib.Core.Bool.{cond}
 use mathlib.Core.List.{List}
 use Prim.Native.Nat.{ℕ, suc}
-use Rattle.text.specs.Lines.{lineAt, kindOf}
+use Rattle.text.specs.Lines.{line-at, kind-of}
 use Rattle.text.specs.declared.Kind.{Kind}
 use Rattle.text.specs.declared.Kind.the-variants as kind
 use Rattle.tree.specs.declared.figures.Bound.the-variants as given
@@ -11,7 +12,7 @@ use Rattle.answer.specs.declared.Answer.{Answer}
 use Rattle.answer.specs.declared.Answer.the-variants.{Refused, TextHeld, ScheduleHeld, SchedulePassed, TreeHeld, TreePassed}
 use Rattle.answer.specs.declared.TreeFigures.{TreeFigures}
 use Rattle.docket.specs.Docket.{fresh-docket}
-use Rattle.docket.specs.Lodging.{pick, lodged, lodge-of}
+use Rattle.docket.specs.Lodging.{lodged, lodge-of}
 use Rattle.docket.specs.Demand3.{Lodging}
 
 abbrev pub refuse-all : Lodging
@@ -45,10 +46,10 @@ never-changing d text = lodged d (lodge-of d text .answer)
 
 -- once a problem is known, every text is refused, or passed
 abbrev pub refuse-rest : Lodging
-refuse-rest d text = pick (d .known) (refuse-all d text) (lodge-of d text)
+refuse-rest d text = cond (d .known) (refuse-all d text) (lodge-of d text)
 
 abbrev pub passing-rest : Lodging
-passing-rest d text = pick (d .known) (lodged d (SchedulePassed 0)) (lodge-of d text)
+passing-rest d text = cond (d .known) (lodged d (SchedulePassed 0)) (lodge-of d text)
 
 abbrev pub never-figures : TreeFigures
 never-figures = record { bound = given.Never; splits = 0; leaves = 1 }
@@ -58,10 +59,10 @@ abbrev pub examine-no-tree : Kind → Docket → List ℕ → Lodged
 examine-no-tree kind.Unknown d text = lodge-of d text
 examine-no-tree kind.Problem d text = lodge-of d text
 examine-no-tree kind.Schedule d text = lodge-of d text
-examine-no-tree kind.Tree d text = pick (d .known) (lodged d (TreeHeld never-figures)) (lodge-of d text)
+examine-no-tree kind.Tree d text = cond (d .known) (lodged d (TreeHeld never-figures)) (lodge-of d text)
 
 abbrev pub unexamined : Lodging
-unexamined d text = examine-no-tree (kindOf (lineAt text 0)) d text
+unexamined d text = examine-no-tree (kind-of (line-at text 0)) d text
 
 -- a problem is taken up as by a fresh docket, whether one is known or not
 abbrev pub any-problem : Kind → Docket → List ℕ → Lodged
@@ -71,4 +72,4 @@ any-problem kind.Schedule d text = lodge-of d text
 any-problem kind.Tree d text = lodge-of d text
 
 abbrev pub second-problem : Lodging
-second-problem d text = any-problem (kindOf (lineAt text 0)) d text
+second-problem d text = any-problem (kind-of (line-at text 0)) d text

@@ -1,11 +1,11 @@
 -- Wrong ways of reporting, written out.
 use lib.IntN.{pos, _-ℤ_}
 use lib.ListN.{length, take}
-use Rattle.refusal.specs.Refusals.{refusalOf}
-use Rattle.writer.specs.Written.{figureOf}
+use Rattle.refusal.specs.Refusals.{refusal-of}
+use Rattle.writer.specs.Written.{figure-of}
 use Rattle.writer.specs.declared.Figure.{Figure}
 use Rattle.writer.specs.declared.Figure.the-variants.{Missing, Never}
-use Rattle.report.specs.Report.{report-lines, placed, written-at, placed-at}
+use Rattle.report.specs.Report.{report-lines, put-at, written-at, placed-at}
 use Rattle.report.specs.declared.Figures as shown
 use Rattle.report.specs.declared.ReportAnswer.the-variants.{Refused}
 use Rattle.docket.specs.declared.Docket.{Docket}
@@ -49,7 +49,7 @@ never-shown d = record {
 abbrev pub turned : HeldCost → HeldBound → Figure
 turned cost.Nothing b = Missing
 turned (cost.Number c) bound.Nothing = Missing
-turned (cost.Number c) (bound.Number b) = figureOf (b .value -ℤ pos (c .cost))
+turned (cost.Number c) (bound.Number b) = figure-of (b .value -ℤ pos (c .cost))
 turned (cost.Number c) (bound.Never b) = Missing
 
 abbrev pub gap-turned : Docket → shown.Figures
@@ -69,11 +69,11 @@ from-start d b k = placed-at b 0 (text-shown d)
 
 -- as much of it as there is room for
 abbrev pub as-far-as-room : Writing
-as-far-as-room d b k = take (length b) (placed b k (text-shown d))
+as-far-as-room d b k = take (length b) (put-at b k (text-shown d))
 
 -- 43 always, and the buffer as it was
 abbrev pub refusing : Reporting
-refusing d b k = record { docket = d; answer = Refused (refusalOf 43 0 0 0) }
+refusing d b k = record { docket = d; answer = Refused (refusal-of 43 0 0 0) }
 
 abbrev pub leaving : Writing
 leaving d b k = b

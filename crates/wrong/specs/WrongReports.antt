@@ -8,7 +8,7 @@ use lib.ListN.{length, take, drop}
 use Rattle.writer.specs.declared.Figure.{Figure}
 use Rattle.writer.specs.declared.Figure.the-variants.{Missing}
 use Rattle.report.specs.declared.Figures as shown
-use Rattle.report.specs.Answers.{refused, its-length}
+use Rattle.report.specs.StatedReports.{refused, its-length}
 use Rattle.docket.specs.Verdicts.{Verdict}
 use Rattle.docket.specs.Texts.{Are}
 use Rattle.docket.specs.ReportDue.{gap-due, figures-due, ReportDue}

@@ -14,7 +14,7 @@ use Rattle.model.specs.Tree.{Bound, never, number}
 use Rattle.model.specs.Best.{FirstLeast, FirstHighest}
 use Rattle.model.specs.Held.{view}
 use Rattle.judge.specs.Rows.{schedule-of}
-use Rattle.tree.specs.Due.{Figures}
+use Rattle.tree.specs.Course.{Bounded}
 use Rattle.docket.specs.declared.held.BoundBy.{BoundBy}
 use Rattle.docket.specs.declared.held.CostBy.{CostBy}
 use Rattle.docket.specs.declared.held.HeldCost.the-variants as cost
@@ -93,7 +93,7 @@ module _ (lodge : Lodging) where
   -- after some list holding another bound or another writer than those of the first accepted tree with the highest bound
   pub record OtherBound : Type 0 where
     pub after : SomeList
-    pub F : Figures
+    pub F : Bounded
     pub first : FirstHighest (λ x. x .bound) F (trees (after .verdicts))
     pub other : IsBy (reached lodge (after .texts) .held .bound) (F .bound) (F .writer) → ⊥
 

@@ -4,13 +4,13 @@ use native.Mathlib.Nat.{add-zero}
 use native.Mathlib.Omega.{arith}
 use Prim.Native.Nat.{_+_, _-_, _≤_}
 use mathlib.Core.Path.{_≡_, ap, sym, _∙_}
-use Rattle.decimal.specs.Reading.{cap, digitsAfter, digitsAt}
-use Rattle.decimal.proofs.Reading.{digits-on, digits-off}
+use Rattle.decimal.specs.NumberRead.{read-cap, digits-after, digits-at}
+use Rattle.decimal.proofs.NumberRead.{digits-on, digits-off}
 use Rattle.decimal.proofs.read_first.Statement.{statement}
 use Rattle.decimal.proofs.read_first.Tie as tie
 
 abbrev Inv-loop : tie.InvT-loop
-Inv-loop s at value₀ k₀ value k = (k ≤ 5) × ((value ≤ cap) × (digitsAfter value s (at + k) ≡ digitsAt s at))
+Inv-loop s at value₀ k₀ value k = (k ≤ 5) × ((value ≤ read-cap) × (digits-after value s (at + k) ≡ digits-at s at))
 
 abbrev μ-loop : tie.MeasureT-loop
 μ-loop s at value₀ k₀ value k = 5 - k
@@ -18,7 +18,7 @@ abbrev μ-loop : tie.MeasureT-loop
 loop-holds : tie.Need-loop-holds Inv-loop μ-loop
 loop-holds c =
     let a = c .before .args in
-    (search needs, (search needs, ap (digitsAt (a .s .now)) (add-zero (a .at))))
+    (search needs, (search needs, ap (digits-at (a .s .now)) (add-zero (a .at))))
 
 add-b : tie.Need-add-b Inv-loop μ-loop
 add-b c = search needs
@@ -47,7 +47,7 @@ loop-again c =
       search needs,
       (
         omega (arith, c .with-digit .ensures),
-        (λ j. digitsAfter (c .with-digit .ensures j) (a .s .now) (next j))
+        (λ j. digits-after (c .with-digit .ensures j) (a .s .now) (next j))
             ∙ digits-on (a .s .now) (l .loop .value) (a .at + l .loop .k) (omega arith) d
             ∙ l .loop .inv .1 .1,
       ),
@@ -74,7 +74,7 @@ returns-2 c =
     let l = c .before .before in
     let a = l .before .before .args in
     let all : a .at + 5 ≡ a .at + l .loop .k = omega arith in
-    c .read-rest .ensures ∙ ap (digitsAfter (l .loop .value) (a .s .now)) all ∙ l .loop .inv .1 .1
+    c .read-rest .ensures ∙ ap (digits-after (l .loop .value) (a .s .now)) all ∙ l .loop .inv .1 .1
 
 pub read-first-spec : {M : Type 1} → statement M
 read-first-spec =

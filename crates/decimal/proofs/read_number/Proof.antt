@@ -3,7 +3,7 @@ use borrow.Author.Needs.{needs}
 use native.Mathlib.Omega.{arith}
 use mathlib.Core.Path.{ap}
 use Rattle.decimal.specs.declared.DigitsRead.{DigitsRead}
-use Rattle.decimal.proofs.Reading.{within, answer-none, answer-zero, answer-many, answer-one}
+use Rattle.decimal.proofs.NumberRead.{within, answer-none, answer-zero, answer-many, answer-one}
 use Rattle.decimal.proofs.read_number.Statement.{statement}
 use Rattle.decimal.proofs.read_number.Tie as tie
 

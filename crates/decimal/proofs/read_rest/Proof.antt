@@ -4,13 +4,13 @@ use native.Mathlib.Omega.{arith}
 use Prim.Native.Nat.{ℕ, _+_, _-_, _≤_}
 use mathlib.Core.Path.{_≡_, refl, ap, sym, _∙_}
 use lib.ListN.{length}
-use Rattle.decimal.specs.Reading.{cap, digitsAfter}
-use Rattle.decimal.proofs.Reading.{digits-on, digits-off, digits-end}
+use Rattle.decimal.specs.NumberRead.{read-cap, digits-after}
+use Rattle.decimal.proofs.NumberRead.{digits-on, digits-off, digits-end}
 use Rattle.decimal.proofs.read_rest.Statement.{statement}
 use Rattle.decimal.proofs.read_rest.Tie as tie
 
 abbrev Inv-loop : tie.InvT-loop
-Inv-loop s at v value₀ i₀ value i = (value ≤ cap) × (digitsAfter value s i ≡ digitsAfter v s at)
+Inv-loop s at v value₀ i₀ value i = (value ≤ read-cap) × (digits-after value s i ≡ digits-after v s at)
 
 abbrev μ-loop : tie.MeasureT-loop
 μ-loop s at v value₀ i₀ value i = length s - i
@@ -39,7 +39,7 @@ loop-again c =
     let s = l .before .before .args .s .now in
     let d = sym (c .before .before .is-digit .ensures) ∙ c .before .if1 .taken in (
       omega (arith, c .with-digit .ensures),
-      ap (λ (w : ℕ). digitsAfter w s (l .loop .i + 1)) (c .with-digit .ensures)
+      ap (λ (w : ℕ). digits-after w s (l .loop .i + 1)) (c .with-digit .ensures)
           ∙ digits-on s (l .loop .value) (l .loop .i) (c .before .before .before .before .loop-test .taken) d
           ∙ l .loop .inv .1,
     )

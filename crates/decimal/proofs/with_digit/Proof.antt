@@ -1,7 +1,7 @@
 -- `with_digit` meets its contract: below a tenth of the cap the value itself, and else the cap.
 use borrow.Author.Needs.{needs}
 use native.Mathlib.Omega.{arith}
-use Rattle.decimal.proofs.Digits.{is-digit}
+use Rattle.decimal.proofs.Digits.{digit-range}
 use Rattle.decimal.proofs.with_digit.Statement.{statement}
 use Rattle.decimal.proofs.with_digit.Tie as tie
 
@@ -10,7 +10,7 @@ mul-result c = search needs
 
 sub-result : tie.Need-sub-result
 sub-result c =
-    let b = is-digit (c .before .args .b) (c .before .pre) in
+    let b = digit-range (c .before .args .b) (c .before .pre) in
     omega arith
 
 cast-result : tie.Need-cast-result
@@ -21,7 +21,7 @@ add-result c = search needs
 
 returns : tie.Need-returns
 returns c =
-    let b = is-digit (c .before .args .b) (c .before .pre) in
+    let b = digit-range (c .before .args .b) (c .before .pre) in
     omega arith
 
 returns-2 : tie.Need-returns-2

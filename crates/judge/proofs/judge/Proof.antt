@@ -10,7 +10,7 @@ use Rattle.judge.specs.declared.breach.Rule.the-variants.{Limits, UpDown
 use Rattle.judge.specs.declared.tallies.Tallies.{Tallies}
 use Rattle.judge.specs.Rows.{schedule-of}
 use Rattle.judge.proofs.Tallied.{none-broken}
-use Rattle.judge.proofs.Answers.{from22, from23, from24, from25, Left, breaks21, keeps21, breaks22, keeps22, breaks23, keeps23, breaks24, keeps24, breaks25, costs}
+use Rattle.judge.proofs.RuleByRule.{from22, from23, from24, from25, Left, breaks21, keeps21, breaks22, keeps22, breaks23, keeps23, breaks24, keeps24, breaks25, costs}
 use Rattle.judge.proofs.judge.Statement.{statement}
 use Rattle.judge.proofs.judge.Tie as tie
 

@@ -8,7 +8,7 @@ use lib.ListN.{length, take, drop}
 use Rattle.answer.specs.declared.Answer.the-variants.{Refused}
 use Rattle.docket.specs.declared.Lodged.{Lodged}
 use Rattle.docket.specs.Lodging.{lodged, lodge-of}
-use Rattle.docket.proofs.Following.{screened-lodged}
+use Rattle.docket.proofs.HoldingAnswers.{screened-lodged}
 use Rattle.list.proofs.ListedSoFar.{SoFar, nothing-yet, good-so-far, before-end, Turn, turn, Done, done}
 use Rattle.list.proofs.lodge_pieces.Statement.{statement}
 use Rattle.list.proofs.lodge_pieces.Tie as tie

@@ -6,17 +6,17 @@ use mathlib.Core.Path.{_≡_, ap, _∙_}
 use mathlib.Core.List.{List}
 use lib.ListN.{length, length-append}
 use Rattle.refusal.specs.declared.Refusal.{Refusal}
-use Rattle.refusal.specs.Refusals.{refusalOf}
+use Rattle.refusal.specs.Refusals.{refusal-of}
 use Rattle.writer.specs.Written.{over}
 use Rattle.writer.proofs.Parts.{length-over}
-use Rattle.report.specs.Report.{placed}
+use Rattle.report.specs.Report.{put-at}
 use Rattle.answer.specs.declared.Answer.the-variants.{Refused}
-use Rattle.answer.specs.Answers.{refused, stated}
+use Rattle.answer.specs.StatedAnswers.{refused, stated}
 use Rattle.answer.specs.AnswerLines.{answer-line}
 use Rattle.docket.specs.declared.Docket.{Docket}
 use Rattle.docket.specs.Docket.{nothing-held, sound}
 use Rattle.docket.specs.Report.{report-text}
-use Rattle.docket.proofs.Following.{fresh-sound}
+use Rattle.docket.proofs.HoldingAnswers.{fresh-sound}
 use Rattle.list.proofs.ListedSoFar.{place-on}
 use Rattle.list.proofs.ListedCases.{eleven, eleven-size, nothing-size}
 use Rattle.list.proofs.refuse_input.Statement.{statement}
@@ -29,7 +29,7 @@ refuse-requires : tie.Need-refuse-requires
 refuse-requires c κs = search needs
 
 -- the line is that of 11
-line-is : (r : Refusal) → r ≡ refusalOf 11 0 0 0 → answer-line (stated (Refused r)) ≡ line
+line-is : (r : Refusal) → r ≡ refusal-of 11 0 0 0 → answer-line (stated (Refused r)) ≡ line
 line-is r e = ap (λ (x : Refusal). answer-line (stated (Refused x))) e ∙ eleven
 
 write-answer-requires : tie.Need-write-answer-requires
@@ -75,9 +75,9 @@ returns c =
     let r = c .before .before .write-report in (
       omega (arith, r .ensures .0, many w, ap (λ (d : Docket). length (report-text (d .held))) f, length-append line (report-text nothing-held)),
       r .ensures .1
-          ∙ ap (λ (d : Docket). placed (w .write-answer .last .0) (w .write-answer .result) (report-text (d .held))) f
-          ∙ ap (λ (x : List ℕ). placed x (w .write-answer .result) (report-text nothing-held)) (written w)
-          ∙ ap (λ (k : ℕ). placed (over line room) k (report-text nothing-held)) (many w)
+          ∙ ap (λ (d : Docket). put-at (w .write-answer .last .0) (w .write-answer .result) (report-text (d .held))) f
+          ∙ ap (λ (x : List ℕ). put-at x (w .write-answer .result) (report-text nothing-held)) (written w)
+          ∙ ap (λ (k : ℕ). put-at (over line room) k (report-text nothing-held)) (many w)
           ∙ place-on line (report-text nothing-held) room,
     )
 

@@ -1,9 +1,9 @@
 use mathlib.Core.Path.{refl, sym, ap}
-use Rattle.text.specs.Lines.{lineAt}
+use Rattle.text.specs.Lines.{line-at}
 use Rattle.text.proofs.PlainRows.{plain-row}
 use Rattle.problem.specs.Rendering.{demand-key}
 use Rattle.problem.specs.Course.{demand-due, spare-due, demand-form}
-use Rattle.problem.proofs.Following.{line-refused, line-good}
+use Rattle.problem.proofs.LineByLine.{line-refused, line-good}
 use borrow.Author.Needs.{needs}
 use Rattle.problem.proofs.read_from_demand.Statement.{statement}
 use Rattle.problem.proofs.read_from_demand.Tie as tie
@@ -28,7 +28,7 @@ read-from-spare-requires c κs =
     let st = c .before .before .before .before .before .before .before in
     let a = st .args in
     let row = c .before .before .before .before .read-row in
-    let h = plain-row demand-key (a .periods) 0 320000 (lineAt (a .s .now) (a .at)) (a .at) _ (row .result) (row .ensures) (c .before .before .verdict2 .given .1) in
+    let h = plain-row demand-key (a .periods) 0 320000 (line-at (a .s .now) (a .at)) (a .at) _ (row .result) (row .ensures) (c .before .before .verdict2 .given .1) in
     (st .pre .0, (st .pre .1, h .holds))
 
 returns : tie.Need-returns
@@ -42,7 +42,7 @@ returns-2 c =
     let a = c .before .before .before .before .before .before .before .before .args in
     let row = c .before .before .before .before .before .read-row in
     let v = c .before .before .before .verdict2 .given .1 in
-    let h = plain-row demand-key (a .periods) 0 320000 (lineAt (a .s .now) (a .at)) (a .at) _ (row .result) (row .ensures) v in
+    let h = plain-row demand-key (a .periods) 0 320000 (line-at (a .s .now) (a .at)) (a .at) _ (row .result) (row .ensures) v in
     line-good (a .s .now) (a .at) 4 (demand-due (a .periods) (a .units)) (demand-form (a .periods)) refl (row .result) (row .ensures) _ _ _ v (ap (spare-due (a .periods) (a .units)) (sym (h .values))) (c .read-from-spare .ensures)
 
 pub read-from-demand-spec : {M : Type 1} → statement M

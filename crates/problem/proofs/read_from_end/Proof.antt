@@ -2,7 +2,7 @@ use mathlib.Core.Path.{sym, _∙_}
 use borrow.Author.Needs.{needs}
 use Rattle.model.specs.Held.{view}
 use Rattle.text.specs.declared.End.the-variants.{Missing, Followed, Last}
-use Rattle.problem.specs.Reading.{read-as}
+use Rattle.problem.specs.ReadAnswers.{read-as}
 use Rattle.problem.proofs.Ends.{end-read}
 use Rattle.problem.proofs.read_from_end.Statement.{statement}
 use Rattle.problem.proofs.read_from_end.Tie as tie

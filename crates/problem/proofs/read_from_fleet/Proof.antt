@@ -4,7 +4,7 @@ use mathlib.Core.Path.{_≡_, refl, sym, ap, _∙_}
 use lib.ListN.{length, take, length-set}
 use Rattle.model.specs.Held.{pad, blank-generator}
 use Rattle.problem.specs.Course.{fleet-due, no-units}
-use Rattle.problem.specs.Following.{read-from}
+use Rattle.problem.specs.Storing.{read-from}
 use Rattle.problem.proofs.Padding.{pad-none, pad-set}
 use Rattle.problem.proofs.Fleets.{remains, fleet-refused, fleet-on, arrays-held, fleet-ended}
 use borrow.Author.Needs.{needs}

@@ -1,10 +1,10 @@
 use native.Mathlib.Omega.{arith}
 use mathlib.Core.Path.{refl, sym, ap}
-use Rattle.text.specs.Lines.{lineAt}
+use Rattle.text.specs.Lines.{line-at}
 use Rattle.text.proofs.PlainRows.{plain-row}
 use Rattle.problem.specs.Rendering.{units-key}
 use Rattle.problem.specs.Course.{units-due, demand-due, units-form}
-use Rattle.problem.proofs.Following.{line-refused, line-good}
+use Rattle.problem.proofs.LineByLine.{line-refused, line-good}
 use borrow.Author.Needs.{needs}
 use Rattle.problem.proofs.read_from_units.Statement.{statement}
 use Rattle.problem.proofs.read_from_units.Tie as tie
@@ -32,7 +32,7 @@ read-from-demand-requires c κs =
     let st = c .before .before .before .before .before .before .before in
     let a = st .args in
     let row = c .before .before .before .before .read-row in
-    let h = plain-row units-key 1 1 32 (lineAt (a .s .now) (a .at)) (a .at) _ (row .result) (row .ensures) (c .before .before .verdict2 .given .1) in
+    let h = plain-row units-key 1 1 32 (line-at (a .s .now) (a .at)) (a .at) _ (row .result) (row .ensures) (c .before .before .verdict2 .given .1) in
     (st .pre, h .first-in (omega arith) .1)
 
 returns : tie.Need-returns
@@ -46,7 +46,7 @@ returns-2 c =
     let a = c .before .before .before .before .before .before .before .before .args in
     let row = c .before .before .before .before .before .read-row in
     let v = c .before .before .before .verdict2 .given .1 in
-    let h = plain-row units-key 1 1 32 (lineAt (a .s .now) (a .at)) (a .at) _ (row .result) (row .ensures) v in
+    let h = plain-row units-key 1 1 32 (line-at (a .s .now) (a .at)) (a .at) _ (row .result) (row .ensures) v in
     line-good (a .s .now) (a .at) 3 (units-due (a .periods)) units-form refl (row .result) (row .ensures) _ _ _ v (ap (demand-due (a .periods)) (sym (h .first (omega arith)))) (c .read-from-demand .ensures)
 
 pub read-from-units-spec : {M : Type 1} → statement M

@@ -1,10 +1,10 @@
 use native.Mathlib.Omega.{arith}
 use mathlib.Core.Path.{refl, sym, ap, _∙_}
-use Rattle.text.specs.Lines.{lineAt}
+use Rattle.text.specs.Lines.{line-at}
 use Rattle.text.proofs.PlainRows.{plain-row}
 use Rattle.problem.specs.Rendering.{periods-key}
 use Rattle.problem.specs.Course.{periods-due, units-due, periods-form}
-use Rattle.problem.proofs.Following.{line-refused, line-good}
+use Rattle.problem.proofs.LineByLine.{line-refused, line-good}
 use Rattle.problem.proofs.FirstLine.{from-second}
 use borrow.Author.Needs.{needs}
 use Rattle.problem.proofs.read_problem.Statement.{statement}
@@ -33,7 +33,7 @@ read-from-units-requires c κs =
     let st = c .before .before .before .before .before .before .before in
     let a = st .args in
     let row = c .before .before .before .before .read-row in
-    let h = plain-row periods-key 1 1 48 (lineAt (a .s .now) 13) 13 _ (row .result) (row .ensures) (c .before .before .verdict2 .given .1) in
+    let h = plain-row periods-key 1 1 48 (line-at (a .s .now) 13) 13 _ (row .result) (row .ensures) (c .before .before .verdict2 .given .1) in
     h .first-in (omega arith) .1
 
 returns : tie.Need-returns
@@ -48,7 +48,7 @@ returns-2 c =
     let a = c .before .before .before .before .before .before .before .before .args in
     let row = c .before .before .before .before .before .read-row in
     let v = c .before .before .before .verdict2 .given .1 in
-    let h = plain-row periods-key 1 1 48 (lineAt (a .s .now) 13) 13 _ (row .result) (row .ensures) v in
+    let h = plain-row periods-key 1 1 48 (line-at (a .s .now) 13) 13 _ (row .result) (row .ensures) v in
     line-good (a .s .now) 13 2 periods-due periods-form refl (row .result) (row .ensures) _ _ _ v (ap units-due (sym (h .first (omega arith)))) (c .read-from-units .ensures)
     ∙ from-second (a .s .now) (c .before .before .before .before .before .before .before .before .pre)
 

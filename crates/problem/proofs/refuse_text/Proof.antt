@@ -1,6 +1,6 @@
 use mathlib.Core.Path.{refl}
 use borrow.Author.Needs.{needs}
-use Rattle.problem.specs.Reading.{read-as}
+use Rattle.problem.specs.ReadAnswers.{read-as}
 use Rattle.problem.proofs.refuse_text.Statement.{statement}
 use Rattle.problem.proofs.refuse_text.Tie as tie
 

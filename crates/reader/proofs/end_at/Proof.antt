@@ -1,7 +1,7 @@
 use native.Mathlib.Omega.{arith}
 use mathlib.Core.Path.{sym, _∙_}
 use borrow.Author.Needs.{needs}
-use Rattle.reader.proofs.Answers.{end-missing, end-within, end-followed, end-last}
+use Rattle.reader.proofs.KindsAndEnds.{end-missing, end-within, end-followed, end-last}
 use Rattle.reader.proofs.end_at.Statement.{statement}
 use Rattle.reader.proofs.end_at.Tie as tie
 

@@ -38,9 +38,9 @@ use denote.Triple.Table.{entered, cited}
 use denote.Triple.Walked.{says, needs, Stays, stay-dropped, walkOf, goes-dropped, Walks, ends-at, walked, walk-meets}
 use denote.Exit.{yes}
 use denote.Triple.Clauses.{ensured, lasts}
-use Rattle.text.specs.Lines.{linesOf, oneLine}
-use Rattle.text.specs.Ends.{endOf}
-use Rattle.reader.specs.Places.{placed, linesLeft}
+use Rattle.text.specs.Lines.{lines-of, one-line}
+use Rattle.text.specs.Ends.{end-of}
+use Rattle.reader.specs.Places.{placed, lines-left}
 use Rattle.reader.specs.declared.Reader.{Reader}
 use Rattle.text.specs.declared.End.{End}
 use Rattle.reader.proofs.Holding.{bytes, local-at, row}
@@ -87,7 +87,7 @@ module _ {M : Type 1} (𝓤 : URA M) (H : Heap 𝓤) (A : Atoms 𝓤) (W : Given
   qs = (q, (q′, tt))
 
   abbrev found : End
-  found = endOf (now w) (linesOf (drops n (now s)))
+  found = end-of (now w) (lines-of (drops n (now s)))
 
   abbrev passed : Vals read-end.signature κs
   passed = (bytes s ∷ [], (vint w64 n ∷ [], (bytes w ∷ [], tt)))
@@ -132,7 +132,7 @@ module _ {M : Type 1} (𝓤 : URA M) (H : Heap 𝓤) (A : Atoms 𝓤) (W : Given
   abbrev to-end : Reader → Val → Says 𝓤 H A mem run .Ghost
   to-end r u = ((κs, qs, tt, (r, (w, tt)), (u ∷ [], (bytes w ∷ [], tt))), tt)
 
-  goes-end : oneLine (now w) ≡ true → (r : Reader) (u : Val)
+  goes-end : one-line (now w) ≡ true → (r : Reader) (u : Val)
       → ent 𝓤 (⋆ 𝓤 H A (‵ (row κ .own r (u ∷ [])) ∷ (‵ (flft κ q) ⊛ ‵ ftrue) ∷ (‵ (flft κ′ q′) ⊛ ‵ Word) ∷ [])) (Says 𝓤 H A mem run .pre (to-end r u))
   goes-end one r u =
       qed W (‵ (row κ .own r (u ∷ [])) ∷ (‵ (flft κ q) ⊛ ‵ ftrue) ∷ (‵ (flft κ′ q′) ⊛ ‵ Word) ∷ []) ∵ says ! one $
@@ -140,8 +140,8 @@ module _ {M : Type 1} (𝓤 : URA M) (H : Heap 𝓤) (A : Atoms 𝓤) (W : Given
       -- [the text's token; …; the word's token; what the word owns; what the reader owns]
       move ! (2 ∷ 1 ∷ []) $ join ! $ move ! (1 ∷ 0 ∷ []) $ join ! $ frame ! $ nothing ! $ move ! (1 ∷ 0 ∷ []) $ fjoin ! $ move ! (1 ∷ 0 ∷ []) $ fjoin ! $ done !
 
-  end-said : (r : Reader) (t : End) → ent 𝓤 (ensured 𝓤 H A end.ended (end.clauses 𝓤 H A mem run) κs (r, (w, tt)) tt t) (fact 𝓤 (t ≡ endOf (now w) (linesLeft r)))
-  end-said r t = exE 𝓤 _ (λ ws. snd∗ 𝓤 (sem 𝓤 H A (lasts end.ended κs (r, (w, tt)) ws)) (fact 𝓤 (t ≡ endOf (now w) (linesLeft r))))
+  end-said : (r : Reader) (t : End) → ent 𝓤 (ensured 𝓤 H A end.ended (end.clauses 𝓤 H A mem run) κs (r, (w, tt)) tt t) (fact 𝓤 (t ≡ end-of (now w) (lines-left r)))
+  end-said r t = exE 𝓤 _ (λ ws. snd∗ 𝓤 (sem 𝓤 H A (lasts end.ended κs (r, (w, tt)) ws)) (fact 𝓤 (t ≡ end-of (now w) (lines-left r))))
 
   exits : (t : End) (u : Val) → t ≡ found → ent 𝓤 (⋆ 𝓤 H A (‵ (S.the-row .own t (u ∷ [])) ∷ (‵ (flft κ q) ⊛ ‵ (flft κ′ q′) ⊛ ‵ ftrue) ∷ [])) (Post u)
   exits t u e =
@@ -150,7 +150,7 @@ module _ {M : Type 1} (𝓤 : URA M) (H : Heap 𝓤) (A : Atoms 𝓤) (W : Given
       move ! (1 ∷ []) $ frame ! $ nothing ! $ nothing ! $ fjoin ! $ nothing ! $ fjoin ! $ nothing ! $ fjoin ! $ frame ! $ done !
 
   module _ (C : Calls 𝓤 H) (Λ : Loops 𝓤 H) (fm : FmC 𝓤 H (W .laws) C) (known-open : Triple 𝓤 (C #open) (Open 𝓤 H A mem run)) (known-moved : Triple 𝓤 (C #moved) (Moved 𝓤 H A mem run)) (known-end : Triple 𝓤 (C #end) (Says 𝓤 H A mem run)) where
-    walk : oneLine (now w) ≡ true → Is (ShrSlice (named 0) κ u8) s (bytes s ∷ []) → Is (ShrSlice (named 1) κ′ u8) w (bytes w ∷ [])
+    walk : one-line (now w) ≡ true → Is (ShrSlice (named 0) κ u8) s (bytes s ∷ []) → Is (ShrSlice (named 1) κ′ u8) w (bytes w ∷ [])
         → ent 𝓤 (onEntry 𝓤 H A read-end.signature κs qs (s, (n, (w, tt))) passed) (WpFn 𝓤 H C Λ code.function (bytes s ∷ vint w64 n ∷ bytes w ∷ []) Post)
     walk one p p′ =
         qed W (raw (onEntry 𝓤 H A read-end.signature κs qs (s, (n, (w, tt))) passed) ∷ []) ∵ enter ! C Λ code.function (bytes s ∷ vint w64 n ∷ bytes w ∷ []) _ $
@@ -175,13 +175,13 @@ module _ {M : Type 1} (𝓤 : URA M) (H : Heap 𝓤) (A : Atoms 𝓤) (W : Given
         use3 W (raw (Says 𝓤 H A mem run .pre (to-end r′ u′))) (goes-end one r′ u′) $
         calls-at ! fm (Says 𝓤 H A mem run) known-end (to-end r′ u′) (and-then ! (load ! (from ! (stop !)) (look ! 3 refl)) (and-then ! (load ! (from ! (stop !)) (look ! 5 refl)) (no-more !))) (λ u″.
         use1 W (later (some (λ (t : End). ((‵ (flft κ q) ⊛ ‵ (flft κ′ q′) ⊛ ‵ ftrue) ⊛ ‵ (S.the-row .own t (u″ ∷ []))) ⊛ raw (ensured 𝓤 H A end.ended (end.clauses 𝓤 H A mem run) κs (r′, (w, tt)) tt t)))) (id⊢ 𝓤 _) $ await ! tt $ pick ! (λ t.
-        split ! $ move ! (1 ∷ []) $ use1 W (raw (fact 𝓤 (t ≡ endOf (now w) (linesLeft r′)))) (end-said r′ t) $ heard ! (t ≡ endOf (now w) (linesLeft r′)) (λ e″. split ! $ move ! (1 ∷ []) $
+        split ! $ move ! (1 ∷ []) $ use1 W (raw (fact 𝓤 (t ≡ end-of (now w) (lines-left r′)))) (end-said r′ t) $ heard ! (t ≡ end-of (now w) (lines-left r′)) (λ e″. split ! $ move ! (1 ∷ []) $
         -- [the result; the tokens; _5; …; _4; …; _3; …; _2; …; _1; …; room for _0; …]
         peeks ! S.the-row (Is S.the-row) (shows 𝓤 H A S.the-row) t (u″ ∷ []) (λ is″.
         land ! (from ! (stop !)) (init ! 12 refl (EL.lawful S.the-type S′.the-laws 𝓤 H A W tt .typed t _ is″ .0)) $
         returns ! (look ! 12 refl) $ forget ! 2 refl $ forget ! 4 refl $ forget ! 6 refl $ forget ! 8 refl $ forget ! 10 refl $ forget ! 12 refl $
         move ! (12 ∷ 13 ∷ []) $ free1 ! $ move ! (10 ∷ 11 ∷ []) $ free1 ! $ move ! (8 ∷ 9 ∷ []) $ free1 ! $ move ! (6 ∷ 7 ∷ []) $ free1 ! $ move ! (4 ∷ 5 ∷ []) $ free1 ! $ move ! (2 ∷ 3 ∷ []) $ free1 ! $ free0 ! $
-        by ! (exits t u″ (e″ ∙ ap (λ (x : Reader). endOf (now w) (linesLeft x)) (e′ ∙ ap (λ (x : Reader). placed (x .text) n) e)))))))))))))))))))))
+        by ! (exits t u″ (e″ ∙ ap (λ (x : Reader). end-of (now w) (lines-left x)) (e′ ∙ ap (λ (x : Reader). placed (x .text) n) e)))))))))))))))))))))
 
 module _ {M : Type 1} (𝓤 : URA M) (H : Heap 𝓤) (A : Atoms 𝓤) (W : Given 𝓤 H A) (mem : Memory → SProp 𝓤) (run : Routine → Fun 𝓤) where
   read-end-walks : (C : Calls 𝓤 H) (Λ : Loops 𝓤 H) → FmC 𝓤 H (W .laws) C → Triple 𝓤 (C #open) (Open 𝓤 H A mem run) → Triple 𝓤 (C #moved) (Moved 𝓤 H A mem run) → Triple 𝓤 (C #end) (Says 𝓤 H A mem run)

@@ -34,8 +34,8 @@ use denote.Triple.Table.{entered, cited}
 use denote.Triple.Walked.{says, Stays, stay-dropped, walkOf, goes-dropped, Walks, ends-at, walked, walk-meets}
 use denote.Exit.{yes}
 use denote.Triple.Clauses.{ensured, lasts}
-use Rattle.text.specs.Lines.{due, lineAt, kindOf}
-use Rattle.reader.specs.Places.{placed, linesLeft}
+use Rattle.text.specs.Lines.{due, line-at, kind-of}
+use Rattle.reader.specs.Places.{placed, lines-left}
 use Rattle.reader.specs.declared.Reader.{Reader}
 use Rattle.text.specs.declared.Kind.{Kind}
 use Rattle.reader.proofs.Holding.{bytes, local-at, row}
@@ -69,7 +69,7 @@ module _ {M : Type 1} (𝓤 : URA M) (H : Heap 𝓤) (A : Atoms 𝓤) (mem : Mem
 
 module _ {M : Type 1} (𝓤 : URA M) (H : Heap 𝓤) (A : Atoms 𝓤) (W : Given 𝓤 H A) (mem : Memory → SProp 𝓤) (run : Routine → Fun 𝓤) (κ : Lft) (q : Share) (s : RefT (List ℕ)) where
   abbrev found : Kind
-  found = kindOf (lineAt (now s) 0)
+  found = kind-of (line-at (now s) 0)
 
   abbrev Post : Val → SProp 𝓤
   Post = walkOf 𝓤 H A read-kind.ended stayed (read-kind.clauses 𝓤 H A mem run) .post (((κ, tt), (q, tt), tt, (s, tt), (bytes s ∷ [], tt)), tt)
@@ -91,8 +91,8 @@ module _ {M : Type 1} (𝓤 : URA M) (H : Heap 𝓤) (A : Atoms 𝓤) (W : Given
   goes-kind : (r : Reader) (u : Val) → ent 𝓤 (⋆ 𝓤 H A (‵ (row κ .own r (u ∷ [])) ∷ (‵ (flft κ q) ⊛ ‵ ftrue) ∷ [])) (Says 𝓤 H A mem run .pre (to-kind r u))
   goes-kind r u = qed W (‵ (row κ .own r (u ∷ [])) ∷ (‵ (flft κ q) ⊛ ‵ ftrue) ∷ []) ∵ nothing ! $ move ! (1 ∷ 0 ∷ []) $ fjoin ! $ move ! (1 ∷ 0 ∷ []) $ join ! $ frame ! $ done !
 
-  kind-said : (r : Reader) (t : Kind) → ent 𝓤 (ensured 𝓤 H A kind.ended (kind.clauses 𝓤 H A mem run) (κ, tt) (r, tt) tt t) (fact 𝓤 (t ≡ kindOf (due (linesLeft r))))
-  kind-said r t = exE 𝓤 _ (λ ws. snd∗ 𝓤 (sem 𝓤 H A (lasts kind.ended (κ, tt) (r, tt) ws)) (fact 𝓤 (t ≡ kindOf (due (linesLeft r)))))
+  kind-said : (r : Reader) (t : Kind) → ent 𝓤 (ensured 𝓤 H A kind.ended (kind.clauses 𝓤 H A mem run) (κ, tt) (r, tt) tt t) (fact 𝓤 (t ≡ kind-of (due (lines-left r))))
+  kind-said r t = exE 𝓤 _ (λ ws. snd∗ 𝓤 (sem 𝓤 H A (lasts kind.ended (κ, tt) (r, tt) ws)) (fact 𝓤 (t ≡ kind-of (due (lines-left r)))))
 
   exits : (t : Kind) (u : Val) → t ≡ found → ent 𝓤 (⋆ 𝓤 H A (‵ (S.the-row .own t (u ∷ [])) ∷ (‵ (flft κ q) ⊛ ‵ ftrue) ∷ [])) (Post u)
   exits t u e =
@@ -116,12 +116,12 @@ module _ {M : Type 1} (𝓤 : URA M) (H : Heap 𝓤) (A : Atoms 𝓤) (W : Given
         use2 W (raw (Says 𝓤 H A mem run .pre (to-kind r u))) (goes-kind r u) $
         calls-at ! fm (Says 𝓤 H A mem run) known-kind (to-kind r u) (and-then ! (load ! (from ! (stop !)) (look ! 1 refl)) (no-more !)) (λ u′.
         use1 W (later (some (λ (t : Kind). ((‵ (flft κ q) ⊛ ‵ ftrue) ⊛ ‵ (S.the-row .own t (u′ ∷ []))) ⊛ raw (ensured 𝓤 H A kind.ended (kind.clauses 𝓤 H A mem run) (κ, tt) (r, tt) tt t)))) (id⊢ 𝓤 _) $ await ! tt $ pick ! (λ t.
-        split ! $ move ! (1 ∷ []) $ use1 W (raw (fact 𝓤 (t ≡ kindOf (due (linesLeft r))))) (kind-said r t) $ heard ! (t ≡ kindOf (due (linesLeft r))) (λ e′. split ! $ move ! (1 ∷ []) $
+        split ! $ move ! (1 ∷ []) $ use1 W (raw (fact 𝓤 (t ≡ kind-of (due (lines-left r))))) (kind-said r t) $ heard ! (t ≡ kind-of (due (lines-left r))) (λ e′. split ! $ move ! (1 ∷ []) $
         -- [the result; the token; _2; …; _1; …; room for _0; …]
         peeks ! S.the-row (Is S.the-row) (shows 𝓤 H A S.the-row) t (u′ ∷ []) (λ is′.
         land ! (from ! (stop !)) (init ! 6 refl (EL.lawful S.the-type S′.the-laws 𝓤 H A W tt .typed t _ is′ .0)) $
         returns ! (look ! 6 refl) $ forget ! 2 refl $ forget ! 4 refl $ forget ! 6 refl $ move ! (6 ∷ 7 ∷ []) $ free1 ! $ move ! (4 ∷ 5 ∷ []) $ free1 ! $ move ! (2 ∷ 3 ∷ []) $ free1 ! $ free0 ! $
-        by ! (exits t u′ (e′ ∙ ap (λ (x : Reader). kindOf (due (linesLeft x))) e)))))))))))))
+        by ! (exits t u′ (e′ ∙ ap (λ (x : Reader). kind-of (due (lines-left x))) e)))))))))))))
 
 module _ {M : Type 1} (𝓤 : URA M) (H : Heap 𝓤) (A : Atoms 𝓤) (W : Given 𝓤 H A) (mem : Memory → SProp 𝓤) (run : Routine → Fun 𝓤) where
   read-kind-walks : (C : Calls 𝓤 H) (Λ : Loops 𝓤 H) → FmC 𝓤 H (W .laws) C → Triple 𝓤 (C #open) (Open 𝓤 H A mem run) → Triple 𝓤 (C #kind) (Says 𝓤 H A mem run)

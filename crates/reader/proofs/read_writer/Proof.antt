@@ -36,9 +36,9 @@ use denote.Triple.Table.{entered, cited}
 use denote.Triple.Walked.{says, Stays, stay-dropped, walkOf, goes-dropped, Walks, ends-at, walked, walk-meets}
 use denote.Exit.{yes}
 use denote.Triple.Clauses.{ensured, lasts}
-use Rattle.text.specs.Lines.{lineAt}
+use Rattle.text.specs.Lines.{line-at}
 use Rattle.reader.specs.Places.{placed}
-use Rattle.reader.specs.Written.{writerLine, writerRead}
+use Rattle.reader.specs.Written.{writer-line, writer-read}
 use Rattle.reader.specs.declared.Reader.{Reader}
 use Rattle.reader.specs.declared.WriterLine.{WriterLine}
 use Rattle.reader.specs.declared.WriterRead.{WriterRead}
@@ -90,7 +90,7 @@ module _ {M : Type 1} (𝓤 : URA M) (H : Heap 𝓤) (A : Atoms 𝓤) (mem : Mem
 
 module _ {M : Type 1} (𝓤 : URA M) (H : Heap 𝓤) (A : Atoms 𝓤) (W : Given 𝓤 H A) (mem : Memory → SProp 𝓤) (run : Routine → Fun 𝓤) (κ : Lft) (q : Share) (s : RefT (List ℕ)) (n : ℕ) (ok : n < 2 ^ 64) where
   abbrev found : WriterLine
-  found = writerLine (lineAt (now s) n) n
+  found = writer-line (line-at (now s) n) n
 
   abbrev passed : Vals read-writer.signature (κ, tt)
   passed = (bytes s ∷ [], (vint w64 n ∷ [], tt))
@@ -129,8 +129,8 @@ module _ {M : Type 1} (𝓤 : URA M) (H : Heap 𝓤) (A : Atoms 𝓤) (W : Given
   goes-writer : (r : Reader) (u : Val) → ent 𝓤 (⋆ 𝓤 H A (‵ (row κ .own r (u ∷ [])) ∷ (‵ (flft κ q) ⊛ ‵ ftrue) ∷ [])) (Says 𝓤 H A mem run .pre (to-writer r u))
   goes-writer r u = qed W (‵ (row κ .own r (u ∷ [])) ∷ (‵ (flft κ q) ⊛ ‵ ftrue) ∷ []) ∵ nothing ! $ move ! (1 ∷ 0 ∷ []) $ fjoin ! $ move ! (1 ∷ 0 ∷ []) $ join ! $ frame ! $ done !
 
-  writer-said : (r : Reader) (t : WriterRead) → ent 𝓤 (ensured 𝓤 H A writer.ended (writer.clauses 𝓤 H A mem run) (κ, tt) (r, tt) tt t) (fact 𝓤 (t ≡ writerRead r))
-  writer-said r t = exE 𝓤 _ (λ ws. snd∗ 𝓤 (sem 𝓤 H A (lasts writer.ended (κ, tt) (r, tt) ws)) (fact 𝓤 (t ≡ writerRead r)))
+  writer-said : (r : Reader) (t : WriterRead) → ent 𝓤 (ensured 𝓤 H A writer.ended (writer.clauses 𝓤 H A mem run) (κ, tt) (r, tt) tt t) (fact 𝓤 (t ≡ writer-read r))
+  writer-said r t = exE 𝓤 _ (λ ws. snd∗ 𝓤 (sem 𝓤 H A (lasts writer.ended (κ, tt) (r, tt) ws)) (fact 𝓤 (t ≡ writer-read r)))
 
   -- the machine value that is returned
   abbrev made : WriterRead → Val
@@ -172,7 +172,7 @@ module _ {M : Type 1} (𝓤 : URA M) (H : Heap 𝓤) (A : Atoms 𝓤) (W : Given
         use2 W (raw (Says 𝓤 H A mem run .pre (to-writer r′ u′))) (goes-writer r′ u′) $
         calls-at ! fm (Says 𝓤 H A mem run) known-writer (to-writer r′ u′) (and-then ! (load ! (from ! (stop !)) (look ! 7 refl)) (no-more !)) (λ u″.
         use1 W (later (some (λ (t : WriterRead). ((‵ (flft κ q) ⊛ ‵ ftrue) ⊛ ‵ (read-row κ .own t (u″ ∷ []))) ⊛ raw (ensured 𝓤 H A writer.ended (writer.clauses 𝓤 H A mem run) (κ, tt) (r′, tt) tt t)))) (id⊢ 𝓤 _) $ await ! tt $ pick ! (λ t.
-        split ! $ move ! (1 ∷ []) $ use1 W (raw (fact 𝓤 (t ≡ writerRead r′))) (writer-said r′ t) $ heard ! (t ≡ writerRead r′) (λ e″. split ! $ move ! (1 ∷ []) $
+        split ! $ move ! (1 ∷ []) $ use1 W (raw (fact 𝓤 (t ≡ writer-read r′))) (writer-said r′ t) $ heard ! (t ≡ writer-read r′) (λ e″. split ! $ move ! (1 ∷ []) $
         -- [what is read; the token; room for _7; …; room for _6; …; _5; …; _4; …; room for _3; …; _2; …; _1; …; room for _0; …]
         peeks ! (read-row κ) (Is (read-row κ)) (shows 𝓤 H A (read-row κ)) t (u″ ∷ []) (λ is″.
         land ! (from ! (stop !)) (init ! 10 refl (LL.lawful (R.the-type (local-at κ)) (R′.the-laws (local-at κ)) 𝓤 H A W .typed t _ is″ .0)) $
@@ -182,7 +182,7 @@ module _ {M : Type 1} (𝓤 : URA M) (H : Heap 𝓤) (A : Atoms 𝓤) (W : Given
         assigns ! (agg ! (and-then ! (load ! (from ! (stop !)) (look ! 4 refl)) (and-then ! (load ! (from ! (stop !)) (look ! 2 refl)) (no-more !)))) (from ! (stop !)) (init ! 16 refl (LL.lawful L.the-type L′.the-laws 𝓤 H A W .typed (line t) _ (is-line t u″ is″) .0)) $
         returns ! (look ! 16 refl) $ forget ! 2 refl $ forget ! 4 refl $ forget ! 6 refl $ forget ! 8 refl $ forget ! 10 refl $ forget ! 12 refl $ forget ! 14 refl $ forget ! 16 refl $
         move ! (16 ∷ 17 ∷ []) $ free1 ! $ move ! (14 ∷ 15 ∷ []) $ free1 ! $ move ! (12 ∷ 13 ∷ []) $ free1 ! $ move ! (10 ∷ 11 ∷ []) $ free1 ! $ move ! (8 ∷ 9 ∷ []) $ free1 ! $ move ! (6 ∷ 7 ∷ []) $ free1 ! $ move ! (4 ∷ 5 ∷ []) $ free1 ! $ move ! (2 ∷ 3 ∷ []) $ free1 ! $ free0 ! $
-        keep ! (1 ∷ []) $ by ! (exits t (ap line e″ ∙ ap (λ (x : Reader). line (writerRead x)) (e′ ∙ ap (λ (x : Reader). placed (x .text) n) e)) (is-line t u″ is″))))))))))))))))))))))
+        keep ! (1 ∷ []) $ by ! (exits t (ap line e″ ∙ ap (λ (x : Reader). line (writer-read x)) (e′ ∙ ap (λ (x : Reader). placed (x .text) n) e)) (is-line t u″ is″))))))))))))))))))))))
 
 module _ {M : Type 1} (𝓤 : URA M) (H : Heap 𝓤) (A : Atoms 𝓤) (W : Given 𝓤 H A) (mem : Memory → SProp 𝓤) (run : Routine → Fun 𝓤) where
   read-writer-walks : (C : Calls 𝓤 H) (Λ : Loops 𝓤 H) → FmC 𝓤 H (W .laws) C → Triple 𝓤 (C #open) (Open 𝓤 H A mem run) → Triple 𝓤 (C #moved) (Moved 𝓤 H A mem run) → Triple 𝓤 (C #writer) (Says 𝓤 H A mem run)

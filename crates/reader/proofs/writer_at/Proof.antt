@@ -1,5 +1,5 @@
 use borrow.Author.Needs.{needs}
-use Rattle.text.specs.Lines.{lineAt}
+use Rattle.text.specs.Lines.{line-at}
 use Rattle.reader.proofs.WriterLines.{row-refused, row-written}
 use Rattle.reader.proofs.writer_at.Statement.{statement}
 use Rattle.reader.proofs.writer_at.Tie as tie
@@ -23,13 +23,13 @@ returns : tie.Need-returns
 returns c =
     let r = c .before .before .before in
     let a = r .before .before .before .args in
-    row-refused (lineAt (a .s .now) (a .at)) (a .at) (r .read-row .result) (r .read-row .ensures) _ (c .before .verdict .given .1)
+    row-refused (line-at (a .s .now) (a .at)) (a .at) (r .read-row .result) (r .read-row .ensures) _ (c .before .verdict .given .1)
 
 returns-2 : tie.Need-returns-2
 returns-2 c =
     let r = c .before .before .before .before in
     let a = r .before .before .before .args in
-    row-written (lineAt (a .s .now) (a .at)) (a .at) (r .read-row .result) (r .read-row .ensures) _ (c .before .before .verdict2 .given .1)
+    row-written (line-at (a .s .now) (a .at)) (a .at) (r .read-row .result) (r .read-row .ensures) _ (c .before .before .verdict2 .given .1)
 
 pub writer-at-spec : {M : Type 1} → statement M
 writer-at-spec =

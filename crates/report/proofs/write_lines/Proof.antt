@@ -4,7 +4,7 @@ use native.Mathlib.Omega.{arith}
 use Prim.Native.Nat.{ℕ, _+_}
 use mathlib.Core.Path.{refl}
 use mathlib.Core.List.{List}
-use Rattle.report.specs.Report.{lines-of}
+use Rattle.report.specs.Report.{seven-lines}
 use Rattle.report.proofs.Lines.{report-length}
 use Rattle.report.proofs.Stages.{Stage, first-stage, refilled, within, as-long, starts, next-room, advance, lines-fit, all-written}
 use Rattle.report.proofs.write_lines.Statement.{statement}
@@ -21,7 +21,7 @@ b1 c = c .before .before .write-bytes .last .0
 abbrev k1 : tie.After-slice-known2 → ℕ
 k1 c = c .before .before .write-bytes .result
 
-stage1 : (c : tie.After-slice-known2) → Stage (start1 c .args .buf .now) (b1 c) (lines-of (start1 c .args .f)) 1 (k1 c)
+stage1 : (c : tie.After-slice-known2) → Stage (start1 c .args .buf .now) (b1 c) (seven-lines (start1 c .args .f)) 1 (k1 c)
 stage1 c =
     let p = c .before .before .write-bytes in
     first-stage (lines-fit (start1 c .args .f) (start1 c .args .buf .now) (start1 c .pre)) (p .ensures .0) (p .ensures .1)
@@ -38,7 +38,7 @@ b2 c = refilled (b1 (before2 c)) (k1 (before2 c)) (c .before .before .write-line
 abbrev k2 : tie.After-slice-known3 → ℕ
 k2 c = k1 (before2 c) + c .before .before .write-line .result
 
-stage2 : (c : tie.After-slice-known3) → Stage (start2 c .args .buf .now) (b2 c) (lines-of (start2 c .args .f)) 2 (k2 c)
+stage2 : (c : tie.After-slice-known3) → Stage (start2 c .args .buf .now) (b2 c) (seven-lines (start2 c .args .f)) 2 (k2 c)
 stage2 c =
     let p = c .before .before .write-line in
     advance (stage1 (before2 c)) refl (p .ensures .0) (p .ensures .1)
@@ -55,7 +55,7 @@ b3 c = refilled (b2 (before3 c)) (k2 (before3 c)) (c .before .before .write-line
 abbrev k3 : tie.After-slice-known4 → ℕ
 k3 c = k2 (before3 c) + c .before .before .write-line2 .result
 
-stage3 : (c : tie.After-slice-known4) → Stage (start3 c .args .buf .now) (b3 c) (lines-of (start3 c .args .f)) 3 (k3 c)
+stage3 : (c : tie.After-slice-known4) → Stage (start3 c .args .buf .now) (b3 c) (seven-lines (start3 c .args .f)) 3 (k3 c)
 stage3 c =
     let p = c .before .before .write-line2 in
     advance (stage2 (before3 c)) refl (p .ensures .0) (p .ensures .1)
@@ -72,7 +72,7 @@ b4 c = refilled (b3 (before4 c)) (k3 (before4 c)) (c .before .before .write-line
 abbrev k4 : tie.After-slice-known5 → ℕ
 k4 c = k3 (before4 c) + c .before .before .write-line3 .result
 
-stage4 : (c : tie.After-slice-known5) → Stage (start4 c .args .buf .now) (b4 c) (lines-of (start4 c .args .f)) 4 (k4 c)
+stage4 : (c : tie.After-slice-known5) → Stage (start4 c .args .buf .now) (b4 c) (seven-lines (start4 c .args .f)) 4 (k4 c)
 stage4 c =
     let p = c .before .before .write-line3 in
     advance (stage3 (before4 c)) refl (p .ensures .0) (p .ensures .1)
@@ -89,7 +89,7 @@ b5 c = refilled (b4 (before5 c)) (k4 (before5 c)) (c .before .before .write-line
 abbrev k5 : tie.After-slice-known6 → ℕ
 k5 c = k4 (before5 c) + c .before .before .write-line4 .result
 
-stage5 : (c : tie.After-slice-known6) → Stage (start5 c .args .buf .now) (b5 c) (lines-of (start5 c .args .f)) 5 (k5 c)
+stage5 : (c : tie.After-slice-known6) → Stage (start5 c .args .buf .now) (b5 c) (seven-lines (start5 c .args .f)) 5 (k5 c)
 stage5 c =
     let p = c .before .before .write-line4 in
     advance (stage4 (before5 c)) refl (p .ensures .0) (p .ensures .1)
@@ -106,7 +106,7 @@ b6 c = refilled (b5 (before6 c)) (k5 (before6 c)) (c .before .before .write-line
 abbrev k6 : tie.After-slice-known7 → ℕ
 k6 c = k5 (before6 c) + c .before .before .write-line5 .result
 
-stage6 : (c : tie.After-slice-known7) → Stage (start6 c .args .buf .now) (b6 c) (lines-of (start6 c .args .f)) 6 (k6 c)
+stage6 : (c : tie.After-slice-known7) → Stage (start6 c .args .buf .now) (b6 c) (seven-lines (start6 c .args .f)) 6 (k6 c)
 stage6 c =
     let p = c .before .before .write-line5 in
     advance (stage5 (before6 c)) refl (p .ensures .0) (p .ensures .1)
@@ -123,7 +123,7 @@ b7 c = refilled (b6 (before7 c)) (k6 (before7 c)) (c .before .before .write-byte
 abbrev k7 : tie.After-slice-known8 → ℕ
 k7 c = k6 (before7 c) + c .before .before .write-bytes2 .result
 
-stage7 : (c : tie.After-slice-known8) → Stage (start7 c .args .buf .now) (b7 c) (lines-of (start7 c .args .f)) 7 (k7 c)
+stage7 : (c : tie.After-slice-known8) → Stage (start7 c .args .buf .now) (b7 c) (seven-lines (start7 c .args .f)) 7 (k7 c)
 stage7 c =
     let p = c .before .before .write-bytes2 in
     advance (stage6 (before7 c)) refl (p .ensures .0) (p .ensures .1)

@@ -6,7 +6,7 @@ use borrow.Author.Needs.{needs}
 use Rattle.model.specs.Held.{view}
 use Rattle.judge.specs.Rows.{schedule-of}
 use Rattle.judge.specs.Judgement.{judgement}
-use Rattle.schedule.specs.Reading.{in-arrays}
+use Rattle.schedule.specs.ReadAnswers.{in-arrays}
 use Rattle.schedule.proofs.CutRows.{cut-take}
 use Rattle.schedule.proofs.Ruling.{ruled-breaks, ruled-costs, accepted-held}
 use Rattle.schedule.proofs.Runs.{rows-fit}

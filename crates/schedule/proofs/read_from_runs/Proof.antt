@@ -7,8 +7,8 @@ use lib.ListN.{length, take, drop, length-append, length-drop}
 use lib.Seq.{length-take-le, take-at, paste}
 use borrow.Author.Needs.{needs}
 use Rattle.model.specs.Held.{view}
-use Rattle.text.specs.Lines.{lineAt}
-use Rattle.text.specs.Forms.{rowOf}
+use Rattle.text.specs.Lines.{line-at}
+use Rattle.text.specs.Forms.{row-of}
 use Rattle.text.proofs.Verdicts.{ruled-refused}
 use Rattle.text.proofs.Fills.{PlainFilled, plain-filled}
 use Rattle.schedule.specs.Rendering.{run-key}
@@ -57,11 +57,11 @@ fill-row-requires c κs = (refl, (omega (arith, lent c, c .before .before .befor
 run-verdict : (c : tie.After-fill-row Inv-loop μ-loop) →
     let a = c .before .before .before .before .before .before .args in
     let i = c .before .before .before .before .loop .i in
-    c .fill-row .result ≡ rowOf (run-form (a .problem .periods)) (lineAt (a .text .now) i) i .verdict
+    c .fill-row .result ≡ row-of (run-form (a .problem .periods)) (line-at (a .text .now) i) i .verdict
 run-verdict c =
     let a = c .before .before .before .before .before .before .args in
     let i = c .before .before .before .before .loop .i in
-    c .fill-row .ensures .0 ∙ ap (λ (n : ℕ). rowOf (run-form n) (lineAt (a .text .now) i) i .verdict) (lent (c .before))
+    c .fill-row .ensures .0 ∙ ap (λ (n : ℕ). row-of (run-form n) (line-at (a .text .now) i) i .verdict) (lent (c .before))
 
 enum-known-verdict : tie.Need-enum-known-verdict Inv-loop μ-loop
 enum-known-verdict c = search needs
@@ -88,7 +88,7 @@ enum-known-verdict-2 c = search needs
 run-filled : (c : tie.After-verdict2 Inv-loop μ-loop) →
     let a = c .before .before .before .before .before .before .before .before .before .args in
     let i = c .before .before .before .before .before .before .before .loop .i in
-    PlainFilled run-key (a .problem .periods) 0 10000 (lineAt (a .text .now) i) i (c .verdict2 .given .0 .0) (c .before .before .before .fill-row .last .1 .1 .1 .1 .1 .0)
+    PlainFilled run-key (a .problem .periods) 0 10000 (line-at (a .text .now) i) i (c .verdict2 .given .0 .0) (c .before .before .before .fill-row .last .1 .1 .1 .1 .1 .0)
 run-filled c =
     let a = c .before .before .before .before .before .before .before .before .before .args in
     let l = c .before .before .before .before .before .before .before .loop in

@@ -2,7 +2,7 @@ use mathlib.Core.Path.{_≡_, sym, _∙_}
 use lib.ListN.{length, length-map}
 use borrow.Author.Needs.{needs}
 use Rattle.model.specs.Held.{view}
-use Rattle.text.specs.Lines.{lineAt}
+use Rattle.text.specs.Lines.{line-at}
 use Rattle.reader.proofs.WriterLines.{line-refused, line-written}
 use Rattle.schedule.proofs.Opening.{opening-stopped, opening-passed}
 use Rattle.schedule.proofs.read_schedule.Statement.{statement}
@@ -33,7 +33,7 @@ returns c =
     let s = r .before .before in
     let text = s .args .text .now in
     c .refuse-text .ensures
-    ∙ sym (opening-stopped (view (s .args .problem)) text (s .pre .1) (line-refused (lineAt text 14) 14 (r .read-writer .result) (r .read-writer .ensures) _ (c .before .before .written .given .1)))
+    ∙ sym (opening-stopped (view (s .args .problem)) text (s .pre .1) (line-refused (line-at text 14) 14 (r .read-writer .result) (r .read-writer .ensures) _ (c .before .before .written .given .1)))
 
 returns-2 : tie.Need-returns-2
 returns-2 c =
@@ -41,7 +41,7 @@ returns-2 c =
     let s = r .before .before in
     let text = s .args .text .now in
     c .read-from-runs .ensures
-    ∙ sym (opening-passed (s .args .problem) (s .pre .0) (many s) text (s .pre .1) (line-written (lineAt text 14) 14 (r .read-writer .result) (r .read-writer .ensures) _ (c .before .before .written2 .given .1)))
+    ∙ sym (opening-passed (s .args .problem) (s .pre .0) (many s) text (s .pre .1) (line-written (line-at text 14) 14 (r .read-writer .result) (r .read-writer .ensures) _ (c .before .before .written2 .given .1)))
 
 pub read-schedule-spec : {M : Type 1} → statement M
 read-schedule-spec =

@@ -1,7 +1,7 @@
 use mathlib.Core.Path.{ap}
 use borrow.Author.Needs.{needs}
 use Rattle.refusal.specs.declared.Refusal.{Refusal}
-use Rattle.schedule.specs.Reading.{in-arrays, refused-by}
+use Rattle.schedule.specs.ReadAnswers.{in-arrays, refused-by}
 use Rattle.schedule.proofs.refuse_text.Statement.{statement}
 use Rattle.schedule.proofs.refuse_text.Tie as tie
 

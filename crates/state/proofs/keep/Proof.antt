@@ -4,7 +4,7 @@ use native.Mathlib.Omega.{arith}
 use mathlib.Core.List.{[], _∷_}
 use Prim.Native.Nat.{ℕ}
 use lib.ListN.{length}
-use Rattle.state.specs.Layout.{mark, head}
+use Rattle.state.specs.Layout.{layout-mark, head}
 use Rattle.state.specs.Kept.{kept-rows}
 use Rattle.state.proofs.Keeping.{stored-all}
 use borrow.Author.Needs.{needs}
@@ -78,8 +78,8 @@ returns c =
     let k = b .before in
     let n = k .before in
     let s = n .before .before .before .before .before .before in
-    let h : mark ∷ n .known-number .result ∷ [] ≡ head (s .args .docket) = ap (λ (x : ℕ). mark ∷ x ∷ []) (n .known-number .ensures) in (
-      stored-all (s .args .docket) (s .args .numbers .now) (mark ∷ n .known-number .result ∷ []) (k .cost-numbers .result) (b .bound-numbers .result) (l .lay-out .result)
+    let h : layout-mark ∷ n .known-number .result ∷ [] ≡ head (s .args .docket) = ap (λ (x : ℕ). layout-mark ∷ x ∷ []) (n .known-number .ensures) in (
+      stored-all (s .args .docket) (s .args .numbers .now) (layout-mark ∷ n .known-number .result ∷ []) (k .cost-numbers .result) (b .bound-numbers .result) (l .lay-out .result)
           (s1 .store .last .0) (s2 .store2 .last .0) (s3 .store3 .last .0) (s4 .store4 .last .0) h (k .cost-numbers .ensures) (b .bound-numbers .ensures) (l .lay-out .ensures .0)
           (s1 .store .ensures) (s2 .store2 .ensures) (s3 .store3 .ensures) (s4 .store4 .ensures),
       r .store-rows .ensures,

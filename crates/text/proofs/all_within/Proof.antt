@@ -2,13 +2,13 @@ use borrow.Author.Needs.{needs}
 use Prim.Native.Nat.{_-_}
 use mathlib.Core.Path.{_≡_, refl, sym, _∙_}
 use lib.ListN.{length, drop}
-use Rattle.text.specs.Forms.{withinAll}
+use Rattle.text.specs.Forms.{all-within}
 use Rattle.text.proofs.Ranges.{too-small, too-large, in-range, all-past}
 use Rattle.text.proofs.all_within.Statement.{statement}
 use Rattle.text.proofs.all_within.Tie as tie
 
 abbrev Inv-loop : tie.InvT-loop
-Inv-loop v lows highs i₀ i = withinAll (drop i v) (drop i lows) (drop i highs) ≡ withinAll v lows highs
+Inv-loop v lows highs i₀ i = all-within (drop i v) (drop i lows) (drop i highs) ≡ all-within v lows highs
 
 abbrev μ-loop : tie.MeasureT-loop
 μ-loop v lows highs i₀ i = length v - i

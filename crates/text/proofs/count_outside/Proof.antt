@@ -4,13 +4,13 @@ use Prim.Native.Nat.{_+_, _-_, _≤_}
 use native.Mathlib.Omega.{arith}
 use mathlib.Core.Path.{_≡_}
 use lib.ListN.{length, drop, getD}
-use Rattle.text.specs.Scan.{countOutside}
+use Rattle.text.specs.Scan.{count-outside}
 use Rattle.text.proofs.Ranges.{outside-most, count-at, count-past}
 use Rattle.text.proofs.count_outside.Statement.{statement}
 use Rattle.text.proofs.count_outside.Tie as tie
 
 abbrev Inv-loop : tie.InvT-loop
-Inv-loop v lo hi n₀ i₀ n i = (n ≤ i) × (n + countOutside lo hi (drop i v) ≡ countOutside lo hi v)
+Inv-loop v lo hi n₀ i₀ n i = (n ≤ i) × (n + count-outside lo hi (drop i v) ≡ count-outside lo hi v)
 
 abbrev μ-loop : tie.MeasureT-loop
 μ-loop v lo hi n₀ i₀ n i = length v - i

@@ -4,7 +4,7 @@ use mathlib.Core.Path.{_≡_, sym, ap, _∙_}
 use lib.ListN.{length, replicate, length-replicate}
 use lib.Dec.{eqb}
 use Prim.Native.Nat.{ℕ}
-use Rattle.text.specs.Forms.{withinAll}
+use Rattle.text.specs.Forms.{all-within}
 use Rattle.text.proofs.Ranges.{none-outside}
 use Rattle.text.proofs.Rows.{below-same}
 use Rattle.text.proofs.Fills.{fill-verdict}
@@ -33,7 +33,7 @@ returns c =
     let kept : length out ≡ n = search needs in (
       c .judge-values .ensures
           ∙ fill-verdict (a .key .now) (replicate n (a .lo)) (replicate n (a .hi)) (a .s .now) (a .out .now) (a .at) (st .pre .0) (below-same n (a .hi) (st .pre .1 .1)) (sym (length-replicate n (a .lo))) (v .ensures .1) (v .ensures .0) kept
-          (ap (λ (k : ℕ). eqb k 0) (c .before .count-outside .ensures) ∙ none-outside (a .lo) (a .hi) out ∙ ap (λ (k : ℕ). withinAll out (replicate k (a .lo)) (replicate k (a .hi))) kept),
+          (ap (λ (k : ℕ). eqb k 0) (c .before .count-outside .ensures) ∙ none-outside (a .lo) (a .hi) out ∙ ap (λ (k : ℕ). all-within out (replicate k (a .lo)) (replicate k (a .hi))) kept),
       v .ensures .1,
     )
 

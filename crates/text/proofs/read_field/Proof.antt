@@ -3,7 +3,7 @@ use borrow.Author.Needs.{needs}
 use native.Mathlib.Omega.{arith}
 use mathlib.Core.Path.{sym, _∙_}
 use mathlib.Core.Logic.{⊎-elim}
-use Rattle.text.specs.Scan.{endedAt}
+use Rattle.text.specs.Scan.{ended-at}
 use Rattle.text.proofs.Fields.{byte-inside, field-plain, field-barred, field-minus}
 use Rattle.text.proofs.read_field.Statement.{statement}
 use Rattle.text.proofs.read_field.Tie as tie
@@ -36,8 +36,8 @@ returns-2 c =
     let is = sym (b .byte-is .ensures) in
     c .read-unsigned .ensures
     ∙ ⊎-elim
-    (λ w. (λ j. endedAt (a .s .now) (w .3 j) (w .0 .taken j)) ∙ field-minus (a .s .now) (a .at) (is ∙ w .0 .taken) (a .signed) (sym (w .1 .ensures) ∙ w .2 .left))
-    (λ w. (λ j. endedAt (a .s .now) (w .1 j) (w .0 .left j)) ∙ field-plain (a .s .now) (a .at) (a .signed) (is ∙ w .0 .left))
+    (λ w. (λ j. ended-at (a .s .now) (w .3 j) (w .0 .taken j)) ∙ field-minus (a .s .now) (a .at) (is ∙ w .0 .taken) (a .signed) (sym (w .1 .ensures) ∙ w .2 .left))
+    (λ w. (λ j. ended-at (a .s .now) (w .1 j) (w .0 .left j)) ∙ field-plain (a .s .now) (a .at) (a .signed) (is ∙ w .0 .left))
     (c .before .if1 .came)
 
 pub read-field-spec : {M : Type 1} → statement M

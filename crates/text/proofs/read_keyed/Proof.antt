@@ -2,7 +2,7 @@
 use borrow.Author.Needs.{needs}
 use native.Mathlib.Omega.{arith}
 use mathlib.Core.Path.{sym, _∙_}
-use Rattle.text.specs.Scan.{keyedAt}
+use Rattle.text.specs.Scan.{keyed-at}
 use Rattle.text.proofs.Keys.{key-fits}
 use Rattle.text.proofs.read_keyed.Statement.{statement}
 use Rattle.text.proofs.read_keyed.Tie as tie
@@ -23,14 +23,14 @@ same-length : tie.Need-same-length
 same-length c = search needs
 
 returns : tie.Need-returns
-unfolding keyedAt
+unfolding keyed-at
 returns c =
     let on = sym (c .before .before .before .before .before .starts .ensures) ∙ c .before .before .before .before .if1 .taken in
     let v = c .before .before .read-values .ensures in
     (simp on (v .0), simp on (v .1))
 
 returns-2 : tie.Need-returns-2
-unfolding keyedAt
+unfolding keyed-at
 returns-2 c = let off = sym (c .before .starts .ensures) ∙ c .if1 .left in (simp off, simp off)
 
 pub read-keyed-spec : {M : Type 1} → statement M

@@ -5,12 +5,12 @@ use mathlib.Core.Path.{_≡_, sym, _∙_}
 use lib.ListN.{length, replicate, length-replicate, length-take}
 use lib.Seq.{length-take-le}
 use Prim.Native.Nat.{ℕ, _≤_}
-use Rattle.text.specs.Lines.{lineAt}
-use Rattle.text.specs.Forms.{Form, form, numbers-of, rowOf}
+use Rattle.text.specs.Lines.{line-at}
+use Rattle.text.specs.Forms.{Form, form, numbers-of, row-of}
 use Rattle.text.proofs.Rows.{verdict-is, good-held}
 use Rattle.text.proofs.Verdicts.{refused-row, ruled-good, good-row}
 use Rattle.text.proofs.Accepted.{good-rendered}
-use Rattle.text.proofs.Plain.{padded-is}
+use Rattle.text.proofs.Plain.{pad-48-is}
 use Rattle.text.proofs.read_line.Statement.{statement}
 use Rattle.text.proofs.read_line.Tie as tie
 
@@ -48,7 +48,7 @@ room c = omega (arith, length-replicate {A = ℕ} 48 0, c .pre .1 .0)
 -- the verdict is that of the line
 verdict : (c : tie.After-judge-values) →
     let st = c .before .before .before .before .before .before .before .before .before .before in
-    c .judge-values .result ≡ rowOf (due st) (lineAt (st .args .s .now) (st .args .at)) (st .args .at) .verdict
+    c .judge-values .result ≡ row-of (due st) (line-at (st .args .s .now) (st .args .at)) (st .args .at) .verdict
 verdict c =
     let st = c .before .before .before .before .before .before .before .before .before .before in
     let a = st .args in
@@ -72,20 +72,20 @@ returns c =
     let st = c .before .before .before .before .before .before .before .before .before .before .before .before .before .before in
     let a = st .args in
     let j = c .before .before .before .before in
-    c .refused .ensures ∙ refused-row (due st) (lineAt (a .s .now) (a .at)) (a .at) (j .judge-values .result) (verdict j) _ (c .before .before .verdict .given .1)
+    c .refused .ensures ∙ refused-row (due st) (line-at (a .s .now) (a .at)) (a .at) (j .judge-values .result) (verdict j) _ (c .before .before .verdict .given .1)
 
 returns-2 : tie.Need-returns-2
 returns-2 c =
     let st = c .before .before .before .before .before .before .before .before .before .before .before .before .before .before in
     let a = st .args in
-    let l = lineAt (a .s .now) (a .at) in
+    let l = line-at (a .s .now) (a .at) in
     let j = c .before .before .before .before in
     let v = c .before .before .before .before .before .before .before .before .read-keyed .ensures in
     let said = c .before .before .verdict2 .given in
     let g = ruled-good (due st) l (a .at) (j .judge-values .result) (verdict j) (said .0 .0) (said .1) .0 in
     let h = good-held (due st) (a .s .now) (replicate 48 0) (a .at) (st .pre .0) (st .pre .1 .1 .1) (room st) (v .0) (v .1) g in
     good-row (due st) l (a .at) (j .judge-values .result) (verdict j) (said .0 .0) (said .1) _ (c .has-minus .ensures ∙ h .minus) _
-    (h .values ∙ padded-is (numbers-of (due st) l) (length (a .lows .now)) (good-rendered (due st) l g .fits .count))
+    (h .values ∙ pad-48-is (numbers-of (due st) l) (length (a .lows .now)) (good-rendered (due st) l g .fits .count))
 
 pub read-line-spec : {M : Type 1} → statement M
 read-line-spec =

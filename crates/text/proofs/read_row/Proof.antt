@@ -6,10 +6,10 @@ use mathlib.Core.List.{List, _++_}
 use lib.ListN.{length, take, drop, replicate, length-replicate}
 use lib.Seq.{length-take-le}
 use Prim.Native.Nat.{ℕ}
-use Rattle.text.specs.Lines.{lineAt}
-use Rattle.text.specs.Forms.{plain, numbers-of, rowOf}
+use Rattle.text.specs.Lines.{line-at}
+use Rattle.text.specs.Forms.{plain, numbers-of, row-of}
 use Rattle.text.proofs.Verdicts.{refused-row, good-row}
-use Rattle.text.proofs.Plain.{plain-was, padded-is}
+use Rattle.text.proofs.Plain.{plain-was, pad-48-is}
 use Rattle.text.proofs.Fills.{plain-filled}
 use Rattle.text.proofs.read_row.Statement.{statement}
 use Rattle.text.proofs.read_row.Tie as tie
@@ -33,11 +33,11 @@ fill-row-requires c κs =
 verdict : (c : tie.After-fill-row) →
     let st = c .before .before .before .before in
     let a = st .args in
-    c .fill-row .result ≡ rowOf (plain (a .key .now) (a .n) (a .lo) (a .hi)) (lineAt (a .s .now) (a .at)) (a .at) .verdict
+    c .fill-row .result ≡ row-of (plain (a .key .now) (a .n) (a .lo) (a .hi)) (line-at (a .s .now) (a .at)) (a .at) .verdict
 verdict c =
     let st = c .before .before .before .before in
     let a = st .args in
-    c .fill-row .ensures .0 ∙ ap (λ (n : ℕ). rowOf (plain (a .key .now) n (a .lo) (a .hi)) (lineAt (a .s .now) (a .at)) (a .at) .verdict) (long st)
+    c .fill-row .ensures .0 ∙ ap (λ (n : ℕ). row-of (plain (a .key .now) n (a .lo) (a .hi)) (line-at (a .s .now) (a .at)) (a .at) .verdict) (long st)
 
 enum-known-verdict : tie.Need-enum-known-verdict
 enum-known-verdict c = search needs
@@ -53,20 +53,20 @@ returns c =
     let a = c .before .before .before .before .before .before .before .before .before .args in
     let r = c .before .before .before .before .before in
     c .refused .ensures
-    ∙ refused-row (plain (a .key .now) (a .n) (a .lo) (a .hi)) (lineAt (a .s .now) (a .at)) (a .at) (r .fill-row .result) (verdict r) _ (c .before .before .verdict .given .1)
+    ∙ refused-row (plain (a .key .now) (a .n) (a .lo) (a .hi)) (line-at (a .s .now) (a .at)) (a .at) (r .fill-row .result) (verdict r) _ (c .before .before .verdict .given .1)
 
 returns-2 : tie.Need-returns-2
 returns-2 c =
     let st = c .before .before .before .before .before .before .before .before in
     let a = st .args in
     let f = plain (a .key .now) (a .n) (a .lo) (a .hi) in
-    let l = lineAt (a .s .now) (a .at) in
+    let l = line-at (a .s .now) (a .at) in
     let r = c .before .before .before .before in
     let said = c .before .verdict2 .given in
     let g = plain-filled (a .key .now) (a .lo) (a .hi) (a .s .now) (take (a .n) (replicate 48 0)) (a .at) (st .pre .0) (st .pre .1 .1) (r .fill-row .ensures .1) (long st) (verdict r) (said .1) in
     let p = plain-was (a .key .now) (a .n) (a .lo) (a .hi) l (g .line-good) in
     good-row f l (a .at) (r .fill-row .result) (verdict r) (said .0 .0) (said .1) _ (sym (p .unsigned)) _
-    (ap (λ (x : List ℕ). x ++ drop (a .n) (replicate 48 0)) (g .values) ∙ padded-is (numbers-of f l) (a .n) (p .count))
+    (ap (λ (x : List ℕ). x ++ drop (a .n) (replicate 48 0)) (g .values) ∙ pad-48-is (numbers-of f l) (a .n) (p .count))
 
 pub read-row-spec : {M : Type 1} → statement M
 read-row-spec =

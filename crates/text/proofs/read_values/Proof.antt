@@ -5,13 +5,13 @@ use native.Mathlib.Omega.{arith}
 use Prim.Native.Nat.{_-_, _≤_}
 use mathlib.Core.Path.{_≡_, refl, ap, sym, _∙_}
 use lib.ListN.{length}
-use Rattle.text.specs.Scan.{Outcome, valuesAt}
-use Rattle.text.proofs.Reading.{from, turn-end, turn-broken, turn-after, turn-last, turn-more}
+use Rattle.text.specs.Scan.{ValuesRead, values-at}
+use Rattle.text.proofs.ValueTurns.{reading-at, turn-end, turn-broken, turn-after, turn-last, turn-more}
 use Rattle.text.proofs.read_values.Statement.{statement}
 use Rattle.text.proofs.read_values.Tie as tie
 
 abbrev Inv-loop : tie.InvT-loop
-Inv-loop s at signed out₀ i₀ k₀ minus₀ out i k minus = (k ≤ i) × ((from s signed i k minus out ≡ from s signed at 0 false out₀) × (length out ≡ length out₀))
+Inv-loop s at signed out₀ i₀ k₀ minus₀ out i k minus = (k ≤ i) × ((reading-at s signed i k minus out ≡ reading-at s signed at 0 false out₀) × (length out ≡ length out₀))
 
 abbrev μ-loop : tie.MeasureT-loop
 μ-loop s at signed out₀ i₀ k₀ minus₀ out i k minus = length s - i
@@ -34,13 +34,13 @@ same-length : tie.Need-same-length Inv-loop μ-loop
 same-length c = c .before .before .before .before .loop .inv .1 .1
 
 returns : tie.Need-returns Inv-loop μ-loop
-unfolding valuesAt
+unfolding values-at
 returns c =
     let l = c .before .before .before .before in
     let a = l .before .before .before .args in
     let q = sym (c .before .before .read-field .ensures) ∙ c .enum-told .given .1 in
     let w = sym (l .loop .inv .1 .0) ∙ turn-broken (a .s .now) (a .signed) (l .loop .i) (l .loop .k) (l .loop .minus) (l .loop .out) q in
-    (sym (ap (λ (x : Outcome). x .answer) w), sym (ap (λ (x : Outcome). x .out) w))
+    (sym (ap (λ (x : ValuesRead). x .answer) w), sym (ap (λ (x : ValuesRead). x .out) w))
 
 enum-known-f : tie.Need-enum-known-f Inv-loop μ-loop
 enum-known-f c = search needs
@@ -55,7 +55,7 @@ same-length-2 : tie.Need-same-length-2 Inv-loop μ-loop
 same-length-2 c = c .before .before .before .before .put .kept .0 ∙ c .before .before .before .before .before .before .before .before .before .before .before .loop .inv .1 .1
 
 returns-2 : tie.Need-returns-2 Inv-loop μ-loop
-unfolding valuesAt
+unfolding values-at
 returns-2 c =
     let l = c .before .before .before .before .before .before .before .before .before .before .before in
     let a = l .before .before .before .args in
@@ -65,7 +65,7 @@ returns-2 c =
     let neg = f .0 .1 .0 in
     let e = f .0 .1 .1 .0 in
     let w = sym (l .loop .inv .1 .0) ∙ turn-last (a .s .now) (a .signed) (l .loop .i) (l .loop .k) (l .loop .minus) (l .loop .out) v e neg (q ∙ ap (λ (t : Bool). Ended v neg e t) (c .if1 .taken)) in
-    (rw (c .before .either .ensures) (sym (ap (λ (x : Outcome). x .answer) w)), c .before .before .before .before .put .ensures ∙ sym (ap (λ (x : Outcome). x .out) w))
+    (rw (c .before .either .ensures) (sym (ap (λ (x : ValuesRead). x .answer) w)), c .before .before .before .before .put .ensures ∙ sym (ap (λ (x : ValuesRead). x .out) w))
 
 loop-less : tie.Need-loop-less Inv-loop μ-loop
 loop-less c =
@@ -99,12 +99,12 @@ same-length-3 : tie.Need-same-length-3 Inv-loop μ-loop
 same-length-3 c = c .before .loop .inv .1 .1
 
 returns-3 : tie.Need-returns-3 Inv-loop μ-loop
-unfolding valuesAt
+unfolding values-at
 returns-3 c =
     let l = c .before in
     let a = l .before .before .before .args in
     let w = sym (l .loop .inv .1 .0) ∙ turn-end (a .s .now) (a .signed) (l .loop .i) (l .loop .k) (l .loop .minus) (l .loop .out) (c .loop-test .left) in
-    (sym (ap (λ (x : Outcome). x .answer) w), sym (ap (λ (x : Outcome). x .out) w))
+    (sym (ap (λ (x : ValuesRead). x .answer) w), sym (ap (λ (x : ValuesRead). x .out) w))
 
 pub read-values-spec : {M : Type 1} → statement M
 read-values-spec =

@@ -4,7 +4,7 @@ use mathlib.Core.Path.{refl, sym, ap, _∙_}
 use native.Mathlib.Omega.{arith}
 use Rattle.text.specs.declared.End.the-variants.{Missing, Followed}
 use Rattle.tree.specs.declared.TreeRead.the-variants.{Refused}
-use Rattle.tree.specs.Reading.{read-as, ended-as}
+use Rattle.tree.specs.ReadAnswers.{read-as, ended-as}
 use Rattle.tree.proofs.Texts.{tree-ended, tree-accepted}
 use Rattle.tree.proofs.read_end.Statement.{statement}
 use Rattle.tree.proofs.read_end.Tie as tie

@@ -7,14 +7,14 @@ use lib.ListN.{replicate}
 use Rattle.model.specs.Instance.{Instance}
 use Rattle.model.specs.Above.{root}
 use Rattle.model.specs.Held.{view}
-use Rattle.text.specs.Lines.{lineAt}
+use Rattle.text.specs.Lines.{line-at}
 use Rattle.reader.proofs.WriterLines.{Passed, line-refused, line-written}
 use Rattle.tree.specs.declared.TreeRead.the-variants.{Refused}
 use Rattle.tree.specs.Coded.{above-of, none-read}
-use Rattle.tree.specs.Reading.{read-as, tree-read, node-read, Placed}
+use Rattle.tree.specs.ReadAnswers.{read-as, tree-read, node-read, Placed}
 use Rattle.tree.proofs.Marked.{root-is}
 use Rattle.tree.proofs.ReadLines.{read-on, node-judged, node-past}
-use Rattle.tree.proofs.Texts.{text-read, writer-refused, writer-read, tree-placed, past-came, ended-read}
+use Rattle.tree.proofs.Texts.{text-read, writer-refused, writer-line-read, tree-placed, past-came, ended-read}
 use Rattle.tree.proofs.read_tree.Statement.{statement}
 use Rattle.tree.proofs.read_tree.Tie as tie
 
@@ -45,10 +45,10 @@ none-requires c κs = search needs
 -- the writer line is good
 passed : (c : tie.After-written2) →
     let r = c .before .before in
-    Passed (lineAt (r .before .before .args .text .now) 10) 10 (c .written2 .given .0 .0) (r .read-writer .result .next)
+    Passed (line-at (r .before .before .args .text .now) 10) 10 (c .written2 .given .0 .0) (r .read-writer .result .next)
 passed c =
     let r = c .before .before in
-    line-written (lineAt (r .before .before .args .text .now) 10) 10 (r .read-writer .result) (r .read-writer .ensures) _ (c .written2 .given .1)
+    line-written (line-at (r .before .before .args .text .now) 10) 10 (r .read-writer .result) (r .read-writer .ensures) _ (c .written2 .given .1)
 
 -- where the tree starts
 placed : (c : tie.After-none) →
@@ -79,7 +79,7 @@ returns c =
     let P = view (s .args .problem) in
     let text = s .args .text .now in
     let v = c .before .before .written .given in
-    let stopped = line-refused (lineAt text 10) 10 (r .read-writer .result) (r .read-writer .ensures) (v .0 .0) (v .1) in
+    let stopped = line-refused (line-at text 10) 10 (r .read-writer .result) (r .read-writer .ensures) (v .0 .0) (v .1) in
     ap Refused (c .refuse .ensures) ∙ sym (ap read-as (text-read P text (s .pre .1 .1) ∙ writer-refused P text (v .0 .0) stopped))
 
 returns-2 : tie.Need-returns-2
@@ -99,7 +99,7 @@ returns-2 c =
     c .read-end .ensures
     ∙ ended-read P text w (n .read-node .result)
     ∙ sym (ap read-as
-    (text-read P text (s .pre .1 .1) ∙ writer-read P text (passed good)
+    (text-read P text (s .pre .1 .1) ∙ writer-line-read P text (passed good)
     ∙ node-judged P text next 3 none-read root 0 w [] ∙ ap (read-on P text w []) (sym node)))
 
 pub read-tree-spec : {M : Type 1} → statement M

@@ -5,7 +5,7 @@ use Prim.Native.Nat.{ℕ, suc, _+_}
 use Rattle.model.specs.Walk.{lesser, back}
 use Rattle.model.specs.Table.{kept}
 use Rattle.walk.specs.Marks.{mark-of}
-use Rattle.walk.specs.Steps.{by-status}
+use Rattle.walk.specs.GoingBack.{by-status}
 use Rattle.walk.proofs.StatusMarks.{allows-on, allows-off}
 use Rattle.walk.proofs.Walks.{on-held, on-free, off-held, off-hot, off-cold}
 use borrow.Author.Needs.{needs}

@@ -7,7 +7,7 @@ use lib.ListN.{length}
 use Rattle.model.specs.Table.{values}
 use Rattle.model.proofs.LeafSizes.{all-at}
 use Rattle.walk.specs.Marks.{marks-of}
-use Rattle.walk.specs.Steps.{costs-of, Tables}
+use Rattle.walk.specs.GoingBack.{costs-of, Tables}
 use Rattle.walk.proofs.Rising.{tabled-rising}
 use Rattle.walk.proofs.WholeTables.{tabled-good, tables-end, tables-back}
 use Rattle.walk.proofs.walk_back.Statement.{statement}

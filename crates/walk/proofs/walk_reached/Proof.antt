@@ -10,7 +10,7 @@ use lib.Seq.{length-take-le}
 use Rattle.model.specs.Walk.{cap}
 use Rattle.model.specs.Table.{values}
 use Rattle.walk.specs.Marks.{marks-of}
-use Rattle.walk.specs.Steps.{costs-of, Known}
+use Rattle.walk.specs.GoingBack.{costs-of, Known}
 use Rattle.model.proofs.LeafSizes.{all-at}
 use Rattle.model.proofs.WalkPeriods.{values-end}
 use Rattle.walk.proofs.Rising.{front-rising}

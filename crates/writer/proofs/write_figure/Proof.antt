@@ -6,7 +6,7 @@ use mathlib.Core.List.{List}
 use lib.ListN.{length, length-set, length-take, length-drop}
 use Rattle.decimal.specs.Decimal.{digits}
 use Rattle.writer.specs.Written.{over}
-use Rattle.writer.specs.Written.{none, never}
+use Rattle.writer.specs.Written.{none-word, never-word}
 use Rattle.writer.proofs.Parts.{copied, after-one, after-one-kept}
 use Rattle.writer.proofs.Figures.{is-missing, is-never, is-number, is-minus}
 use Rattle.writer.proofs.write_figure.Statement.{statement}
@@ -97,7 +97,7 @@ returns c =
     let buf = a .buf .now in
     let q = is-missing (a .f) (c .before .before .before .before .before .enum-told .given .1) in
     let k = c .before .before .copy in
-    (k .ensures .0 ∙ ap length (sym q), copied none buf (k .last .1 .0) (k .ensures .1) ∙ ap (λ (l : List ℕ). over l buf) (sym q))
+    (k .ensures .0 ∙ ap length (sym q), copied none-word buf (k .last .1 .0) (k .ensures .1) ∙ ap (λ (l : List ℕ). over l buf) (sym q))
 
 same-length-2 : tie.Need-same-length-2
 same-length-2 c = search needs
@@ -108,7 +108,7 @@ returns-2 c =
     let buf = a .buf .now in
     let q = is-never (a .f) (c .before .before .before .before .before .enum-told2 .given .1) in
     let k = c .before .before .copy2 in
-    (k .ensures .0 ∙ ap length (sym q), copied never buf (k .last .1 .0) (k .ensures .1) ∙ ap (λ (l : List ℕ). over l buf) (sym q))
+    (k .ensures .0 ∙ ap length (sym q), copied never-word buf (k .last .1 .0) (k .ensures .1) ∙ ap (λ (l : List ℕ). over l buf) (sym q))
 
 same-length-3 : tie.Need-same-length-3
 same-length-3 c = search needs

@@ -5,7 +5,7 @@ use lib.ListN.{length, length-map}
 use Rattle.model.specs.Held.{Valid}
 use Rattle.model.proofs.Valid.{valid-is}
 use Rattle.docket.specs.Lodging.{admit, trusted}
-use Rattle.docket.proofs.Following.{admitted-problem, admitted-schedule, admitted-tree, knows-valid, refused-lodged, problem-lodged, schedule-lodged, tree-lodged}
+use Rattle.docket.proofs.HoldingAnswers.{admitted-problem, admitted-schedule, admitted-tree, knows-valid, refused-lodged, problem-lodged, schedule-lodged, tree-lodged}
 use borrow.Author.Needs.{needs}
 use Rattle.docket.proofs.Docket.lodge.Statement.{statement}
 use Rattle.docket.proofs.Docket.lodge.Tie as tie

@@ -1,7 +1,7 @@
 -- `admit` meets its contract: a text that is too long is 11, any other goes by its first line.
 use mathlib.Core.Path.{_∙_}
 use native.Mathlib.Omega.{arith}
-use Rattle.docket.proofs.Following.{admit-long, admit-short}
+use Rattle.docket.proofs.HoldingAnswers.{admit-long, admit-short}
 use borrow.Author.Needs.{needs}
 use Rattle.docket.proofs.admission.admit.Statement.{statement}
 use Rattle.docket.proofs.admission.admit.Tie as tie

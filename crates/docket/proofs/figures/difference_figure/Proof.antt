@@ -6,7 +6,7 @@ use mir.Syntax.{w64}
 use mir.Val.{SFits, toZ, ofZ}
 use mir.Facts.{toZ-pos, toZ-ofZ}
 use borrow.Author.Needs.{needs}
-use Rattle.writer.specs.Written.{figureOf}
+use Rattle.writer.specs.Written.{figure-of}
 use Rattle.docket.proofs.Differences.{gap-fits}
 use Rattle.docket.proofs.figures.difference_figure.Statement.{statement}
 use Rattle.docket.proofs.figures.difference_figure.Tie as tie
@@ -31,7 +31,7 @@ figure-of-requires : tie.Need-figure-of-requires
 figure-of-requires c κs = search needs
 
 returns : tie.Need-returns
-returns c = c .figure-of .ensures ∙ ap figureOf (toZ-ofZ (fits (c .before)) ∙ difference (c .before))
+returns c = c .figure-of .ensures ∙ ap figure-of (toZ-ofZ (fits (c .before)) ∙ difference (c .before))
 
 pub difference-figure-spec : {M : Type 1} → statement M
 difference-figure-spec = tie.close (tie.spec cast-gap sub-gap figure-of-requires returns)

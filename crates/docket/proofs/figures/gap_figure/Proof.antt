@@ -4,7 +4,7 @@ use lib.IntN.{ℤ, pos, _-ℤ_}
 use mir.Syntax.{w64}
 use mir.Val.{toZ, ofZ}
 use borrow.Author.Needs.{needs}
-use Rattle.writer.specs.Written.{figureOf}
+use Rattle.writer.specs.Written.{figure-of}
 use Rattle.docket.proofs.Differences.{cost-below, bound-between, gap-of-numbers}
 use Rattle.docket.proofs.figures.gap_figure.Statement.{statement}
 use Rattle.docket.proofs.figures.gap_figure.Tie as tie
@@ -47,7 +47,7 @@ returns-3 c =
     let m = c .before .before .before .before .before .before .cost .given in
     let n = c .before .before .before .bound .given in
     c .difference-figure .ensures
-    ∙ ap (λ (z : ℤ). figureOf (pos (m .0 .0 .cost) -ℤ z)) (value (c .before))
+    ∙ ap (λ (z : ℤ). figure-of (pos (m .0 .0 .cost) -ℤ z)) (value (c .before))
     ∙ gap-of-numbers (s .args .cost) (m .0 .0) (m .1) (s .args .bound) (n .0 .0) (n .1)
 
 returns-4 : tie.Need-returns-4

@@ -1,6 +1,6 @@
 -- `knows` meets its contract: a known problem is tested with what is held under it.
 use mathlib.Core.Path.{sym, _∙_}
-use Rattle.docket.proofs.Following.{knows-if, knows-none}
+use Rattle.docket.proofs.HoldingAnswers.{knows-if, knows-none}
 use borrow.Author.Needs.{needs}
 use Rattle.docket.proofs.sound.knows.Statement.{statement}
 use Rattle.docket.proofs.sound.knows.Tie as tie

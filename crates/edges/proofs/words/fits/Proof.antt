@@ -3,7 +3,7 @@ use native.Mathlib.Omega.{arith}
 use Prim.Native.Nat.{_+_, _-_, _*_}
 use borrow.Author.Tests.{le-leb, lt-leb}
 use Rattle.edges.specs.Numbers.{limit}
-use Rattle.edges.proofs.Reading.{tests-agree}
+use Rattle.edges.proofs.OrderNumbers.{tests-agree}
 use Rattle.edges.proofs.words.fits.Statement.{statement}
 use Rattle.edges.proofs.words.fits.Tie as tie
 

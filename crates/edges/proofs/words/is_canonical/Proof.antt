@@ -1,7 +1,7 @@
 -- `is_canonical` meets its contract, by how many bytes there are.
 use native.Mathlib.Omega.{arith}
 use borrow.Author.Needs.{needs}
-use Rattle.edges.proofs.Reading.{canonical-none, canonical-one, canonical-more}
+use Rattle.edges.proofs.OrderNumbers.{canonical-none, canonical-one, canonical-more}
 use Rattle.edges.proofs.words.is_canonical.Statement.{statement}
 use Rattle.edges.proofs.words.is_canonical.Tie as tie
 

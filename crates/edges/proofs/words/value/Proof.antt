@@ -6,7 +6,7 @@ use native.Mathlib.Omega.{arith}
 use borrow.Author.Needs.{needs}
 use lib.ListN.{length, getD}
 use Rattle.edges.specs.Numbers.{limit}
-use Rattle.edges.proofs.Reading.{Left, left-all, left-on, left-off, left-end, Fit, fit}
+use Rattle.edges.proofs.OrderNumbers.{Left, left-all, left-on, left-off, left-end, Fit, fit}
 use Rattle.edges.proofs.words.value.Statement.{statement}
 use Rattle.edges.proofs.words.value.Tie as tie
 

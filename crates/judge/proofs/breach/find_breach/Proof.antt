@@ -7,7 +7,7 @@ use borrow.Author.Count.{below-more}
 use lib.ListN.{length, length-map}
 use Rattle.model.specs.Held.{view}
 use Rattle.judge.specs.declared.place.Found.the-variants.{Nothing}
-use Rattle.judge.specs.Judgement.{found}
+use Rattle.judge.specs.Judgement.{place-found}
 use Rattle.judge.specs.Rule.{broken-by}
 use Rattle.judge.proofs.Units.{unit, part, units-most, periods-most, part-within, part-long, unit-good}
 use Rattle.judge.proofs.Search.{Passed, Clear, search-found, search-ends}
@@ -132,7 +132,7 @@ unfolding view
 returns c =
     let s = c .before .before .before in
     let l = c .before .search in
-    l .inv .1 ∙ sym (ap found (search-ends (broken-by (s .args .rule)) (s .args .t1) (s .args .rows .now) (s .pre) (many s) (λ k h. l .inv .2 k (omega arith))))
+    l .inv .1 ∙ sym (ap place-found (search-ends (broken-by (s .args .rule)) (s .args .t1) (s .args .rows .now) (s .pre) (many s) (λ k h. l .inv .2 k (omega arith))))
 
 returns-2 : tie.Need-returns-2 Inv-loop μ-loop Inv-search μ-search
 unfolding view
@@ -140,7 +140,7 @@ returns-2 c =
     let s = c .before .before .before .before .before .before .before .before .before in
     let l = c .before .before .before .before .before .loop in
     let o = c .before .before .before .before .before .before .before .search in
-    sym (ap found (search-found (broken-by (s .args .rule)) (s .args .t1) (s .args .rows .now) (s .pre) (many s) (o .t) (l .u)
+    sym (ap place-found (search-found (broken-by (s .args .rule)) (s .args .t1) (s .args .rows .now) (s .pre) (many s) (o .t) (l .u)
     (c .before .before .before .before .before .before .search-test .taken) (c .before .before .before .before .loop-test .taken)
     (o .inv .2) (l .inv .2) (sym (tested (c .before)) ∙ c .if1 .taken)))
 

@@ -7,7 +7,7 @@ use borrow.Author.Count.{below-more}
 use lib.ListN.{length, length-map}
 use Rattle.model.specs.Held.{view}
 use Rattle.model.specs.Rules.{output}
-use Rattle.judge.specs.Judgement.{found}
+use Rattle.judge.specs.Judgement.{place-found}
 use Rattle.judge.specs.Rows.{schedule-of}
 use Rattle.judge.proofs.Units.{periods-most}
 use Rattle.judge.proofs.Sums.{outputs-are}
@@ -57,7 +57,7 @@ add-t13 c =
 returns : tie.Need-returns Inv-loop μ-loop
 returns c =
     let s = c .before .before .before .before .before .before in
-    sym (ap found (demand-found (s .args .t1) (s .args .rows .now) (c .before .before .before .before .loop .t)
+    sym (ap place-found (demand-found (s .args .t1) (s .args .rows .now) (c .before .before .before .before .loop .t)
     (c .before .before .before .loop-test .taken) (c .before .before .before .before .loop .inv .1)
     (omega (arith, summed (c .before)))))
 
@@ -75,7 +75,7 @@ loop-again c =
 returns-2 : tie.Need-returns-2 Inv-loop μ-loop
 returns-2 c =
     let s = c .before .before .before in
-    sym (ap found (demand-ends (s .args .t1) (s .args .rows .now) (λ k h. c .before .loop .inv .1 k (omega arith))))
+    sym (ap place-found (demand-ends (s .args .t1) (s .args .rows .now) (λ k h. c .before .loop .inv .1 k (omega arith))))
 
 pub find-unmet-demand-spec : {M : Type 1} → statement M
 find-unmet-demand-spec =

@@ -9,7 +9,7 @@ use borrow.Author.Needs.{needs}
 use lib.ListN.{length, take, length-map}
 use Rattle.model.specs.Held.{view}
 use Rattle.model.specs.Rules.{capacity}
-use Rattle.judge.specs.Judgement.{found}
+use Rattle.judge.specs.Judgement.{place-found}
 use Rattle.judge.specs.Rows.{schedule-of}
 use Rattle.judge.specs.Loads.{capacity-in}
 use Rattle.judge.proofs.Units.{periods-most, units-most, demand-most, spare-most}
@@ -105,7 +105,7 @@ returns : tie.Need-returns Inv-loop μ-loop
 returns c =
     let s = c .before .before .before .before .before .before .before .before .before in
     let l = c .before .before .before .before .before .before .loop in
-    sym (ap found (spare-found (s .args .t1) (s .args .rows .now) (l .t) (c .before .before .before .before .before .loop-test .taken) (l .inv .1)
+    sym (ap place-found (spare-found (s .args .t1) (s .args .rows .now) (l .t) (c .before .before .before .before .before .loop-test .taken) (l .inv .1)
     (omega (arith, summed (c .before)))))
 
 add-t : tie.Need-add-t Inv-loop μ-loop
@@ -122,7 +122,7 @@ loop-again c =
 returns-2 : tie.Need-returns-2 Inv-loop μ-loop
 returns-2 c =
     let s = c .before .before .before .before in
-    sym (ap found (spare-ends (s .args .t1) (s .args .rows .now) (λ k h. c .before .loop .inv .1 k (omega arith))))
+    sym (ap place-found (spare-ends (s .args .t1) (s .args .rows .now) (λ k h. c .before .loop .inv .1 k (omega arith))))
 
 pub find-unmet-spare-spec : {M : Type 1} → statement M
 find-unmet-spare-spec =

@@ -6,7 +6,7 @@ use native.Mathlib.Omega.{arith}
 use borrow.Author.Needs.{needs}
 use lib.ListN.{length}
 use Rattle.judge.specs.declared.tallies.Walk.{Walk}
-use Rattle.judge.specs.Walk.{Room, passed, walk-to}
+use Rattle.judge.specs.Walk.{Room, one-further, walk-to}
 use Rattle.judge.proofs.Walk.{walk-next, walk-room}
 use Rattle.judge.proofs.tallies.walk_row.Statement.{statement}
 use Rattle.judge.proofs.tallies.walk_row.Tie as tie
@@ -41,7 +41,7 @@ loop-again c =
     let l = c .before .before .before .loop in (
       omega arith,
       c .pass .ensures
-          ∙ ap₂ (λ (w : Walk) (d : Bool). passed (a .g) w d) (l .inv .1) (c .before .is-on .ensures)
+          ∙ ap₂ (λ (w : Walk) (d : Bool). one-further (a .g) w d) (l .inv .1) (c .before .is-on .ensures)
           ∙ walk-next (a .g) (a .row .now) (l .t) (omega arith),
     )
 

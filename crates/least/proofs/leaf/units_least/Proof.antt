@@ -18,7 +18,7 @@ use Rattle.model.specs.Leaf.{any-stuck, units-least}
 use Rattle.numbers.specs.Numbers.{instance-in}
 use Rattle.walk.specs.Marks.{marks-of, all-marks}
 use Rattle.least.specs.declared.unit.Least.the-variants.{Stuck, Value}
-use Rattle.least.specs.Answers.{least-of}
+use Rattle.least.specs.LeafLeasts.{least-of}
 use Rattle.least.proofs.Units.{part-answer, all-getD, stuck-found, value-found, none-found, value-small, front-small}
 use Rattle.least.proofs.leaf.units_least.Statement.{statement}
 use Rattle.least.proofs.leaf.units_least.Tie as tie

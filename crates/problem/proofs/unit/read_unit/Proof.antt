@@ -1,5 +1,5 @@
 use mathlib.Core.Path.{sym, _∙_}
-use Rattle.text.specs.Lines.{lineAt}
+use Rattle.text.specs.Lines.{line-at}
 use Rattle.problem.proofs.UnitRows.{unit-refused, unit-unordered, unit-good}
 use borrow.Author.Needs.{needs}
 use Rattle.problem.proofs.unit.read_unit.Statement.{statement}
@@ -36,7 +36,7 @@ returns : tie.Need-returns
 returns c =
     let a = c .before .before .before .before .before .before .before .before .before .before .before .before .args in
     let row = c .before .before .before .before .before .before .before .read-line in
-    unit-good (lineAt (a .s .now) (a .at)) (a .at) (row .result) (row .ensures) _ (c .before .before .before .before .before .verdict2 .given .1) (c .before .before .make-generator .result) (c .before .before .make-generator .ensures)
+    unit-good (line-at (a .s .now) (a .at)) (a .at) (row .result) (row .ensures) _ (c .before .before .before .before .before .verdict2 .given .1) (c .before .before .make-generator .result) (c .before .before .make-generator .ensures)
     (sym (c .before .is-ordered .ensures) ∙ c .if1 .taken)
 
 refuse-unit-requires-2 : tie.Need-refuse-unit-requires-2
@@ -46,14 +46,14 @@ returns-2 : tie.Need-returns-2
 returns-2 c =
     let a = c .before .before .before .before .before .before .before .before .before .args in
     let row = c .before .before .before .before .read-line in
-    c .refuse-unit .ensures ∙ unit-refused (lineAt (a .s .now) (a .at)) (a .at) (row .result) (row .ensures) _ (c .before .before .verdict .given .1)
+    c .refuse-unit .ensures ∙ unit-refused (line-at (a .s .now) (a .at)) (a .at) (row .result) (row .ensures) _ (c .before .before .verdict .given .1)
 
 returns-3 : tie.Need-returns-3
 returns-3 c =
     let a = c .before .before .before .before .before .before .before .before .before .before .before .before .before .args in
     let row = c .before .before .before .before .before .before .before .before .read-line in
     c .refuse-unit2 .ensures
-    ∙ unit-unordered (lineAt (a .s .now) (a .at)) (a .at) (row .result) (row .ensures) _ (c .before .before .before .before .before .before .verdict2 .given .1) (c .before .before .before .make-generator .result) (c .before .before .before .make-generator .ensures)
+    ∙ unit-unordered (line-at (a .s .now) (a .at)) (a .at) (row .result) (row .ensures) _ (c .before .before .before .before .before .before .verdict2 .given .1) (c .before .before .before .make-generator .result) (c .before .before .before .make-generator .ensures)
     (sym (c .before .before .is-ordered .ensures) ∙ c .before .if1 .left)
 
 pub read-unit-spec : {M : Type 1} → statement M

@@ -39,8 +39,8 @@ use denote.Triple.Table.{entered, cited}
 use denote.Triple.Walked.{says, needs, Stays, stay-dropped, walkOf, goes-dropped, Walks, ends-at, walked, walk-meets}
 use denote.Exit.{yes}
 use denote.Triple.Clauses.{ensured, lasts}
-use Rattle.text.specs.Lines.{linesOf, oneLine}
-use Rattle.text.specs.Ends.{endOf}
+use Rattle.text.specs.Lines.{lines-of, one-line}
+use Rattle.text.specs.Ends.{end-of}
 use Rattle.reader.specs.declared.Reader.{Reader}
 use Rattle.text.specs.declared.End.{End}
 use Rattle.reader.proofs.Holding.{bytes, machine, row, fields-own, opens}
@@ -77,7 +77,7 @@ module _ {M : Type 1} (𝓤 : URA M) (H : Heap 𝓤) (A : Atoms 𝓤) (W : Given
   qs = (q, (q′, tt))
 
   abbrev found : End
-  found = endOf (now w) (linesOf (drops (d .at) (now (d .text))))
+  found = end-of (now w) (lines-of (drops (d .at) (now (d .text))))
 
   abbrev passed : Vals end.signature κs
   passed = (machine d ∷ [], (bytes w ∷ [], tt))
@@ -89,7 +89,7 @@ module _ {M : Type 1} (𝓤 : URA M) (H : Heap 𝓤) (A : Atoms 𝓤) (W : Given
   abbrev to : EndAt 𝓤 H A mem run .Ghost
   to = ((κs, qs, tt, (d .text, (d .at, (w, tt))), (bytes (d .text) ∷ [], (vint w64 (d .at) ∷ [], (bytes w ∷ [], tt)))), tt)
 
-  goes : oneLine (now w) ≡ true → ent 𝓤 (onEntry 𝓤 H A end.signature κs qs (d, (w, tt)) passed) (EndAt 𝓤 H A mem run .pre to)
+  goes : one-line (now w) ≡ true → ent 𝓤 (onEntry 𝓤 H A end.signature κs qs (d, (w, tt)) passed) (EndAt 𝓤 H A mem run .pre to)
   goes one =
       qed W ((‵ (flft κ q) ⊛ ‵ (flft κ′ q′) ⊛ ‵ ftrue) ∷ ‵ (owns (row κ ∷ ShrSlice (named 1) κ′ u8 ∷ []) (d, (w, tt)) passed) ∷ []) ∵ says ! one $ frame ! $
       fsplit ! $ use1 W (‵ (fields-own κ d)) (opens 𝓤 H A W κ d) $ fsplit ! $ move ! (1 ∷ []) $ fsplit ! $
@@ -107,7 +107,7 @@ module _ {M : Type 1} (𝓤 : URA M) (H : Heap 𝓤) (A : Atoms 𝓤) (W : Given
       move ! (1 ∷ []) $ frame ! $ nothing ! $ nothing ! $ fjoin ! $ nothing ! $ fjoin ! $ frame ! $ done !
 
   module _ (C : Calls 𝓤 H) (Λ : Loops 𝓤 H) (fm : FmC 𝓤 H (W .laws) C) (known : Triple 𝓤 (C #end-at) (EndAt 𝓤 H A mem run)) where
-    walk : oneLine (now w) ≡ true → Holds (hasTy (T′.mir (named 0)) (machine d)) × WT (machine d) → Is (ShrSlice (named 1) κ′ u8) w (bytes w ∷ [])
+    walk : one-line (now w) ≡ true → Holds (hasTy (T′.mir (named 0)) (machine d)) × WT (machine d) → Is (ShrSlice (named 1) κ′ u8) w (bytes w ∷ [])
         → ent 𝓤 (onEntry 𝓤 H A end.signature κs qs (d, (w, tt)) passed) (WpFn 𝓤 H C Λ code.function (machine d ∷ bytes w ∷ []) Post)
     walk one wt p =
         qed W (raw (onEntry 𝓤 H A end.signature κs qs (d, (w, tt)) passed) ∷ []) ∵ enter ! C Λ code.function (machine d ∷ bytes w ∷ []) _ $

@@ -34,7 +34,7 @@ use denote.Triple.Table.{entered, cited}
 use denote.Triple.Walked.{says, Stays, stay-dropped, walkOf, goes-dropped, Walks, ends-at, walked, walk-meets}
 use denote.Exit.{yes}
 use denote.Triple.Clauses.{ensured, lasts}
-use Rattle.text.specs.Lines.{lineAt, kindOf}
+use Rattle.text.specs.Lines.{line-at, kind-of}
 use Rattle.reader.specs.declared.Reader.{Reader}
 use Rattle.text.specs.declared.Kind.{Kind}
 use Rattle.reader.proofs.Holding.{bytes, machine, row, fields-own, opens}
@@ -65,7 +65,7 @@ module _ {M : Type 1} (𝓤 : URA M) (H : Heap 𝓤) (A : Atoms 𝓤) (mem : Mem
 
 module _ {M : Type 1} (𝓤 : URA M) (H : Heap 𝓤) (A : Atoms 𝓤) (W : Given 𝓤 H A) (mem : Memory → SProp 𝓤) (run : Routine → Fun 𝓤) (κ : Lft) (q : Share) (d : Reader) where
   abbrev found : Kind
-  found = kindOf (lineAt (now (d .text)) (d .at))
+  found = kind-of (line-at (now (d .text)) (d .at))
 
   abbrev Post : Val → SProp 𝓤
   Post = walkOf 𝓤 H A kind.ended stayed (kind.clauses 𝓤 H A mem run) .post (((κ, tt), (q, tt), tt, (d, tt), (machine d ∷ [], tt)), tt)

@@ -35,9 +35,9 @@ use denote.Triple.Table.{entered, cited}
 use denote.Triple.Walked.{says, Stays, stay-dropped, walkOf, goes-dropped, Walks, ends-at, walked, walk-meets}
 use denote.Exit.{yes}
 use denote.Triple.Clauses.{ensured, lasts}
-use Rattle.text.specs.Lines.{lineAt}
+use Rattle.text.specs.Lines.{line-at}
 use Rattle.reader.specs.Places.{placed}
-use Rattle.reader.specs.Written.{writerLine}
+use Rattle.reader.specs.Written.{writer-line}
 use Rattle.reader.specs.declared.Reader.{Reader}
 use Rattle.reader.specs.declared.WriterLine.{WriterLine}
 use Rattle.reader.specs.declared.WriterRead.{WriterRead}
@@ -71,7 +71,7 @@ module _ {M : Type 1} (𝓤 : URA M) (H : Heap 𝓤) (A : Atoms 𝓤) (mem : Mem
 
 module _ {M : Type 1} (𝓤 : URA M) (H : Heap 𝓤) (A : Atoms 𝓤) (W : Given 𝓤 H A) (mem : Memory → SProp 𝓤) (run : Routine → Fun 𝓤) (κ : Lft) (q : Share) (d : Reader) where
   abbrev found : WriterLine
-  found = writerLine (lineAt (now (d .text)) (d .at)) (d .at)
+  found = writer-line (line-at (now (d .text)) (d .at)) (d .at)
 
   abbrev Post : Val → SProp 𝓤
   Post = walkOf 𝓤 H A writer.ended stayed (writer.clauses 𝓤 H A mem run) .post (((κ, tt), (q, tt), tt, (d, tt), (machine d ∷ [], tt)), tt)

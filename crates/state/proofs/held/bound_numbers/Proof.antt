@@ -1,7 +1,7 @@
 -- `bound_numbers` meets its contract: a number by how it is shown.
 use mathlib.Core.Path.{_≡_, ap, _∙_}
 use Rattle.writer.specs.declared.Figure.{Figure}
-use Rattle.state.specs.Layout.{value-numbers}
+use Rattle.state.specs.Layout.{figure-numbers}
 use mir.Syntax.{w64}
 use mir.Val.{toZ, ofZ}
 use borrow.Author.Needs.{needs}
@@ -31,7 +31,7 @@ returns-2 c =
     let f = c .before in
     let g = f .before .before .before .bound .given in
     let v : toZ w64 (ofZ w64 (g .0 .0 .value)) ≡ g .0 .0 .value = search needs in
-    c .value-numbers .ensures ∙ ap (λ (x : Figure). value-numbers x (g .0 .0 .writer)) (f .figure-of .ensures) ∙ simp (v, g .1)
+    c .value-numbers .ensures ∙ ap (λ (x : Figure). figure-numbers x (g .0 .0 .writer)) (f .figure-of .ensures) ∙ simp (v, g .1)
 
 returns-3 : tie.Need-returns-3
 returns-3 c = simp (c .before .bound2 .given .1)

@@ -5,14 +5,14 @@ use Prim.Native.Nat.{ℕ}
 use native.Mathlib.Omega.{arith}
 use lib.ListN.{take}
 use Rattle.numbers.specs.Numbers.{instance-in}
-use Rattle.text.specs.Lines.{lineAt}
-use Rattle.text.specs.Forms.{plain, rowOf}
+use Rattle.text.specs.Lines.{line-at}
+use Rattle.text.specs.Forms.{plain, row-of}
 use Rattle.tree.specs.Rendering.{price-key}
 use Rattle.tree.specs.NodeLines.{price-line, node-form}
 use Rattle.tree.specs.Coded.{above-of}
 use Rattle.tree.proofs.Rows.{Moved, row-refused, row-moved, taken-multipliers}
 use Rattle.tree.proofs.ReadLines.{moved-placed}
-use Rattle.tree.proofs.Steps.{node-refused, node-price}
+use Rattle.tree.proofs.WaysThrough.{node-refused, node-price}
 use Rattle.tree.proofs.Leaves.{line-refused, price-read}
 use Rattle.tree.proofs.leaf.read_price.Statement.{statement}
 use Rattle.tree.proofs.leaf.read_price.Tie as tie
@@ -23,10 +23,10 @@ start c = c .before .before .before .before .before .before
 -- the row is that of a price line of the problem
 is-row : (c : tie.After-read-row) →
     let a = start c .args in
-    c .read-row .result ≡ rowOf (node-form (instance-in (a .numbers .now)) price-line) (lineAt (a .text .now) (a .at)) (a .at)
+    c .read-row .result ≡ row-of (node-form (instance-in (a .numbers .now)) price-line) (line-at (a .text .now) (a .at)) (a .at)
 is-row c =
     let a = start c .args in
-    c .read-row .ensures ∙ ap (λ (n : ℕ). rowOf (plain price-key n 0 1000000000) (lineAt (a .text .now) (a .at)) (a .at)) (c .before .before .periods-in .ensures)
+    c .read-row .ensures ∙ ap (λ (n : ℕ). row-of (plain price-key n 0 1000000000) (line-at (a .text .now) (a .at)) (a .at)) (c .before .before .periods-in .ensures)
 
 moved : (c : tie.After-verdict2) → Moved (start (c .before .before) .args .text .now) (start (c .before .before) .args .at) (c .verdict2 .given .0 .0)
 moved c =

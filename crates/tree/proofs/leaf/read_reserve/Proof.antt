@@ -13,17 +13,17 @@ use Rattle.model.specs.Instance.{_at_}
 use Rattle.model.specs.Tree.{Multipliers}
 use Rattle.numbers.specs.Numbers.{instance-in}
 use Rattle.walk.specs.Marks.{all-marks}
-use Rattle.least.specs.Answers.{leaf-of}
+use Rattle.least.specs.LeafLeasts.{leaf-of}
 use Rattle.least.specs.Limits.{GoodPrices}
-use Rattle.text.specs.Lines.{lineAt}
-use Rattle.text.specs.Forms.{plain, rowOf}
+use Rattle.text.specs.Lines.{line-at}
+use Rattle.text.specs.Forms.{plain, row-of}
 use Rattle.tree.specs.declared.figures.Bound.the-variants.{Number}
 use Rattle.tree.specs.Rendering.{reserve-key}
 use Rattle.tree.specs.NodeLines.{reserve-form}
 use Rattle.tree.specs.Coded.{above-of, one-leaf}
 use Rattle.tree.proofs.Places.{statuses-fit}
 use Rattle.tree.proofs.Rows.{Moved, row-moved, taken-multipliers}
-use Rattle.tree.proofs.Steps.{reserve-refused, reserve-leaf}
+use Rattle.tree.proofs.WaysThrough.{reserve-refused, reserve-leaf}
 use Rattle.tree.proofs.Leaves.{reserve-line-refused, unit-stuck, value-read}
 use Rattle.tree.proofs.leaf.read_reserve.Statement.{statement}
 use Rattle.tree.proofs.leaf.read_reserve.Tie as tie
@@ -46,10 +46,10 @@ counted c = c .before .before .periods-in .ensures
 -- the row is that of a reserve line of the problem
 is-row : (c : tie.After-read-row) →
     let a = start c .args in
-    c .read-row .result ≡ rowOf (reserve-form (instance-in (a .numbers .now))) (lineAt (a .text .now) (a .at)) (a .at)
+    c .read-row .result ≡ row-of (reserve-form (instance-in (a .numbers .now))) (line-at (a .text .now) (a .at)) (a .at)
 is-row c =
     let a = start c .args in
-    c .read-row .ensures ∙ ap (λ (n : ℕ). rowOf (plain reserve-key n 0 1000000000) (lineAt (a .text .now) (a .at)) (a .at)) (counted c)
+    c .read-row .ensures ∙ ap (λ (n : ℕ). row-of (plain reserve-key n 0 1000000000) (line-at (a .text .now) (a .at)) (a .at)) (counted c)
 
 moved : (c : tie.After-verdict2) → Moved (start (c .before .before) .args .text .now) (start (c .before .before) .args .at) (c .verdict2 .given .0 .0)
 moved c =

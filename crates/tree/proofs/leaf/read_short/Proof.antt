@@ -10,10 +10,10 @@ use Rattle.tree.specs.declared.naming.NamedLine.the-variants.{Refused, N
 use Rattle.tree.specs.Rendering.{short-key}
 use Rattle.tree.specs.NodeLines.{short-line}
 use Rattle.tree.specs.Coded.{above-of}
-use Rattle.tree.specs.Reading.{named-line-read}
+use Rattle.tree.specs.ReadAnswers.{named-line-read}
 use Rattle.tree.proofs.Places.{statuses-fit}
 use Rattle.tree.proofs.Rows.{NamesOne, names-one, names-none}
-use Rattle.tree.proofs.Steps.{node-refused, node-leaf}
+use Rattle.tree.proofs.WaysThrough.{node-refused, node-leaf}
 use Rattle.tree.proofs.Leaves.{line-refused, short-same, short-holds, short-fails}
 use Rattle.tree.proofs.leaf.read_short.Statement.{statement}
 use Rattle.tree.proofs.leaf.read_short.Tie as tie

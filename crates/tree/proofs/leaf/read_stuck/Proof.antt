@@ -11,10 +11,10 @@ use Rattle.tree.specs.declared.naming.NamedLine.the-variants.{Refused, N
 use Rattle.tree.specs.Rendering.{stuck-key}
 use Rattle.tree.specs.NodeLines.{stuck-line}
 use Rattle.tree.specs.Coded.{above-of}
-use Rattle.tree.specs.Reading.{named-line-read}
+use Rattle.tree.specs.ReadAnswers.{named-line-read}
 use Rattle.tree.proofs.Places.{statuses-fit}
 use Rattle.tree.proofs.Rows.{NamesOne, names-one, names-none}
-use Rattle.tree.proofs.Steps.{node-refused, node-leaf}
+use Rattle.tree.proofs.WaysThrough.{node-refused, node-leaf}
 use Rattle.tree.proofs.Leaves.{line-refused, stuck-same, stuck-holds, stuck-fails}
 use Rattle.tree.proofs.leaf.read_stuck.Statement.{statement}
 use Rattle.tree.proofs.leaf.read_stuck.Tie as tie

@@ -3,7 +3,7 @@ use borrow.Author.Needs.{needs}
 use native.Mathlib.Omega.{arith}
 use mathlib.Core.Path.{refl}
 use mathlib.Core.List.{[], _∷_}
-use Rattle.text.specs.Lines.{lineAt}
+use Rattle.text.specs.Lines.{line-at}
 use Rattle.text.specs.Forms.{plain}
 use Rattle.text.proofs.Verdicts.{ruled-refused}
 use Rattle.text.proofs.Fills.{PlainFilled, plain-filled}
@@ -14,7 +14,7 @@ use Rattle.tree.proofs.naming.read_named.Tie as tie
 -- a good line leaves its number
 filled : (c : tie.After-known-told2) →
     let a = c .before .before .before .before .before .before .before .before .args in
-    PlainFilled (a .key .now) 1 1 (a .most) (lineAt (a .text .now) (a .at)) (a .at) (c .before .verdict2 .given .0 .0) (c .before .before .before .before .fill-row .last .1 .1 .1 .1 .1 .0)
+    PlainFilled (a .key .now) 1 1 (a .most) (line-at (a .text .now) (a .at)) (a .at) (c .before .verdict2 .given .0 .0) (c .before .before .before .before .fill-row .last .1 .1 .1 .1 .1 .0)
 filled c =
     let s = c .before .before .before .before .before .before .before .before in
     let a = s .args in
@@ -45,7 +45,7 @@ returns c =
     let r = c .before .before .before .before .fill-row in
     let v = c .before .verdict .given in
     named-refused (a .key .now) (a .most) (a .text .now) (a .at) (v .0 .0)
-    (ruled-refused (plain (a .key .now) 1 1 (a .most)) (lineAt (a .text .now) (a .at)) (a .at) (r .result) (r .ensures .0) (v .0 .0) (v .1))
+    (ruled-refused (plain (a .key .now) 1 1 (a .most)) (line-at (a .text .now) (a .at)) (a .at) (r .result) (r .ensures .0) (v .0 .0) (v .1))
 
 returns-2 : tie.Need-returns-2
 returns-2 c =

@@ -8,20 +8,20 @@ use native.Mathlib.Omega.{arith}
 use lib.ListN.{length, set, length-set}
 use Rattle.model.specs.Above.{fix}
 use Rattle.numbers.specs.Numbers.{instance-in}
-use Rattle.text.specs.Lines.{lineAt}
+use Rattle.text.specs.Lines.{line-at}
 use Rattle.walk.specs.Marks.{mark-of}
-use Rattle.tree.specs.Kinds.{node-kind}
+use Rattle.tree.specs.Kinds.{line-kind}
 use Rattle.tree.specs.Coded.{above-of}
 use Rattle.tree.specs.declared.leaf.Read.{Read}
-use Rattle.tree.specs.NodeLines.{kind-of, split-line, short-line, stuck-line, price-line}
-use Rattle.tree.specs.Reading.{node-read, trees-read}
+use Rattle.tree.specs.NodeLines.{line-kind-of, split-line, short-line, stuck-line, price-line}
+use Rattle.tree.specs.ReadAnswers.{node-read, trees-read}
 use Rattle.tree.proofs.Places.{place-inside}
 use Rattle.tree.proofs.Marked.{split-is, set-length, set-over, set-back}
 use Rattle.tree.proofs.Rows.{unread}
 use Rattle.tree.proofs.SplitLines.{SplitOn, split-on, split-off}
 use Rattle.tree.proofs.ReadLines.{node-past, moved-placed}
 use Rattle.tree.proofs.Leaves.{leaf-anywhere}
-use Rattle.tree.proofs.Steps.{node-refused, node-split, trees-refused, trees-both}
+use Rattle.tree.proofs.WaysThrough.{node-refused, node-split, trees-refused, trees-both}
 use Prim.Native.Nat.{ℕ, _+_, _*_, _<_}
 use borrow.Fn.Kinds.{In}
 use borrow.Fn.PlainCycle.{Measures, is, falls, and}
@@ -110,8 +110,8 @@ abbrev split-start : (t : ℕ) → AtSplit t → AtStart t
 split-start t c = start t (c .before .before .before .before .before .before)
 
 -- a split line is due there
-is-split : (t : ℕ) (c : AtLine t) → let a = start t (c .before .before .before .before) .args in kind-of (lineAt (a .text .now) (a .at)) ≡ split-line
-is-split t c = sym (c .before .before .before .before .find-kind .ensures) ∙ ap node-kind (c .before .before .enum-told4 .given .1)
+is-split : (t : ℕ) (c : AtLine t) → let a = start t (c .before .before .before .before) .args in line-kind-of (line-at (a .text .now) (a .at)) ≡ split-line
+is-split t c = sym (c .before .before .before .before .find-kind .ensures) ∙ ap line-kind (c .before .before .enum-told4 .given .1)
 
 -- ---- facts at a split line that is good
 
@@ -145,7 +145,7 @@ read-node-read-short-requires : (t : ℕ) → read-node-lts.Need-read-short-requ
 read-node-read-short-requires t c κs =
     let f = c .before .before .before in
     let p = start t f .pre .1 in
-    (p .0, (p .1 .1 .1, (p .1 .0, sym (f .find-kind .ensures) ∙ ap node-kind (c .before .enum-told .given .1))))
+    (p .0, (p .1 .1 .1, (p .1 .0, sym (f .find-kind .ensures) ∙ ap line-kind (c .before .enum-told .given .1))))
 
 read-node-enum-told-2 : (t : ℕ) → read-node-lts.Need-enum-told-2 (read-node-calls t) (read-node-at t) read-node.Post
 read-node-enum-told-2 t c = search needs
@@ -154,7 +154,7 @@ read-node-read-stuck-requires : (t : ℕ) → read-node-lts.Need-read-stuck-requ
 read-node-read-stuck-requires t c κs =
     let f = c .before .before .before in
     let p = start t f .pre .1 in
-    (p .0, (p .1 .1 .1, (p .1 .0, sym (f .find-kind .ensures) ∙ ap node-kind (c .before .enum-told2 .given .1))))
+    (p .0, (p .1 .1 .1, (p .1 .0, sym (f .find-kind .ensures) ∙ ap line-kind (c .before .enum-told2 .given .1))))
 
 read-node-enum-told-3 : (t : ℕ) → read-node-lts.Need-enum-told-3 (read-node-calls t) (read-node-at t) read-node.Post
 read-node-enum-told-3 t c = search needs
@@ -163,7 +163,7 @@ read-node-read-price-requires : (t : ℕ) → read-node-lts.Need-read-price-requ
 read-node-read-price-requires t c κs =
     let f = c .before .before .before in
     let p = start t f .pre .1 in
-    (p .0, (p .1 .1 .1, (p .1 .0, sym (f .find-kind .ensures) ∙ ap node-kind (c .before .enum-told3 .given .1))))
+    (p .0, (p .1 .1 .1, (p .1 .0, sym (f .find-kind .ensures) ∙ ap line-kind (c .before .enum-told3 .given .1))))
 
 read-node-enum-told-4 : (t : ℕ) → read-node-lts.Need-enum-told-4 (read-node-calls t) (read-node-at t) read-node.Post
 read-node-enum-told-4 t c = search needs
@@ -231,7 +231,7 @@ read-node-returns t c =
     let P = instance-in (a .numbers .now) in (
       c .read-short .ensures
           ∙ leaf-anywhere P (a .text .now) (a .at) (a .line) (a .tally) (above-of (P .periods) (a .fixed .now)) (a .depth) short-line tt
-          (sym (k .find-kind .ensures) ∙ ap node-kind (c .before .before .enum-told .given .1)),
+          (sym (k .find-kind .ensures) ∙ ap line-kind (c .before .before .enum-told .given .1)),
       refl,
     )
 
@@ -245,7 +245,7 @@ read-node-returns-2 t c =
     let P = instance-in (a .numbers .now) in (
       c .read-stuck .ensures
           ∙ leaf-anywhere P (a .text .now) (a .at) (a .line) (a .tally) (above-of (P .periods) (a .fixed .now)) (a .depth) stuck-line tt
-          (sym (k .find-kind .ensures) ∙ ap node-kind (c .before .before .enum-told2 .given .1)),
+          (sym (k .find-kind .ensures) ∙ ap line-kind (c .before .before .enum-told2 .given .1)),
       refl,
     )
 
@@ -259,7 +259,7 @@ read-node-returns-3 t c =
     let P = instance-in (a .numbers .now) in (
       c .read-price .ensures
           ∙ leaf-anywhere P (a .text .now) (a .at) (a .line) (a .tally) (above-of (P .periods) (a .fixed .now)) (a .depth) price-line tt
-          (sym (k .find-kind .ensures) ∙ ap node-kind (c .before .before .enum-told3 .given .1)),
+          (sym (k .find-kind .ensures) ∙ ap line-kind (c .before .before .enum-told3 .given .1)),
       refl,
     )
 

@@ -11,9 +11,9 @@ use borrow.Author.Tests.{lt-ltb}
 use Rattle.model.specs.Instance.{Instance, _at_}
 use Rattle.model.specs.Ranges.{WellFormed}
 use Rattle.numbers.specs.Numbers.{instance-in}
-use Rattle.text.specs.Lines.{lineAt}
+use Rattle.text.specs.Lines.{line-at}
 use Rattle.text.specs.declared.Verdict.{Verdict}
-use Rattle.text.specs.Forms.{form, rowOf, belowAll}
+use Rattle.text.specs.Forms.{form, row-of, all-below}
 use Rattle.text.proofs.Fills.{Filled, filled}
 use Rattle.text.proofs.Verdicts.{ruled-refused}
 use Rattle.tree.specs.Rendering.{split-key}
@@ -38,16 +38,16 @@ periods-are c = c .before .before .before .before .before .periods-in .ensures
 -- the verdict is that of a split line of the problem
 is-verdict : (c : tie.After-fill-line) →
     let a = start c .args in
-    c .fill-line .result ≡ rowOf (node-form (instance-in (a .numbers .now)) split-line) (lineAt (a .text .now) (a .at)) (a .at) .verdict
+    c .fill-line .result ≡ row-of (node-form (instance-in (a .numbers .now)) split-line) (line-at (a .text .now) (a .at)) (a .at) .verdict
 is-verdict c =
     let a = start c .args in
-    let due : ℕ → ℕ → Verdict = λ u t. rowOf (form split-key 0 (1 ∷ 1 ∷ []) (u ∷ t ∷ [])) (lineAt (a .text .now) (a .at)) (a .at) .verdict in
+    let due : ℕ → ℕ → Verdict = λ u t. row-of (form split-key 0 (1 ∷ 1 ∷ []) (u ∷ t ∷ [])) (line-at (a .text .now) (a .at)) (a .at) .verdict in
     c .fill-line .ensures .0
     ∙ ap (λ (u : ℕ). due u (c .before .before .before .before .before .periods-in .result)) (units-are c)
     ∙ ap (λ (t : ℕ). due (length (instance-in (a .numbers .now) .units)) t) (periods-are c)
 
 -- neither count has too many digits
-counts-low : (P : Instance) → WellFormed P → belowAll (length (P .units) ∷ P .periods ∷ []) ≡ true
+counts-low : (P : Instance) → WellFormed P → all-below (length (P .units) ∷ P .periods ∷ []) ≡ true
 counts-low P W =
     let a = W .units-in in
     let b = W .periods-in in
@@ -60,7 +60,7 @@ filling c = c .before .before .before .before
 left : (c : tie.After-known-told2) →
     let f = filling c in
     let a = start f .args in
-    Filled (node-form (instance-in (a .numbers .now)) split-line) (lineAt (a .text .now) (a .at)) (a .at) (c .before .verdict2 .given .0 .0) (f .fill-line .last .1 .1 .1 .1 .1 .0)
+    Filled (node-form (instance-in (a .numbers .now)) split-line) (line-at (a .text .now) (a .at)) (a .at) (c .before .verdict2 .given .0 .0) (f .fill-line .last .1 .1 .1 .1 .1 .0)
 left c =
     let f = filling c in
     let s = start f in
@@ -169,7 +169,7 @@ returns-2 c =
     let v = c .before .verdict .given in
     let P = instance-in (a .numbers .now) in
     split-refused P (a .text .now) (a .at) (above-of (P .periods) (a .fixed .now)) (a .depth) (v .0 .0)
-    (ruled-refused (node-form P split-line) (lineAt (a .text .now) (a .at)) (a .at) (f .fill-line .result) (is-verdict f) (v .0 .0) (v .1))
+    (ruled-refused (node-form P split-line) (line-at (a .text .now) (a .at)) (a .at) (f .fill-line .result) (is-verdict f) (v .0 .0) (v .1))
 
 returns-3 : tie.Need-returns-3
 returns-3 c =

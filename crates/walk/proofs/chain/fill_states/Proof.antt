@@ -2,13 +2,13 @@
 use mathlib.Core.Path.{_≡_, refl}
 use Prim.Native.Nat.{_-_, _≤_}
 use native.Mathlib.Omega.{arith}
-use Rattle.walk.specs.Steps.{Written}
+use Rattle.walk.specs.GoingBack.{Rewritten}
 use Rattle.walk.proofs.Chains.{written-none, written-more}
 use Rattle.walk.proofs.chain.fill_states.Statement.{statement}
 use Rattle.walk.proofs.chain.fill_states.Tie as tie
 
 abbrev Inv-loop : tie.InvT-loop
-Inv-loop states₀ from to v i₀ states i = (from ≤ i) × (i ≤ to) × Written states₀ states from i (λ k. v)
+Inv-loop states₀ from to v i₀ states i = (from ≤ i) × (i ≤ to) × Rewritten states₀ states from i (λ k. v)
 
 abbrev μ-loop : tie.MeasureT-loop
 μ-loop states₀ from to v i₀ states i = to - i

@@ -4,13 +4,13 @@ use Prim.Native.Nat.{ℕ, _+_, _-_, _≤_}
 use native.Mathlib.Omega.{arith}
 use Rattle.model.specs.Instance.{_at_}
 use Rattle.model.specs.Walk.{plus}
-use Rattle.walk.specs.Steps.{Written}
+use Rattle.walk.specs.GoingBack.{Rewritten}
 use Rattle.walk.proofs.Chains.{written-none, written-more}
 use Rattle.walk.proofs.chain.keep_states.Statement.{statement}
 use Rattle.walk.proofs.chain.keep_states.Tie as tie
 
 abbrev Inv-loop : tie.InvT-loop
-Inv-loop states₀ from to cost i₀ states i = (from ≤ i) × (i ≤ to) × Written states₀ states from i (λ k. plus cost (states₀ at (k + 1)))
+Inv-loop states₀ from to cost i₀ states i = (from ≤ i) × (i ≤ to) × Rewritten states₀ states from i (λ k. plus cost (states₀ at (k + 1)))
 
 abbrev μ-loop : tie.MeasureT-loop
 μ-loop states₀ from to cost i₀ states i = to - i

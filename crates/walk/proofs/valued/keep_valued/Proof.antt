@@ -3,13 +3,13 @@ use mathlib.Core.Path.{_≡_, ap}
 use Prim.Native.Nat.{ℕ, _+_, _-_, _≤_}
 use native.Mathlib.Omega.{arith}
 use Rattle.model.specs.Instance.{_at_}
-use Rattle.walk.specs.Steps.{Written}
+use Rattle.walk.specs.GoingBack.{Rewritten}
 use Rattle.walk.proofs.Chains.{written-none, written-more}
 use Rattle.walk.proofs.valued.keep_valued.Statement.{statement}
 use Rattle.walk.proofs.valued.keep_valued.Tie as tie
 
 abbrev Inv-loop : tie.InvT-loop
-Inv-loop states₀ to cost i₀ states i = (i ≤ to) × Written states₀ states 0 i (λ k. cost + states₀ at (k + 1))
+Inv-loop states₀ to cost i₀ states i = (i ≤ to) × Rewritten states₀ states 0 i (λ k. cost + states₀ at (k + 1))
 
 abbrev μ-loop : tie.MeasureT-loop
 μ-loop states₀ to cost i₀ states i = to - i

@@ -8,18 +8,18 @@ use Rattle.answer.specs.declared.Answer.the-variants.{Refused, TextHeld,
 use Rattle.answer.specs.declared.TreeFigures.{TreeFigures}
 
 -- what follows `held` or `passed`: nothing for a text that is neither schedule nor tree, a schedule's cost, a tree's bound, splits and leaves
-pub data Values : Type 0 where
-  no-values : Values
-  its-cost : ℕ → Values
-  its-bound : Bound → (splits leaves : ℕ) → Values
+pub data AnswerValues : Type 0 where
+  no-values : AnswerValues
+  its-cost : ℕ → AnswerValues
+  its-bound : Bound → (splits leaves : ℕ) → AnswerValues
 
 -- the four numbers of a refusal, or held or passed and the values
 pub data Stated : Type 0 where
   refused : (number line unit period : ℕ) → Stated
-  held : Values → Stated
-  passed : Values → Stated
+  held : AnswerValues → Stated
+  passed : AnswerValues → Stated
 
-abbrev pub tree-values : TreeFigures → Values
+abbrev pub tree-values : TreeFigures → AnswerValues
 tree-values f = its-bound (bound-of (f .bound)) (f .splits) (f .leaves)
 
 -- every case
@@ -32,7 +32,7 @@ stated (TreeHeld f) = held (tree-values f)
 stated (TreePassed f) = passed (tree-values f)
 
 -- accepted, with these values: held or passed
-abbrev pub Carries : Stated → Values → Type 0
+abbrev pub Carries : Stated → AnswerValues → Type 0
 Carries (refused n l u t) w = ⊥
 Carries (held v) w = v ≡ w
 Carries (passed v) w = v ≡ w

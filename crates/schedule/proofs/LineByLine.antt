@@ -5,14 +5,14 @@ use mathlib.Core.Bool.{true, false}
 use mathlib.Core.List.{List, []}
 use mathlib.Core.Option.{none}
 use Rattle.model.specs.Instance.{Instance}
-use Rattle.text.specs.Lines.{Line, lineAt}
-use Rattle.text.specs.Forms.{Form, refusedBy, after, form-tests}
+use Rattle.text.specs.Lines.{Line, line-at}
+use Rattle.text.specs.Forms.{Form, form-refusal, place-after, form-tests}
 use Rattle.text.specs.Forms as forms
 use Rattle.text.specs.Course.{Judged}
 use Rattle.text.specs.Tests.{Test, found}
-use Rattle.text.proofs.Steps.{numbers-refused, numbers-good}
+use Rattle.text.proofs.LineByLine.{numbers-refused, numbers-good}
 use Rattle.schedule.specs.Course.{Written, Due, tests, next-due, judge, end}
-use Rattle.schedule.specs.Reading.{by-lines, in-arrays}
+use Rattle.schedule.specs.ReadAnswers.{by-lines, in-arrays}
 use Rattle.schedule.specs.Storing.{refused-read, read-from}
 use Rattle.schedule.specs.declared.ScheduleRead.{ScheduleRead}
 use Rattle.schedule.proofs.LinesRefused.{judge-missing}
@@ -20,7 +20,7 @@ use Rattle.schedule.proofs.LinesRefused.{judge-missing}
 module _ (P : Instance) (text : List ℕ) (at l : ℕ) (s : Due) (ends : end s ≡ none) where
   -- the line, what is due after it if it is good, and what reading gives of what is judged
   abbrev here : Line
-  here = lineAt text at
+  here = line-at text at
 
   abbrev next : Due
   next = next-due P s here
@@ -30,10 +30,10 @@ module _ (P : Instance) (text : List ℕ) (at l : ℕ) (s : Due) (ends : end s �
 
   -- where a line of numbers is due
   module _ (f : Form) (form : tests P s here ≡ form-tests f here []) where
-    pub row-passed : forms.good f here ≡ true → read-from P text at l s ≡ read-from P text (after here at) (suc l) next
+    pub row-passed : forms.good-line f here ≡ true → read-from P text at l s ≡ read-from P text (place-after here at) (suc l) next
     unfolding read-from judge
     row-passed g = ap read (numbers-good (judge P) end (judge-missing P) text at l s f [] next (ap (λ (ts : List Test). found ts next) form) next refl g)
 
-    pub row-stopped : forms.good f here ≡ false → read-from P text at l s ≡ refused-read (refusedBy f here) l
+    pub row-stopped : forms.good-line f here ≡ false → read-from P text at l s ≡ refused-read (form-refusal f here) l
     unfolding read-from judge
     row-stopped g = ap read (numbers-refused (judge P) end (judge-missing P) text at l s f [] next (ap (λ (ts : List Test). found ts next) form) ends g)

@@ -1,7 +1,7 @@
 -- Lodging, by what the readers give: an admitted text is of its kind, what lodging does with its verdict is what is done with its reader's answer, and
 -- a schedule or a tree is admitted only under a known problem, so that what is done with it is done over the docket itself.
 use mathlib.Core.Path.{_≡_, refl, sym, ap, _∙_}
-use mathlib.Core.Bool.{Bool, true, false, _&&_}
+use mathlib.Core.Bool.{Bool, true, false, _&&_, cond}
 use mathlib.Core.List.{List}
 use Prim.Native.Nat.{ℕ, _≤_, _<_}
 use native.Mathlib.Omega.{arith}
@@ -12,19 +12,19 @@ use Rattle.model.specs.Instance.{Instance}
 use Rattle.model.specs.Held.{view, valid-problem}
 use Rattle.model.specs.Tree.{Bound, never, number}
 use Rattle.refusal.specs.declared.Refusal.{Refusal}
-use Rattle.text.specs.Lines.{lineAt, kindOf}
+use Rattle.text.specs.Lines.{line-at, kind-of}
 use Rattle.text.specs.Course.{Judged, refused-at, accepted}
 use Rattle.text.specs.declared.Kind.{Kind}
 use Rattle.text.specs.declared.Kind.the-variants as kind
 use Rattle.problem.specs.Course.{problem-judged}
-use Rattle.problem.specs.Reading as problems
-use Rattle.problem.specs.Reading.{problem-read}
-use Rattle.schedule.specs.Reading.{Outcome, refused-by, accepted-as, schedule-outcome, in-arrays, schedule-read}
-use Rattle.tree.specs.Due as trees
-use Rattle.tree.specs.Due.{Figures}
+use Rattle.problem.specs.ReadAnswers as problems
+use Rattle.problem.specs.ReadAnswers.{problem-read}
+use Rattle.schedule.specs.ReadAnswers.{Outcome, refused-by, accepted-as, schedule-outcome, in-arrays, schedule-read}
+use Rattle.tree.specs.Course as trees
+use Rattle.tree.specs.Course.{Bounded}
 use Rattle.tree.specs.Coded.{bound-of}
-use Rattle.tree.specs.Reading as tree-reading
-use Rattle.tree.specs.Reading.{coded, tree-read}
+use Rattle.tree.specs.ReadAnswers as tree-reading
+use Rattle.tree.specs.ReadAnswers.{coded, tree-read}
 use Rattle.docket.specs.declared.Docket.{Docket}
 use Rattle.docket.specs.declared.admission.Admission.{Admission}
 use Rattle.docket.specs.declared.admission.Admission.the-variants as admission
@@ -32,15 +32,15 @@ use Rattle.docket.specs.declared.admission.Screened.the-variants as scre
 use Rattle.answer.specs.declared.Answer.the-variants.{Refused}
 use Rattle.docket.specs.Docket.{fresh-docket, sound-by, sound}
 use Rattle.docket.specs.Texts.{Short}
-use Rattle.docket.specs.Lodging.{pick, refuse-whole, admit-kind, admit, by-problem, by-schedule, by-tree, by-lines, judged, lodged, hold, trusted, lodge-of}
-use Rattle.docket.specs.Following.{screen, hold-problem, hold-schedule, hold-tree}
+use Rattle.docket.specs.Lodging.{refuse-whole, admit-kind, admit, by-problem, by-schedule, by-tree, verdict-by, text-judged, lodged, hold, trusted, lodge-of}
+use Rattle.docket.specs.HoldingAnswers.{screen, hold-problem, hold-schedule, hold-tree}
 
 -- ---- admitted
 
 -- a text of at most 1,048,576 bytes, of the kind k
 pub record Admitted (known : Bool) (text : List ℕ) (k : Kind) (held : Bool) : Type 0 where
   pub is-short : Short text
-  pub kind-is : kindOf (lineAt text 0) ≡ k
+  pub kind-is : kind-of (line-at text 0) ≡ k
   pub known-is : known ≡ held
 
 module _ (known : Bool) (text : List ℕ) where
@@ -50,9 +50,9 @@ module _ (known : Bool) (text : List ℕ) where
   unfolding admit
   of-kind k held a f g e = go (ltb 1048576 (length text)) refl e
     where
-      go : (t : Bool) → ltb 1048576 (length text) ≡ t → pick t (refuse-whole 11 0) (admit-kind (kindOf (lineAt text 0)) known) ≡ a → Admitted known text k held
+      go : (t : Bool) → ltb 1048576 (length text) ≡ t → cond t (refuse-whole 11 0) (admit-kind (kind-of (line-at text 0)) known) ≡ a → Admitted known text k held
       go true p q = absurd (g 11 0 q)
-      go false p q = let r = f (kindOf (lineAt text 0)) known q in record { is-short = ltb-false 1048576 (length text) p; kind-is = r .0; known-is = r .1 }
+      go false p q = let r = f (kind-of (line-at text 0)) known q in record { is-short = ltb-false 1048576 (length text) p; kind-is = r .0; known-is = r .1 }
 
   clash : {A : Type 0} → _≡_ {A = ℕ} 0 1 → A
   clash z = absurd (omega arith)
@@ -99,7 +99,7 @@ module _ (known : Bool) (text : List ℕ) where
   unfolding admit
   admit-long h = rw (lt-ltb 1048576 (length text) h) refl
 
-  pub admit-short : length text ≤ 1048576 → admit-kind (kindOf (lineAt text 0)) known ≡ admit known text
+  pub admit-short : length text ≤ 1048576 → admit-kind (kind-of (line-at text 0)) known ≡ admit known text
   unfolding admit
   admit-short h = rw (le-ltb 1048576 (length text) h) refl
 
@@ -126,11 +126,11 @@ module _ (d : Docket) (text : List ℕ) where
   coded-back never = refl
   coded-back (number z) = refl
 
-  pub tree-held : (P : Instance) → hold d d (by-tree (trees.judged P text)) ≡ hold-tree d (tree-read P text)
+  pub tree-held : (P : Instance) → hold d d (by-tree (trees.tree-judged P text)) ≡ hold-tree d (tree-read P text)
   unfolding tree-read tree-reading.read-as
-  tree-held P = go (trees.judged P text)
+  tree-held P = go (trees.tree-judged P text)
     where
-      go : (j : Judged Figures) → hold d d (by-tree j) ≡ hold-tree d (tree-reading.read-as j)
+      go : (j : Judged Bounded) → hold d d (by-tree j) ≡ hold-tree d (tree-reading.read-as j)
       go (refused-at n l) = refl
       go (accepted F) = rw (coded-back (F .bound)) refl
 
@@ -150,12 +150,12 @@ unfolding sound
 fresh-sound = refl
 
 -- lodging over the docket itself, or over a fresh one
-pub lodge-sound : (d : Docket) (text : List ℕ) → sound d ≡ true → lodge-of d text ≡ hold d d (judged (d .known) (view (d .problem)) text)
+pub lodge-sound : (d : Docket) (text : List ℕ) → sound d ≡ true → lodge-of d text ≡ hold d d (text-judged (d .known) (view (d .problem)) text)
 unfolding lodge-of
 lodge-sound d text e = rw e refl
 
 pub lodge-unsound : (d : Docket) (text : List ℕ) → sound d ≡ false
-    → lodge-of d text ≡ hold d fresh-docket (judged false (view (fresh-docket .problem)) text)
+    → lodge-of d text ≡ hold d fresh-docket (text-judged false (view (fresh-docket .problem)) text)
 unfolding lodge-of
 lodge-unsound d text e = rw e refl
 
@@ -166,21 +166,21 @@ module _ (d : Docket) where
   unfolding sound
   knows-if k = go (sound d) ∙ ap (λ (b : Bool). sound-by b (d .problem) (d .held)) k
     where
-      go : (s : Bool) → pick s d fresh-docket .known ≡ s
+      go : (s : Bool) → cond s d fresh-docket .known ≡ s
       go true = k
       go false = refl
 
   pub knows-none : d .known ≡ false → trusted d .known ≡ false
   knows-none k = go (sound d)
     where
-      go : (s : Bool) → pick s d fresh-docket .known ≡ false
+      go : (s : Bool) → cond s d fresh-docket .known ≡ false
       go true = k
       go false = refl
 
   pub knows-sound : trusted d .known ≡ true → sound d ≡ true
   knows-sound = go (sound d)
     where
-      go : (s : Bool) → pick s d fresh-docket .known ≡ true → s ≡ true
+      go : (s : Bool) → cond s d fresh-docket .known ≡ true → s ≡ true
       go true k = refl
       go false k = k
 
@@ -195,8 +195,8 @@ module _ (d : Docket) where
 -- ---- by the admission
 
 module _ (d : Docket) (text : List ℕ) where
-  by-admission : (a : Admission) → admit (trusted d .known) text ≡ a → lodge-of d text ≡ hold d (trusted d) (by-lines a (view (trusted d .problem)) text)
-  unfolding lodge-of judged
+  by-admission : (a : Admission) → admit (trusted d .known) text ≡ a → lodge-of d text ≡ hold d (trusted d) (verdict-by a (view (trusted d .problem)) text)
+  unfolding lodge-of text-judged
   by-admission a e = rw e refl
 
   pub refused-lodged : (r : Refusal) → admit (trusted d .known) text ≡ admission.Refused r → lodge-of d text ≡ lodged d (Refused r)
@@ -216,8 +216,8 @@ module _ (d : Docket) (text : List ℕ) where
   problem-lodged e = by-admission admission.Problem e ∙ problem-held d text (trusted d)
 
   -- under a known problem
-  over-itself : (a : Admission) → admit (trusted d .known) text ≡ a → trusted d .known ≡ true → lodge-of d text ≡ hold d d (by-lines a (view (d .problem)) text)
-  over-itself a e k = by-admission a e ∙ ap (λ (x : Docket). hold d x (by-lines a (view (x .problem)) text)) (itself d (knows-sound d k))
+  over-itself : (a : Admission) → admit (trusted d .known) text ≡ a → trusted d .known ≡ true → lodge-of d text ≡ hold d d (verdict-by a (view (d .problem)) text)
+  over-itself a e k = by-admission a e ∙ ap (λ (x : Docket). hold d x (verdict-by a (view (x .problem)) text)) (itself d (knows-sound d k))
 
   pub schedule-lodged : admit (trusted d .known) text ≡ admission.Schedule
       → lodge-of d text ≡ hold-schedule d (schedule-read (view (d .problem)) text .answer) (schedule-read (view (d .problem)) text .rows)

@@ -36,7 +36,7 @@ pub record Back (g : Generator) (m : Mark) (on off : ℕ) (ons offs ons′ offs�
   pub of-off : Chained offs offs′ (g .TD) (enter (g .Hsc) m on ons) (enter (g .Csc) m on ons) (allows m false) off
 
 -- a list in which the entries from `from` to `to` are now f k, and the others as they were
-pub record Written (old new : List ℕ) (from to : ℕ) (f : ℕ → ℕ) : Type 0 where
+pub record Rewritten (old new : List ℕ) (from to : ℕ) (f : ℕ → ℕ) : Type 0 where
   pub same : length new ≡ length old
   pub inside : (k : ℕ) → from ≤ k → k < to → getD new k 0 ≡ f k
   pub below : (k : ℕ) → k < from → getD new k 0 ≡ getD old k 0

@@ -7,15 +7,15 @@ use mathlib.Core.List.{List}
 use Rattle.model.specs.Instance.{Instance}
 use Rattle.model.specs.Ranges.{WellFormed}
 use Rattle.model.specs.Held.{held, blank-problem}
-use Rattle.refusal.specs.Refusals.{refusalOf, line-refusal}
+use Rattle.refusal.specs.Refusals.{refusal-of, line-refusal}
 use Rattle.refusal.specs.declared.Refusal.{Refusal}
 use Rattle.text.specs.Course.{Judged, refused-at, accepted}
 use Rattle.problem.specs.Rendering.{render}
 use Rattle.problem.specs.Course.{problem-judged}
 use Rattle.problem.specs.Refusals.{RefusedAt}
-use Rattle.problem.specs.Reading.{IsProblem, read-as, problem-read}
+use Rattle.problem.specs.ReadAnswers.{IsProblem, read-as, problem-read}
 use Rattle.problem.specs.declared.ProblemAnswer.the-variants.{Refused, Accepted}
-use Rattle.problem.proofs.Refusals.{problem-refused, refused-carries}
+use Rattle.problem.proofs.Refusals.{refused-is, refused-carries}
 use Rattle.problem.proofs.Acceptance.{render-accepted, accepted-rendered}
 
 -- ---- accepted
@@ -48,7 +48,7 @@ answer-accepted text k = go (problem-judged text) refl
 pub refused-read : (n m : ℕ) (text : List ℕ) → RefusedAt text n m → problem-read text ≡ record { answer = Refused (line-refusal n m); problem = blank-problem }
 unfolding problem-read read-as
 refused-read n m text r =
-    ap read-as (problem-refused n m text .1 r)
+    ap read-as (refused-is n m text .1 r)
     ∙ ap (λ (x : Refusal). record { answer = Refused x; problem = blank-problem }) (refused-carries n m text r)
 
 -- the refusal is that of a breach of the text
@@ -64,6 +64,6 @@ answer-refused x text = go (problem-judged text) refl
   where
     go : (j : Judged Instance) → problem-judged text ≡ j → read-as j .answer ≡ Refused x → IsRefused x text
     go (refused-at n l) e a =
-        let r = problem-refused n l text .0 e in
-        record { number = n; line = l; breach = r; refusal = (let z : refusalOf n l 0 0 ≡ x = cc in sym z) ∙ refused-carries n l text r }
+        let r = refused-is n l text .0 e in
+        record { number = n; line = l; breach = r; refusal = (let z : refusal-of n l 0 0 ≡ x = cc in sym z) ∙ refused-carries n l text r }
     go (accepted P) e a = absurd (let z : _≡_ {A = ℕ} 0 1 = cc in omega arith)

@@ -1,16 +1,16 @@
--- What the readers of a tree answer: to read a node is to go through the lines of Due as far as its last line.
+-- What the readers of a tree answer: to read a node is to go through the lines of Course as far as its last line.
 use mathlib.Core.List.{List, [], _∷_}
 use mathlib.Core.Option.{Option, none, some}
 use Prim.Native.Nat.{ℕ, _+_, _≤_}
 use lib.ListN.{length, drop}
 use Rattle.model.specs.Instance.{Instance}
 use Rattle.model.specs.Above.{Above}
-use Rattle.text.specs.Lines.{Line, linesOf, lineAt, endTree}
-use Rattle.text.specs.Forms.{plain, after, form-tests}
+use Rattle.text.specs.Lines.{Line, lines-of, line-at, end-tree}
+use Rattle.text.specs.Forms.{plain, place-after, form-tests}
 use Rattle.text.specs.Course.{Found, refused, good, Judged, refused-at, accepted}
 use Rattle.text.specs.Tests.{found}
-use Rattle.text.specs.Ends.{endOf, endedBy}
-use Rattle.refusal.specs.Refusals.{refusalOf}
+use Rattle.text.specs.Ends.{end-of, ended-by}
+use Rattle.refusal.specs.Refusals.{refusal-of}
 use Rattle.tree.specs.declared.figures.Tally.{Tally}
 use Rattle.tree.specs.declared.leaf.Read.{Read}
 use Rattle.tree.specs.declared.leaf.Read.the-variants.{Refused, Tree}
@@ -21,59 +21,59 @@ use Rattle.tree.specs.declared.splitting.SplitLine.the-variants as split
 use Rattle.tree.specs.declared.TreeRead.{TreeRead}
 use Rattle.tree.specs.declared.TreeRead.the-variants as answer
 use Rattle.tree.specs.NodeLines.{split-line, node-form, named, node-tests}
-use Rattle.tree.specs.Due.{Figures, pending, Due, writer-due, nodes-due, reserve-due, nothing-due, judge, judged}
-use Rattle.tree.specs.Coded.{figures, tally-of}
+use Rattle.tree.specs.Course.{Bounded, pending, Due, writer-due, nodes-due, reserve-due, nothing-due, judge, tree-judged}
+use Rattle.tree.specs.Coded.{bounded, tally-of}
 pub use Rattle.tree.specs.Coded.{coded}
 
 -- ---- document 01's answers, by the cases of the code's enum
 
-unfoldable pub read-as : Judged Figures → TreeRead
-read-as (refused-at n l) = answer.Refused (refusalOf n l 0 0)
+unfoldable pub read-as : Judged Bounded → TreeRead
+read-as (refused-at n l) = answer.Refused (refusal-of n l 0 0)
 read-as (accepted F) = answer.Accepted (F .writer) (coded (F .bound)) (F .splits) (F .leaves)
 
 -- a tree's text
 unfoldable pub tree-read : Instance → List ℕ → TreeRead
-tree-read P text = read-as (judged P text)
+tree-read P text = read-as (tree-judged P text)
 
 -- ---- a node
 
 -- what was read, where no node is left of those that were due
-abbrev pub over : Due → Option Tally
-over writer-due = none
-over (nodes-due F []) = some (tally-of F)
-over (nodes-due F (p ∷ ps)) = none
-over (reserve-due F A q ps) = none
-over (nothing-due F) = none
+abbrev pub all-read : Due → Option Tally
+all-read writer-due = none
+all-read (nodes-due F []) = some (tally-of F)
+all-read (nodes-due F (p ∷ ps)) = none
+all-read (reserve-due F A q ps) = none
+all-read (nothing-due F) = none
 
 -- the line l, which starts at the place `at`, is the first after what was read; or the answer is r
-abbrev pub unless-over : ℕ → ℕ → Option Tally → Read → Read
-unless-over at l none r = r
-unless-over at l (some S) r = Tree at l S
+abbrev pub unless-all-read : ℕ → ℕ → Option Tally → Read → Read
+unless-all-read at l none r = r
+unless-all-read at l (some S) r = Tree at l S
 
 -- what the line l is found to be refuses it, or says what is due then
-abbrev pub at-line : ℕ → Found Due → (Due → Read) → Read
-at-line l (refused n) go = Refused n l
-at-line l (good s) go = go s
+abbrev pub by-found : ℕ → Found Due → (Due → Read) → Read
+by-found l (refused n) go = Refused n l
+by-found l (good s) go = go s
 
--- from the line l on, which starts at the place `at`, where s says what is due: line by line as in Due, as far as the last line of the
+-- from the line l on, which starts at the place `at`, where s says what is due: line by line as in Course, as far as the last line of the
 -- nodes that are due; a line that is missing is 12
 unfoldable pub read-lines : Instance → ℕ → ℕ → Due → List Line → Read
-read-lines P at l s [] = unless-over at l (over s) (Refused 12 l)
-read-lines P at l s (x ∷ ls) = unless-over at l (over s) (at-line l (judge P s x) (λ s′. read-lines P (after x at) (l + 1) s′ ls))
+read-lines P at l s [] = unless-all-read at l (all-read s) (Refused 12 l)
+read-lines P at l s (x ∷ ls) = unless-all-read at l (all-read s) (by-found l (judge P s x) (λ s′. read-lines P (place-after x at) (l + 1) s′ ls))
 
 abbrev pub read-from : Instance → List ℕ → ℕ → ℕ → Due → Read
-read-from P text at l s = read-lines P at l s (linesOf (drop at text))
+read-from P text at l s = read-lines P at l s (lines-of (drop at text))
 
 -- what is found of a node at depth d with A above it, where S was read before; of two nodes; and of the reserve line of a price leaf.
 -- The writer plays no part: 0 stands for one
 unfoldable pub node-read : Instance → List ℕ → ℕ → ℕ → Tally → Above → ℕ → Read
-node-read P text at l S A d = read-from P text at l (nodes-due (figures 0 S) (pending A d ∷ []))
+node-read P text at l S A d = read-from P text at l (nodes-due (bounded 0 S) (pending A d ∷ []))
 
 unfoldable pub trees-read : Instance → List ℕ → ℕ → ℕ → Tally → Above → Above → ℕ → Read
-trees-read P text at l S A B d = read-from P text at l (nodes-due (figures 0 S) (pending A d ∷ pending B d ∷ []))
+trees-read P text at l S A B d = read-from P text at l (nodes-due (bounded 0 S) (pending A d ∷ pending B d ∷ []))
 
 unfoldable pub reserve-read : Instance → List ℕ → ℕ → ℕ → Tally → Above → List ℕ → Read
-reserve-read P text at l S A q = read-from P text at l (reserve-due (figures 0 S) A q [])
+reserve-read P text at l S A q = read-from P text at l (reserve-due (bounded 0 S) A q [])
 
 -- of a leaf: its depth plays no part, and 0 stands for it
 abbrev pub leaf-read : Instance → List ℕ → ℕ → ℕ → Tally → Above → Read
@@ -103,8 +103,8 @@ named-by (good r) = r
 unfoldable pub named-line-read : List ℕ → ℕ → List ℕ → ℕ → NamedLine
 named-line-read key most text at =
     let f = plain key 1 1 most in
-    let l = lineAt text at in
-    named-by (found (form-tests f l []) (name.Names (named f l 0) (after l at)))
+    let l = line-at text at in
+    named-by (found (form-tests f l []) (name.Names (named f l 0) (place-after l at)))
 
 abbrev pub split-by : Found SplitLine → SplitLine
 split-by (refused n) = split.Refused n
@@ -114,12 +114,12 @@ split-by (good r) = r
 unfoldable pub split-line-read : Instance → List ℕ → ℕ → Above → ℕ → SplitLine
 split-line-read P text at A d =
     let f = node-form P split-line in
-    let l = lineAt text at in
-    split-by (found (node-tests P A d split-line l) (split.On (named f l 0) (named f l 1) (after l at)))
+    let l = line-at text at in
+    split-by (found (node-tests P A d split-line l) (split.On (named f l 0) (named f l 1) (place-after l at)))
 
 -- ---- the end line
 
 -- after the tree the end line, and then nothing
 unfoldable pub ended-as : List ℕ → ℕ → Read → TreeRead
-ended-as text w (Refused n l) = answer.Refused (refusalOf n l 0 0)
-ended-as text w (Tree next l S) = read-as (endedBy l (figures w S) (endOf endTree (linesOf (drop next text))))
+ended-as text w (Refused n l) = answer.Refused (refusal-of n l 0 0)
+ended-as text w (Tree next l S) = read-as (ended-by l (bounded w S) (end-of end-tree (lines-of (drop next text))))

@@ -13,7 +13,7 @@ use Rattle.model.specs.Cost.{cost}
 use Rattle.model.specs.Above.{root}
 use Rattle.model.specs.Tree.{Tree, bound, never, number}
 use Rattle.model.proofs.Soundness.{number-sound, never-sound}
-use Rattle.text.specs.Lines.{Line, ended, later, linesOf, lineAt, kindTree, endTree}
+use Rattle.text.specs.Lines.{Line, ended, later, lines-of, line-at, kind-tree, end-tree}
 use Rattle.text.specs.Rendering.{plain-line}
 use Rattle.text.specs.Writer.{writer-key}
 use Rattle.text.specs.Course.{refused-at, accepted}
@@ -21,9 +21,9 @@ use Rattle.text.proofs.Courses as courses
 use Rattle.text.proofs.FirstLine.{tree-is}
 use Rattle.text.proofs.Texts.{whole-is}
 use Rattle.tree.specs.Rendering.{node-lines, render}
-use Rattle.tree.specs.Due.{Figures, by-writer, pending, writer-due, tests, next, judge, end, IsTree, judged}
-use Rattle.tree.specs.Answers.{figures-of, Accepted}
-use Rattle.tree.specs.Refusals.{Refused}
+use Rattle.tree.specs.Course.{Bounded, by-writer, pending, writer-due, tests, next-due, judge, end, IsTree, tree-judged}
+use Rattle.tree.specs.Acceptance.{bounded-of, Accepts}
+use Rattle.tree.specs.Refusals.{RefusedAt}
 use Rattle.tree.proofs.Bounds.{add-is, figures-same}
 use Rattle.tree.proofs.Written.{lines-one}
 use Rattle.tree.proofs.Complete.{tree-accepted}
@@ -32,21 +32,21 @@ use Rattle.tree.proofs.Correct.{Whole, Grown, forest-lines, with-forest
 
 -- ---- accepted
 
-module _ (P : Instance) (text : List ℕ) (first : IsTree text) (F : Figures) where
-  whole-tree : Whole P (later (linesOf text)) F → Accepted P text F
+module _ (P : Instance) (text : List ℕ) (first : IsTree text) (F : Bounded) where
+  whole-tree : Whole P (later (lines-of text)) F → Accepts P text F
   unfolding render
   whole-tree w = go (w .forest .trees) (w .forest .grown) (w .forest .lines) (w .forest .gives)
     where
       go : (ts : List Tree) → Grown P (pending root 0 ∷ []) ts → w .after ≡ map ended (forest-lines ts)
           → F ≡ with-forest P (by-writer (w .writer)) (pending root 0 ∷ []) ts
-          → Accepted P text F
+          → Accepts P text F
       go [] g l e = absurd g
       go (t ∷ u ∷ ts) g l e = absurd (g .1)
       go (t ∷ []) g l e =
-          let f : F ≡ figures-of P (w .writer) t = e ∙ add-is P root (by-writer (w .writer)) t ∙ figures-same refl refl (omega arith) (omega arith) in
-          let a : w .writer ≡ F .writer = ap (λ (x : Figures). x .writer) (sym f) in
+          let f : F ≡ bounded-of P (w .writer) t = e ∙ add-is P root (by-writer (w .writer)) t ∙ figures-same refl refl (omega arith) (omega arith) in
+          let a : w .writer ≡ F .writer = ap (λ (x : Bounded). x .writer) (sym f) in
           let s : text ≡ render (w .writer) t =
-          whole-is text kindTree (plain-line writer-key (w .writer ∷ []) ∷ (node-lines t ++ (endTree ∷ []))) (tree-is (lineAt text 0) .0 first) (lines-one (w .writer) t) .0
+          whole-is text kind-tree (plain-line writer-key (w .writer ∷ []) ∷ (node-lines t ++ (end-tree ∷ []))) (tree-is (line-at text 0) .0 first) (lines-one (w .writer) t) .0
           (w .lines ∙ ap (λ (x : List Line). ended (plain-line writer-key (w .writer ∷ [])) ∷ x) l) in
           record {
             tree = t;
@@ -58,14 +58,14 @@ module _ (P : Instance) (text : List ℕ) (first : IsTree text) (F : Figures) wh
           }
 
   -- a text is accepted exactly where it is that of a tree within the limits whose leaves hold, and what it gives is the tree's
-  pub accepted-is : WellFormed P → (judged P text ≡ accepted F) ↔ Accepted P text F
-  unfolding judged judge
+  pub accepted-is : WellFormed P → (tree-judged P text ≡ accepted F) ↔ Accepts P text F
+  unfolding tree-judged judge
   accepted-is W = (
     (λ e.
-        let g = courses.accepted-is (tests P) (next P) end F 2 writer-due (later (linesOf text)) .0 e in
-        whole-tree (good-left P writer-due (g .last) (later (linesOf text)) F (g .passed) (g .ends))),
+        let g = courses.accepted-is (tests P) (next-due P) end F 2 writer-due (later (lines-of text)) .0 e in
+        whole-tree (good-left P writer-due (g .last) (later (lines-of text)) F (g .passed) (g .ends))),
     (λ a.
-        ap (judged P) (a .written)
+        ap (tree-judged P) (a .written)
         ∙ tree-accepted P (W .periods-in .0) (F .writer) (a .tree) (a .writer-in) (a .within) (a .holds)
         ∙ ap accepted (sym (a .figures))),
   )
@@ -74,22 +74,22 @@ module _ (P : Instance) (text : List ℕ) (first : IsTree text) (F : Figures) wh
 
 -- n refuses the text at line m exactly where the lines before it begin the text of a tree whose leaves hold as far as these show, and n refuses line m where the
 -- next line of that text stands
-pub refused-is-first : (P : Instance) → 1 ≤ P .periods → (text : List ℕ) (n m : ℕ) → (judged P text ≡ refused-at n m) ↔ Refused P text n m
-unfolding judged judge
-refused-is-first P some text n m =
-    let a = courses.refused-is (tests P) (next P) end n m 2 writer-due (later (linesOf text)) in
-    let b = which.line-refused-is P some n m (later (linesOf text)) in
+pub refused-is : (P : Instance) → 1 ≤ P .periods → (text : List ℕ) (n m : ℕ) → (tree-judged P text ≡ refused-at n m) ↔ RefusedAt P text n m
+unfolding tree-judged judge
+refused-is P some text n m =
+    let a = courses.refused-is (tests P) (next-due P) end n m 2 writer-due (later (lines-of text)) in
+    let b = which.line-refused-is P some n m (later (lines-of text)) in
     ((λ e. b .0 (a .0 e)), (λ r. a .1 (b .1 r)))
 
 -- ---- sound
 
-module _ (P : Instance) (W : WellFormed P) (text : List ℕ) (first : IsTree text) (F : Figures) (e : judged P text ≡ accepted F) where
+module _ (P : Instance) (W : WellFormed P) (text : List ℕ) (first : IsTree text) (F : Bounded) (e : tree-judged P text ≡ accepted F) where
   -- the tree of an accepted text gives its figures
-  accepted-tree : Accepted P text F
+  accepted-tree : Accepts P text F
   accepted-tree = accepted-is P text first F W .0 e
 
   bound-is : F .bound ≡ bound P root (accepted-tree .tree)
-  bound-is = ap (λ (x : Figures). x .bound) (accepted-tree .figures)
+  bound-is = ap (λ (x : Bounded). x .bound) (accepted-tree .figures)
 
   -- no schedule that meets the rules costs less than the bound of an accepted tree, whether or not it ramps from midnight
   pub accepted-sound : (z : ℤ) → F .bound ≡ number z → (s : Schedule) → MeetsPrinted P s → z ≤ℤ pos (cost P s)

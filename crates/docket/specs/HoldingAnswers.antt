@@ -1,4 +1,5 @@
 -- What the code of lodging follows: which texts need not be lodged, and what is done with the answers of the readers of problems, schedules and trees.
+use mathlib.Core.Bool.{cond}
 use mathlib.Core.List.{List}
 use Prim.Native.Nat.{ℕ}
 use Rattle.problem.specs.declared.ProblemAnswer.{ProblemAnswer}
@@ -19,7 +20,7 @@ use Rattle.docket.specs.declared.admission.Screened.{Screened}
 use Rattle.docket.specs.declared.admission.Screened.the-variants as screened
 use Rattle.answer.specs.declared.Answer.the-variants.{Refused, TextHeld, ScheduleHeld, SchedulePassed, TreeHeld, TreePassed}
 use Rattle.answer.specs.declared.TreeFigures.{TreeFigures}
-use Rattle.docket.specs.Lodging.{pick, lodged, with-held, with-problem, is-less, is-higher, bound-by}
+use Rattle.docket.specs.Lodging.{lodged, with-held, with-problem, is-less, is-higher, bound-by}
 
 -- a text refused before its lines leaves a docket as it is; any other is lodged, whatever its kind
 abbrev pub screen : Admission → Screened
@@ -36,7 +37,7 @@ hold-problem was problem-answer.Accepted p = lodged (with-problem p) TextHeld
 -- a schedule's, with its rows in an array
 abbrev pub hold-rows : Docket → Priced → List ℕ → Lodged
 hold-rows d s rows =
-    pick (is-less (s .cost) (d .held .cost))
+    cond (is-less (s .cost) (d .held .cost))
     (lodged (with-held d (record { cost = cost.Number (record { cost = s .cost; writer = s .writer }); bound = d .held .bound }) rows) (ScheduleHeld (s .cost)))
     (lodged d (SchedulePassed (s .cost)))
 
@@ -47,7 +48,7 @@ hold-schedule d (schedule-answer.Accepted s) rows = hold-rows d s rows
 -- a tree's, with its figures
 abbrev pub hold-figures : Docket → ℕ → TreeFigures → Lodged
 hold-figures d w f =
-    pick (is-higher (bound-of (f .bound)) (d .held .bound))
+    cond (is-higher (bound-of (f .bound)) (d .held .bound))
     (lodged (with-held d (record { cost = d .held .cost; bound = bound-by (bound-of (f .bound)) w }) (d .rows)) (TreeHeld f))
     (lodged d (TreePassed f))
 

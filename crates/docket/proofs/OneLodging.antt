@@ -13,15 +13,15 @@ use Rattle.model.specs.Tree.{Bound, never, number}
 use Rattle.model.specs.Best.{higher}
 use Rattle.model.proofs.Held.{view-held}
 use Rattle.model.proofs.Lists.{take, held-after, held-least, held-highest}
-use Rattle.tree.specs.Due.{Figures}
+use Rattle.tree.specs.Course.{Bounded}
 use Rattle.tree.specs.Coded.{bound-of}
-use Rattle.tree.specs.Reading.{coded}
+use Rattle.tree.specs.ReadAnswers.{coded}
 use Rattle.docket.specs.declared.Docket.{Docket}
 use Rattle.answer.specs.declared.Answer.the-variants.{ScheduleHeld, SchedulePassed, TreeHeld, TreePassed}
 use Rattle.docket.specs.Docket.{fresh-docket, sound}
-use Rattle.answer.specs.Answers.{its-cost, its-bound, stated}
+use Rattle.answer.specs.StatedAnswers.{its-cost, its-bound, stated}
 use Rattle.docket.specs.Verdicts.{Costed, Verdict, refused, problem, schedule, tree, schedules, trees, known-after}
-use Rattle.docket.specs.Lodging.{pick, judged, lodged, with-schedule, with-bound, is-less, is-higher, bound-by, given-figures, hold, lodge-of}
+use Rattle.docket.specs.Lodging.{text-judged, lodged, with-schedule, with-bound, is-less, is-higher, bound-by, given-figures, hold, lodge-of}
 use Rattle.docket.specs.Demand3.{held-if, answer-due}
 use Rattle.docket.proofs.OneVerdict.{verdict-of}
 use Rattle.docket.proofs.BestSoFar.{beats, held-both, beats-every, cheaper-trans, cheaper-weak, raises-trans, raises-weak}
@@ -30,7 +30,7 @@ use Rattle.docket.proofs.Reached.{by-cost, by-bound, least, highest, co
 
 -- ---- what lodging does in it
 
-lodge-sound : (d : Docket) → sound d ≡ true → (text : List ℕ) → lodge-of d text ≡ hold d d (judged (d .known) (view (d .problem)) text)
+lodge-sound : (d : Docket) → sound d ≡ true → (text : List ℕ) → lodge-of d text ≡ hold d d (text-judged (d .known) (view (d .problem)) text)
 unfolding lodge-of
 lodge-sound d e text = rw e refl
 
@@ -40,17 +40,17 @@ lodge-is none past p text = lodge-sound fresh-docket (docket-sound none past p) 
 lodge-is (some P) past p text =
     let d = docket-under P (least past) (highest past) in
     lodge-sound d (docket-sound (some P) past p) text
-    ∙ ap (λ (Q : Instance). hold d d (judged true Q text)) (view-held P (p .0))
+    ∙ ap (λ (Q : Instance). hold d d (text-judged true Q text)) (view-held P (p .0))
 
 -- ---- the docket after it
 
 module _ (P : Instance) where
-  keeps-schedule : (c : Option Costed) (b : Option Figures) (s : Costed)
+  keeps-schedule : (c : Option Costed) (b : Option Bounded) (s : Costed)
       → hold (docket-under P c b) (docket-under P c b) (schedule s) .docket ≡ docket-under P (take by-cost c s) b
   keeps-schedule none b s = refl
   keeps-schedule (some h) b s = go (ltb (s .cost) (h .cost))
     where
-      go : (t : Bool) → pick t (lodged (with-schedule (docket-under P (some h) b) s) (ScheduleHeld (s .cost))) (lodged (docket-under P (some h) b) (SchedulePassed (s .cost))) .docket
+      go : (t : Bool) → cond t (lodged (with-schedule (docket-under P (some h) b) s) (ScheduleHeld (s .cost))) (lodged (docket-under P (some h) b) (SchedulePassed (s .cost))) .docket
           ≡ docket-under P (cond t (some s) (some h)) b
       go true = refl
       go false = refl
@@ -62,12 +62,12 @@ is-higher-is (number x) never w = refl
 is-higher-is (number x) (number y) w = refl
 
 module _ (P : Instance) where
-  keeps-bound : (c : Option Costed) (b : Option Figures) (F : Figures)
+  keeps-bound : (c : Option Costed) (b : Option Bounded) (F : Bounded)
       → hold (docket-under P c b) (docket-under P c b) (tree F) .docket ≡ docket-under P c (take by-bound b F)
   keeps-bound c none F = refl
   keeps-bound c (some G) F = rw (is-higher-is (F .bound) (G .bound) (G .writer)) (go (higher (F .bound) (G .bound)))
     where
-      go : (t : Bool) → pick t (lodged (with-bound (docket-under P c (some G)) F) (TreeHeld (given-figures F))) (lodged (docket-under P c (some G)) (TreePassed (given-figures F))) .docket
+      go : (t : Bool) → cond t (lodged (with-bound (docket-under P c (some G)) F) (TreeHeld (given-figures F))) (lodged (docket-under P c (some G)) (TreePassed (given-figures F))) .docket
           ≡ docket-under P c (cond t (some F) (some G))
       go true = refl
       go false = refl
@@ -102,12 +102,12 @@ given-is never = refl
 given-is (number z) = refl
 
 module _ (d e : Docket) where
-  schedule-stated : (t : Bool) (c : ℕ) → stated (pick t (lodged d (ScheduleHeld c)) (lodged e (SchedulePassed c)) .answer) ≡ held-if t (its-cost c)
+  schedule-stated : (t : Bool) (c : ℕ) → stated (cond t (lodged d (ScheduleHeld c)) (lodged e (SchedulePassed c)) .answer) ≡ held-if t (its-cost c)
   schedule-stated true c = refl
   schedule-stated false c = refl
 
-  tree-stated : (t : Bool) (F : Figures)
-      → stated (pick t (lodged d (TreeHeld (given-figures F))) (lodged e (TreePassed (given-figures F))) .answer)
+  tree-stated : (t : Bool) (F : Bounded)
+      → stated (cond t (lodged d (TreeHeld (given-figures F))) (lodged e (TreePassed (given-figures F))) .answer)
       ≡ held-if t (its-bound (F .bound) (F .splits) (F .leaves))
   tree-stated true F = rw (given-is (F .bound)) refl
   tree-stated false F = rw (given-is (F .bound)) refl
@@ -116,7 +116,7 @@ less-beats : (c : Option Costed) (s : Costed) → is-less (s .cost) (cost-kept c
 less-beats none s = refl
 less-beats (some h) s = refl
 
-higher-beats : (b : Option Figures) (F : Figures) → is-higher (F .bound) (bound-kept b) ≡ beats by-bound b F
+higher-beats : (b : Option Bounded) (F : Bounded) → is-higher (F .bound) (bound-kept b) ≡ beats by-bound b F
 higher-beats none F = refl
 higher-beats (some G) F = is-higher-is (F .bound) (G .bound) (G .writer)
 
@@ -128,11 +128,11 @@ module _ (past : List Verdict) where
       ∙ beats-every by-cost (cheaper-trans (λ (x : Costed). x .cost)) (cheaper-weak (λ (x : Costed). x .cost)) (held-least (λ (x : Costed). x .cost))
       (least past) (schedules past) (held-least (λ (x : Costed). x .cost) (schedules past)) s
 
-  higher-every : (F : Figures) → is-higher (F .bound) (bound-kept (highest past)) ≡ every (by-bound F) (trees past)
+  higher-every : (F : Bounded) → is-higher (F .bound) (bound-kept (highest past)) ≡ every (by-bound F) (trees past)
   higher-every F =
       higher-beats (highest past) F
-      ∙ beats-every by-bound (raises-trans (λ (x : Figures). x .bound)) (raises-weak (λ (x : Figures). x .bound)) (held-highest (λ (x : Figures). x .bound))
-      (highest past) (trees past) (held-highest (λ (x : Figures). x .bound) (trees past)) F
+      ∙ beats-every by-bound (raises-trans (λ (x : Bounded). x .bound)) (raises-weak (λ (x : Bounded). x .bound)) (held-highest (λ (x : Bounded). x .bound))
+      (highest past) (trees past) (held-highest (λ (x : Bounded). x .bound) (trees past)) F
 
 pub answer-is : (o : Option Instance) (past : List Verdict) (v : Verdict) → Possible o v
     → stated (hold (docket-of o past) (docket-of o past) v .answer) ≡ answer-due past v

@@ -7,17 +7,17 @@ use Rattle.model.specs.Ranges.{GoodWriter}
 use Rattle.model.specs.Above.{root}
 use Rattle.model.specs.Tree.{Tree, Limits, Holds, bound, splits, leaves}
 use Rattle.tree.specs.Rendering.{render}
-use Rattle.tree.specs.Due.{Figures}
+use Rattle.tree.specs.Course.{Bounded}
 
 -- what a tree by the writer w gives
-abbrev pub figures-of : Instance → ℕ → Tree → Figures
-figures-of P w t = record { writer = w; bound = bound P root t; splits = splits t; leaves = leaves t }
+abbrev pub bounded-of : Instance → ℕ → Tree → Bounded
+bounded-of P w t = record { writer = w; bound = bound P root t; splits = splits t; leaves = leaves t }
 
 -- the text is that of a tree within the limits, whose leaves hold, and the figures are the tree's
-pub record Accepted (P : Instance) (text : List ℕ) (F : Figures) : Type 0 where
+pub record Accepts (P : Instance) (text : List ℕ) (F : Bounded) : Type 0 where
   pub tree : Tree
   pub written : text ≡ render (F .writer) tree
   pub writer-in : GoodWriter (F .writer)
   pub within : Limits P root 0 tree
   pub holds : Holds P root tree
-  pub figures : F ≡ figures-of P (F .writer) tree
+  pub figures : F ≡ bounded-of P (F .writer) tree

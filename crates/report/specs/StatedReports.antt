@@ -4,11 +4,11 @@ use Rattle.report.specs.declared.ReportAnswer.{ReportAnswer}
 use Rattle.report.specs.declared.ReportAnswer.the-variants.{Refused, Written}
 
 -- the four numbers of a refusal, or the report's length
-pub data Stated : Type 0 where
-  refused : (number line unit period : ℕ) → Stated
-  its-length : ℕ → Stated
+pub data ReportStated : Type 0 where
+  refused : (number line unit period : ℕ) → ReportStated
+  its-length : ℕ → ReportStated
 
 -- every case
-abbrev pub stated : ReportAnswer → Stated
-stated (Refused r) = refused (r .number) (r .line) (r .unit) (r .period)
-stated (Written n) = its-length n
+abbrev pub report-stated : ReportAnswer → ReportStated
+report-stated (Refused r) = refused (r .number) (r .line) (r .unit) (r .period)
+report-stated (Written n) = its-length n
