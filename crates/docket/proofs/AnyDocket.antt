@@ -175,7 +175,7 @@ fine-by d long o j = subst Fine (judges-once d (judged-under d) o (judges d long
 
 -- ---- a report
 
-pub reports-always : (d : Docket) (b : List ℕ) (k : ℕ) → (report-of d b k .docket ≡ d)
-    × WrittenOr43 (text-shown d) b k (report-answers.report-stated (report-of d b k .answer)) (buffer-of d b k)
+pub reports-always : (d : Docket) → (lines : List ℕ)
+    × ((b : List ℕ) (k : ℕ) → (report-of d b k .docket ≡ d) × WrittenOr43 lines b k (report-answers.report-stated (report-of d b k .answer)) (buffer-of d b k))
 unfolding report-of buffer-of
-reports-always d b k = (refl, written-or-refused (text-shown d) b k (has-room b k (text-shown d)) refl)
+reports-always d = (text-shown d, λ b k. (refl, written-or-refused (text-shown d) b k (has-room b k (text-shown d)) refl))

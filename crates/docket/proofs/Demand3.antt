@@ -11,7 +11,7 @@ use Rattle.model.specs.Held.{view}
 use Rattle.model.specs.Tree.{Bound, never, number}
 use Rattle.model.proofs.Lists.{IsFirst, held-least, held-highest}
 use Rattle.model.proofs.Soundness.{number-sound, never-sound}
-use Rattle.tree.specs.Course.{Bounded}
+use Rattle.tree.specs.Acceptance.{Bounded}
 use Rattle.docket.specs.declared.Docket.{Docket}
 use Rattle.answer.specs.declared.Answer.the-variants.{ScheduleHeld, SchedulePassed, TreeHeld, TreePassed}
 use Rattle.answer.specs.StatedAnswers.{stated}

@@ -13,7 +13,7 @@ use Rattle.model.specs.Best.{First}
 use Rattle.model.proofs.Lists.{held-least, held-highest}
 use Rattle.tree.specs.declared.figures.Bound as code
 use Rattle.tree.specs.declared.figures.Bound.the-variants as given
-use Rattle.tree.specs.Course.{Bounded}
+use Rattle.tree.specs.Acceptance.{Bounded}
 use Rattle.tree.specs.Coded.{bound-of}
 use Rattle.tree.specs.ReadAnswers.{coded}
 use Rattle.docket.specs.declared.Docket.{Docket}

@@ -12,7 +12,7 @@ use Rattle.text.specs.Lines.{kind-of}
 use Rattle.problem.proofs.Examples.{example}
 use Rattle.docket.specs.Texts.{refused-line}
 use Rattle.docket.specs.Lodging.{admit, text-judged}
-use Rattle.docket.specs.Specimens.{bytes, lines}
+use Rattle.text.specs.Strings.{bytes, lines}
 use Rattle.docket.proofs.OneVerdict.{verdict-of}
 
 -- ---- the most bytes

@@ -12,7 +12,7 @@ use Rattle.model.proofs.Integers.{le→nat, nat→le, +ℤ-nat, -ℤ-nat}
 use Rattle.model.proofs.Soundness.{number-sound}
 use Rattle.writer.specs.Written.{figure-of}
 use Rattle.writer.specs.declared.Figure.the-variants.{Missing, Minus}
-use Rattle.tree.specs.Course.{Bounded}
+use Rattle.tree.specs.Acceptance.{Bounded}
 use Rattle.docket.specs.Verdicts.{Costed, Verdict, schedules, trees, known-at-end}
 use Rattle.docket.specs.Texts.{Are}
 use Rattle.docket.specs.ReportDue.{gap-between, gap-due, IsCheapest, IsHighest, ReportDue}

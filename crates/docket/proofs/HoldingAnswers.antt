@@ -21,7 +21,7 @@ use Rattle.problem.specs.ReadAnswers as problems
 use Rattle.problem.specs.ReadAnswers.{problem-read}
 use Rattle.schedule.specs.ReadAnswers.{Outcome, refused-by, accepted-as, schedule-outcome, in-arrays, schedule-read}
 use Rattle.tree.specs.Course as trees
-use Rattle.tree.specs.Course.{Bounded}
+use Rattle.tree.specs.Acceptance.{Bounded}
 use Rattle.tree.specs.Coded.{bound-of}
 use Rattle.tree.specs.ReadAnswers as tree-reading
 use Rattle.tree.specs.ReadAnswers.{coded, tree-read}

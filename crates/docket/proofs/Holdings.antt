@@ -18,7 +18,7 @@ use Rattle.model.specs.Best.{First, FirstLeast, FirstHighest, higher}
 use Rattle.model.proofs.EveryLeaf.{not-above-self}
 use Rattle.model.proofs.Integers.{ltZ→nat}
 use Rattle.judge.specs.Rows.{schedule-of}
-use Rattle.tree.specs.Course.{Bounded}
+use Rattle.tree.specs.Acceptance.{Bounded}
 use Rattle.docket.specs.declared.Docket.{Docket}
 use Rattle.docket.specs.declared.held.CostBy.{CostBy}
 use Rattle.docket.specs.declared.held.BoundBy.{BoundBy}

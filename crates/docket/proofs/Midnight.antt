@@ -13,7 +13,7 @@ use lib.ListN.{length}
 use Rattle.model.specs.declared.generator.Generator.{Generator}
 use Rattle.model.specs.Instance.{Instance, Schedule, _at_, Each}
 use Rattle.model.specs.Ranges.{All, InRange, Ordered, GoodUnit, WellFormed}
-use Rattle.model.specs.Rules.{on, FirstRamp, Meets}
+use Rattle.model.specs.Rules.{on, FirstRamp}
 use Rattle.model.specs.Breach.{Breach}
 use Rattle.model.specs.Broken.{Of, OffRamp, Broken, limits, demand, spare, updown, ramps, midnight, Lower}
 use Rattle.model.specs.Unread.{AlikeButMidnight}

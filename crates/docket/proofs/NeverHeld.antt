@@ -3,7 +3,6 @@ use mathlib.Core.Path.{_≡_, refl, ap, _∙_}
 use mathlib.Core.Bool.{false}
 use mathlib.Core.List.{List, [], _∷_}
 use mathlib.Core.Option.{none, some}
-use Prim.Native.Nat.{ℕ}
 use Rattle.model.specs.Instance.{Instance}
 use Rattle.model.specs.Ranges.{midnight-ordered, ordered}
 use Rattle.model.specs.Leaf.{available, is-stuck}
@@ -24,17 +23,12 @@ use Rattle.docket.specs.Texts.{Is, no-more, then}
 use Rattle.docket.specs.Lodging.{text-judged, admit}
 use Rattle.docket.specs.Promised.{after}
 use Rattle.docket.specs.Specimens as specimens
+use Rattle.docket.specs.Specimens.{too-little, short-tree}
 use Rattle.docket.proofs.OneVerdict.{verdict-of}
 use Rattle.docket.proofs.ListVerdicts.{fine-after, are-verdicts}
 use Rattle.docket.proofs.Lists.{lodges}
 use Rattle.docket.proofs.Reached.{docket-of}
 use Rattle.docket.proofs.Specimens.{judged-as}
-
-unfoldable pub too-little : List ℕ
-too-little = specimens.lines ("kind=problem" ∷ "periods=1" ∷ "units=1" ∷ "demand=60" ∷ "spare=0" ∷ "unit=0,0,0,10,50,1,1,-2,50,50,20,60,1,0,0" ∷ "end=problem" ∷ [])
-
-abbrev pub short-tree : List ℕ
-short-tree = specimens.tree-text ("writer=9" ∷ "short=1" ∷ [])
 
 abbrev little : Instance
 little = record {

@@ -13,7 +13,7 @@ use Rattle.model.specs.Tree.{Bound, never, number}
 use Rattle.model.specs.Best.{higher}
 use Rattle.model.proofs.Held.{view-held}
 use Rattle.model.proofs.Lists.{take, held-after, held-least, held-highest}
-use Rattle.tree.specs.Course.{Bounded}
+use Rattle.tree.specs.Acceptance.{Bounded}
 use Rattle.tree.specs.Coded.{bound-of}
 use Rattle.tree.specs.ReadAnswers.{coded}
 use Rattle.docket.specs.declared.Docket.{Docket}

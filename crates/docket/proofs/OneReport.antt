@@ -10,7 +10,7 @@ use Rattle.model.proofs.Lists.{held-least, held-highest}
 use Rattle.report.specs.Report.{report-lines}
 use Rattle.report.specs.declared.ReportAnswer.{ReportAnswer}
 use Rattle.report.specs.declared.ReportAnswer.the-variants.{Refused, Written}
-use Rattle.tree.specs.Course.{Bounded}
+use Rattle.tree.specs.Acceptance.{Bounded}
 use Rattle.report.specs.StatedReports.{ReportStated, refused, its-length, report-stated}
 use Rattle.docket.specs.declared.Docket.{Docket}
 use Rattle.docket.specs.declared.Reported.{Reported}

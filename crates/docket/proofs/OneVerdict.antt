@@ -28,8 +28,7 @@ use Rattle.schedule.specs.ReadAnswers.{Outcome, refused-by, accepted-as, schedu
 use Rattle.schedule.proofs.Wholes.{render-is-schedule}
 use Rattle.schedule.proofs.Outcomes as schedules
 use Rattle.tree.specs.Course as trees
-use Rattle.tree.specs.Course.{Bounded}
-use Rattle.tree.specs.Acceptance.{bounded-of}
+use Rattle.tree.specs.Acceptance.{bounded-of, Bounded}
 use Rattle.tree.specs.Rendering as trees-rendered
 use Rattle.tree.proofs.Written.{render-cut}
 use Rattle.tree.proofs.Acceptance as trees-answered

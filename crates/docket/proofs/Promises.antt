@@ -30,14 +30,14 @@ use Rattle.text.specs.LineRefused.{Beginning}
 use Rattle.problem.specs.Rendering as problem-text
 use Rattle.problem.specs.Refusals as of-problem
 use Rattle.problem.proofs.WhichLine as problem-lines
-use Rattle.schedule.specs.Course.{Written}
+use Rattle.schedule.specs.Refusals.{Written}
 use Rattle.schedule.specs.Refusals as of-schedule
 use Rattle.schedule.proofs.WhichLine as schedule-lines-refused
 use Rattle.tree.specs.Refusals as of-tree
 use Rattle.tree.proofs.WhichLine as tree-lines-refused
 use Rattle.schedule.specs.WellFormed as schedule-lines
 use Rattle.tree.specs.WellFormed as tree-lines
-use Rattle.tree.specs.Course.{Bounded}
+use Rattle.tree.specs.Acceptance.{Bounded}
 use Rattle.report.specs.StatedReports.{report-stated as told}
 use Rattle.answer.specs.StatedAnswers.{AnswerValues, no-values, its-cost, its-bound, refused, stated, Carries}
 use Rattle.docket.specs.declared.Docket.{Docket}
@@ -51,11 +51,11 @@ use Rattle.docket.specs.Verdicts as verdict
 use Rattle.docket.specs.Verdicts.{Costed, Verdict, schedules, trees}
 use Rattle.docket.specs.Texts.{Short, Is, Are, Accepted}
 use Rattle.docket.specs.Lodging.{lodge-of}
-use Rattle.docket.specs.Report.{text-shown, report-of, buffer-of}
+use Rattle.docket.specs.Report.{report-of, buffer-of}
 use Rattle.docket.specs.ReportDue.{WrittenOr43, Reports}
 use Rattle.docket.specs.Demand3.{answer-due, Unheld}
 use Rattle.docket.specs.Promised.{after, answer, given, ProblemText, ScheduleText, TreeText, OfSchedule, OfTree, Long, JudgesBy}
-use Rattle.docket.specs.Specimens.{listed-texts, specimens, Answered}
+use Rattle.docket.specs.Specimens.{listed-texts, specimens, Answered, too-little, short-tree}
 use Rattle.docket.proofs.OneVerdict.{accepted-is}
 use Rattle.docket.proofs.ListVerdicts.{verdicts-of, verdicts-are, one-list}
 use Rattle.docket.proofs.Demand3.{demand3, unheld-unchanged}
@@ -65,7 +65,6 @@ use Rattle.docket.proofs.EachText as each
 use Rattle.docket.proofs.Holdings as holdings
 use Rattle.docket.proofs.SpecimenList.{specimens-answered, listing-held}
 use Rattle.docket.proofs.NeverHeld as witness
-use Rattle.docket.proofs.NeverHeld.{too-little, short-tree}
 use Rattle.docket.proofs.Docket.fresh.Statement as fresh
 use Rattle.docket.proofs.Docket.fresh.Met as fresh-met
 use Rattle.docket.proofs.Docket.lodge.Statement as lodge
@@ -90,9 +89,9 @@ refused-gets = any.refused-everywhere
 pub unheld-keeps : (d : Docket) (text : List ℕ) → Unheld (stated (lodge-of d text .answer)) → lodge-of d text .docket ≡ d
 unheld-keeps = unheld-unchanged
 
--- A report leaves the docket; with too few bytes from its place on it is 43 and leaves the buffer too
-pub reports-always : (d : Docket) (b : List ℕ) (k : ℕ) → (report-of d b k .docket ≡ d)
-    × WrittenOr43 (text-shown d) b k (told (report-of d b k .answer)) (buffer-of d b k)
+-- A report leaves the docket. Of every docket value there are lines that it shows in every buffer at every place; with too few bytes from there on it is 43 and leaves the buffer too
+pub reports-always : (d : Docket) → (lines : List ℕ)
+    × ((b : List ℕ) (k : ℕ) → (report-of d b k .docket ≡ d) × WrittenOr43 lines b k (told (report-of d b k .answer)) (buffer-of d b k))
 reports-always = any.reports-always
 
 -- Where a refusal stands: by `LineRefused` (text/specs), out of which `Is` is made, the lines before a refused line begin the text of some value within the

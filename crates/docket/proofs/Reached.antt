@@ -19,7 +19,7 @@ use Rattle.model.proofs.Valid.{held-passes}
 use Rattle.model.proofs.Lists.{held-after, IsFirst, cheaper, raises, held-least, held-highest}
 use Rattle.model.proofs.CostSizes.{meets-small, cost-fits}
 use Rattle.model.proofs.LeafSizes.{Fits, bound-fits}
-use Rattle.tree.specs.Course.{Bounded}
+use Rattle.tree.specs.Acceptance.{Bounded}
 use Rattle.docket.specs.declared.Docket.{Docket}
 use Rattle.docket.specs.declared.held.HeldCost.{HeldCost}
 use Rattle.docket.specs.declared.held.HeldCost.the-variants as cost

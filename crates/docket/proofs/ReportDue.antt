@@ -13,7 +13,7 @@ use Rattle.model.specs.Tree.{Bound, never, number}
 use Rattle.model.proofs.Lists.{held-least, held-highest}
 use Rattle.refusal.specs.Refusals.{refusal-of, carries-line, carries-unit, carries-period}
 use Rattle.report.specs.Report.{report-lines, has-room, written-at, placed-at}
-use Rattle.tree.specs.Course.{Bounded}
+use Rattle.tree.specs.Acceptance.{Bounded}
 use Rattle.answer.specs.AnswerLines.{bound-figure}
 use Rattle.report.specs.StatedReports.{report-stated}
 use Rattle.docket.specs.declared.Docket.{Docket}

@@ -1,4 +1,4 @@
--- What document 02 asks, request by request and clause by clause, each proved in a line; then a witness. The words used are defined in specs/; what
+-- What document 02 asks, request by request and clause by clause, each proved in a line; then witnesses. The words used are defined in specs/; what
 -- the texts of a list are is `Is` and `Are` (specs/Texts.antt). What a request changes in problems, rules and refusals is in the definitions of which
 -- Promises.antt speaks.
 use mathlib.Core.Path.{_≡_, refl}
@@ -26,6 +26,7 @@ use Rattle.text.specs.Lines.{Line, ended, kind-tree, end-problem}
 use Rattle.text.specs.LineRefused.{Renders}
 use Rattle.problem.specs.Units.{unit-line, unit-form}
 use Rattle.problem.specs.Rendering.{lines-after}
+use Rattle.text.specs.Strings.{bytes}
 use Rattle.problem.specs.Refusals.{unit}
 use Rattle.problem.proofs.Examples.{example, example-formed}
 use Rattle.answer.specs.StatedAnswers.{AnswerValues, refused, Carries}
@@ -36,7 +37,7 @@ use Rattle.docket.specs.Verdicts.{Verdict}
 use Rattle.docket.specs.Texts.{Short, Begins, Is, Are, no-more}
 use Rattle.docket.specs.Lodging.{lodge-of}
 use Rattle.docket.specs.Promised.{after, answer, given, ScheduleText, Long, JudgesBy}
-use Rattle.docket.specs.Specimens.{bytes, problem-of, specimens, Answered}
+use Rattle.docket.specs.Specimens.{problem-of, specimens, Answered}
 use Rattle.docket.specs.Requested.{Midnight, in-period-1, UnitLineDue}
 use Rattle.docket.proofs.SpecimenList.{specimens-answered}
 use Rattle.docket.proofs.Midnight as midnight

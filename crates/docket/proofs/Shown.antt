@@ -10,7 +10,7 @@ use lib.Seq.{drop-append-seam}
 use Rattle.model.proofs.Lists.{held-least, held-highest}
 use Rattle.report.specs.Report.{report-lines}
 use Rattle.report.specs.declared.Figures as shown
-use Rattle.tree.specs.Course.{Bounded}
+use Rattle.tree.specs.Acceptance.{Bounded}
 use Rattle.report.specs.StatedReports.{refused, its-length}
 use Rattle.docket.specs.Verdicts.{Costed, Verdict, schedules, trees}
 use Rattle.docket.specs.Texts.{Are}

@@ -25,8 +25,7 @@ use Rattle.schedule.specs.ReadAnswers.{schedule-outcome}
 use Rattle.tree.specs.Rendering as trees
 use Rattle.tree.specs.NodeLines.{line-kind-of, split-again, too-deep, not-short, not-stuck}
 use Rattle.tree.specs.Course as tree-course
-use Rattle.tree.specs.Course.{Bounded}
-use Rattle.tree.specs.Acceptance.{bounded-of}
+use Rattle.tree.specs.Acceptance.{bounded-of, Bounded}
 use Rattle.docket.specs.Verdicts.{Verdict, problem, schedule, tree}
 use Rattle.docket.specs.Texts.{Short, Begins, refused-line, Is, second-problem, a-problem, a-tree}
 use Rattle.docket.specs.Lodging.{admit, text-judged}

@@ -7,7 +7,7 @@ use Rattle.model.specs.Instance.{Instance}
 use Rattle.model.specs.Ranges.{GoodWriter, All}
 use Rattle.model.specs.Tree.{Bound, never, number}
 use Rattle.model.proofs.Lists.{IsFirst, held-least, held-highest}
-use Rattle.tree.specs.Course.{Bounded}
+use Rattle.tree.specs.Acceptance.{Bounded}
 use Rattle.docket.specs.declared.Docket.{Docket}
 use Rattle.docket.specs.declared.held.Held.{Held}
 use Rattle.docket.specs.declared.held.HeldCost.{HeldCost}

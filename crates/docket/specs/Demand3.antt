@@ -16,7 +16,7 @@ use Rattle.model.specs.Held as arrays
 use Rattle.model.specs.Held.{pad}
 use Rattle.model.specs.Tree.{Bound, never, number}
 use Rattle.model.specs.Best.{higher, FirstLeast, FirstHighest}
-use Rattle.tree.specs.Course.{Bounded}
+use Rattle.tree.specs.Acceptance.{Bounded}
 use Rattle.docket.specs.declared.Docket.{Docket}
 use Rattle.docket.specs.declared.Lodged.{Lodged}
 use Rattle.docket.specs.declared.Reported.{Reported}

@@ -18,7 +18,7 @@ use Rattle.text.specs.declared.Kind.the-variants as kind
 use Rattle.problem.specs.Course.{problem-judged}
 use Rattle.schedule.specs.ReadAnswers.{Outcome, refused-by, accepted-as, schedule-outcome}
 use Rattle.tree.specs.Course as trees
-use Rattle.tree.specs.Course.{Bounded}
+use Rattle.tree.specs.Acceptance.{Bounded}
 use Rattle.tree.specs.ReadAnswers.{coded}
 use Rattle.docket.specs.declared.Docket.{Docket}
 use Rattle.docket.specs.declared.Lodged.{Lodged}

@@ -49,7 +49,7 @@ given vs = known-at-end none vs
 abbrev pub ProblemText : List ℕ → Instance → Type 0
 ProblemText text P = Short text × ((text ≡ problem-text.render P) × WellFormed P)
 
--- the text of a writer and rows, and of a writer and a tree within the limits
+-- the text of a writer and rows in range, and of a writer in range and a tree within the limits
 abbrev pub ScheduleText : Instance → List ℕ → ℕ → Schedule → Type 0
 ScheduleText P text w s = (text ≡ schedule-text.render w s) × GoodWriter w × GoodRows P s
 
@@ -70,14 +70,14 @@ OfTree P text x = Short text × ((w : ℕ) × (t : Tree) × TreeText P text w t 
 abbrev pub Long : Docket → Type 0
 Long d = (length (d .problem .demand) ≡ 48) × (length (d .problem .spare) ≡ 48) × (length (d .problem .generators) ≡ 32)
 
--- it knows a problem, its arrays hold a well-formed one, and its figures are less than 2^61 from 0
+-- it knows a problem, its arrays hold a well-formed one, its cost is below 2^61, and its bound from -2^61 to below 2^61
 pub record KnownSound (d : Docket) : Type 0 where
   pub known : d .known ≡ true
   pub valid : Valid (d .problem)
   pub cost-small : (by : CostBy) → d .held .cost ≡ cost.Number by → by .cost < size-limit
   pub bound-small : (by : BoundBy) → d .held .bound ≡ bound.Number by → T (small-number (by .value))
 
--- the problem under which it judges a text: its own where that holds, and else none
+-- the problem under which it judges a text: its own where `KnownSound` holds, and else none
 pub data JudgesBy (d : Docket) : Option Instance → Type 0 where
   its-own : KnownSound d → JudgesBy d (some (view (d .problem)))
   no-problem : (KnownSound d → ⊥) → JudgesBy d none

@@ -16,7 +16,7 @@ use Rattle.answer.specs.AnswerLines.{bound-figure}
 use Rattle.report.specs.Report.{report-lines}
 use Rattle.report.specs.declared.Figures as shown
 use Rattle.report.specs.StatedReports.{ReportStated, report-stated, refused, its-length}
-use Rattle.tree.specs.Course.{Bounded}
+use Rattle.tree.specs.Acceptance.{Bounded}
 use Rattle.docket.specs.declared.Docket.{Docket}
 use Rattle.docket.specs.declared.Reported.{Reported}
 use Rattle.docket.specs.Verdicts.{Costed, Verdict, schedules, trees}

@@ -4,27 +4,15 @@ use mathlib.Core.Path.{_≡_}
 use mathlib.Core.List.{List, [], _∷_, _++_, map}
 use mathlib.Core.Option.{Option, none, some}
 use Prim.Native.Nat.{ℕ}
-use Prim.Native.Char.{code}
-use Prim.Native.String.{String, [] as no-more, _∷_ as _then_}
+use Prim.Native.String.{String}
 use lib.IntN.{pos}
 use Rattle.model.specs.Tree.{number}
+use Rattle.text.specs.Strings.{lines}
 use Rattle.docket.specs.declared.Docket.{Docket}
 use Rattle.docket.specs.declared.Lodged.{Lodged}
 use Rattle.docket.specs.Docket.{fresh-docket}
 use Rattle.answer.specs.StatedAnswers.{its-cost, its-bound, Stated, refused, held, passed, stated}
 use Rattle.docket.specs.Demand3.{answers-to}
-
--- ---- texts written as their lines
-
--- the codes of the characters, each of which is one byte in a text
-abbrev pub bytes : String → List ℕ
-bytes no-more = []
-bytes (c then s) = code c ∷ bytes s
-
--- each line ended by byte 10
-abbrev pub lines : List String → List ℕ
-lines [] = []
-lines (l ∷ ls) = bytes l ++ (10 ∷ lines ls)
 
 -- ---- document 01, The listing program: the texts of its input
 
@@ -137,3 +125,11 @@ last-of (x ∷ y ∷ l) = last-of (y ∷ l)
 module _ (lodge : Docket → List ℕ → Lodged) where
   abbrev pub Answered : List (List ℕ) × Stated → Type 0
   Answered x = last-of (map stated (answers-to lodge fresh-docket (x .0))) ≡ some (x .1)
+
+-- ---- a problem that no schedule can meet, and a tree that says so
+
+unfoldable pub too-little : List ℕ
+too-little = lines ("kind=problem" ∷ "periods=1" ∷ "units=1" ∷ "demand=60" ∷ "spare=0" ∷ "unit=0,0,0,10,50,1,1,-2,50,50,20,60,1,0,0" ∷ "end=problem" ∷ [])
+
+abbrev pub short-tree : List ℕ
+short-tree = tree-text ("writer=9" ∷ "short=1" ∷ [])

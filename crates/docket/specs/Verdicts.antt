@@ -4,7 +4,7 @@ use mathlib.Core.Option.{Option, none, some}
 use Prim.Native.Nat.{ℕ}
 use Rattle.model.specs.Instance.{Instance, Schedule}
 use Rattle.refusal.specs.declared.Refusal.{Refusal}
-use Rattle.tree.specs.Course.{Bounded}
+use Rattle.tree.specs.Acceptance.{Bounded}
 
 -- an accepted schedule
 pub record Costed : Type 0 where
@@ -12,7 +12,7 @@ pub record Costed : Type 0 where
   pub cost : ℕ
   pub rows : Schedule
 
--- an accepted tree gives its writer, bound, splits and leaves: Figures
+-- an accepted tree gives its writer, bound, splits and leaves: Bounded
 pub data Verdict : Type 0 where
   refused : Refusal → Verdict
   problem : Instance → Verdict

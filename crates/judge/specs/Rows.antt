@@ -1,6 +1,6 @@
 -- A schedule's rows one after the other in a list.
 use mathlib.Core.Path.{_≡_}
-use mathlib.Core.List.{List, [], _∷_, _++_}
+use mathlib.Core.List.{List, [], _∷_}
 use Prim.Native.Nat.{ℕ, zero, suc, _*_}
 use lib.ListN.{length, take, drop}
 use Rattle.model.specs.declared.arrays.Problem.{Problem}

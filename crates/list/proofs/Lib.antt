@@ -4,6 +4,7 @@ pub mod AnswerSizes
 pub mod ListSizes
 pub mod ListedSoFar
 pub mod ListedCases
+pub mod InputEnds
 pub mod ListedExample
 pub mod Contracts
 pub mod ListingPromises

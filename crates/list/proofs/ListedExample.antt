@@ -15,7 +15,7 @@ use Rattle.docket.specs.Lodging.{lodge-of}
 use Rattle.docket.specs.Report.{report-text}
 use Rattle.docket.specs.Demand3.{answers-to}
 use Rattle.docket.specs.Promised.{stated-lines}
-use Rattle.docket.specs.Specimens.{problem-of, listed-problem, schedule-text, tree-text, listed-texts, listed-input, listed-output}
+use Rattle.docket.specs.Specimens.{problem-of, schedule-text, tree-text, listed-texts, listed-input, listed-output}
 use Rattle.docket.proofs.SpecimenList.{listing-answers, listing-held}
 use Rattle.list.specs.Listing.{answer-lines, listed, listing-text}
 

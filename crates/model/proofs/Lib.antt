@@ -43,3 +43,4 @@ pub mod WrongOutputs
 pub mod WrongRamps
 pub mod Extents
 pub mod Unread
+pub mod Zeros

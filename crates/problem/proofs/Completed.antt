@@ -2,13 +2,14 @@
 -- the last line.
 use Prim.Native.Nat.{ℕ, zero, suc, _≤_}
 use native.Mathlib.Omega.{arith}
-use mathlib.Core.Path.{_≡_, refl, ap, subst}
+use mathlib.Core.Path.{refl, subst}
 use mathlib.Core.Bool.{true}
 use mathlib.Core.List.{List, [], _∷_}
-use lib.ListN.{length}
+use lib.ListN.{replicate, length-replicate}
 use Rattle.model.specs.declared.generator.Generator.{Generator}
 use Rattle.model.specs.Instance.{Instance}
-use Rattle.model.specs.Ranges.{All, GoodLoad, GoodUnit}
+use Rattle.model.specs.Ranges.{GoodUnit}
+use Rattle.model.proofs.Zeros.{zeros-in}
 use Rattle.text.specs.Lines.{Line, ended, end-problem}
 use Rattle.text.specs.Rendering.{plain-line}
 use Rattle.text.specs.Tests.{None, Passed, none-yet, one-more, AllPassed}
@@ -19,20 +20,6 @@ use Rattle.problem.specs.Rendering.{periods-key, units-key, demand-key, 
 use Rattle.problem.specs.Course.{Due, periods-due, units-due, demand-due, spare-due, unit-due, end-due, nothing-due, fleet-due, no-units, with-unit, tests, next-due, end}
 use Rattle.problem.proofs.Ends.{judge-end}
 use Rattle.problem.proofs.Rendered.{also, unit-judged, periods-judged, units-judged, demand-judged, spare-judged}
-
-zeros : ℕ → List ℕ
-zeros zero = []
-zeros (suc n) = 0 ∷ zeros n
-
-zeros-long : (n : ℕ) → length (zeros n) ≡ n
-unfolding zeros
-zeros-long zero = refl
-zeros-long (suc n) = ap suc (zeros-long n)
-
-zeros-in : (n : ℕ) → All GoodLoad (zeros n)
-unfolding zeros
-zeros-in zero = tt
-zeros-in (suc n) = ((omega arith, omega arith), zeros-in n)
 
 abbrev some-unit : Generator
 some-unit = record { a = 0; b = 0; c = 0; pL = 1; pU = 1; TU = 1; TD = 1; on = true; since = 1; DR = 1; UR = 1; Hsc = 0; Csc = 0; Tcold = 0; Dc = 0; p0 = 1 }
@@ -107,20 +94,20 @@ from-fleet (suc n) P =
 
 from-spare : (T I : ℕ) (D : List ℕ) → 1 ≤ T → Completes (spare-due T I D)
 from-spare T I D h =
-    let c = from-fleet I (no-units T D (zeros T)) in
+    let c = from-fleet I (no-units T D (replicate T 0)) in
     record {
-      lines = ended (plain-line spare-key (zeros T)) ∷ c .lines;
+      lines = ended (plain-line spare-key (replicate T 0)) ∷ c .lines;
       gives = c .gives;
-      all = record { last = c .all .last; passed = also (spare-judged T I h D (zeros T) (zeros-long T) (zeros-in T)) (c .all .passed); ends = c .all .ends };
+      all = record { last = c .all .last; passed = also (spare-judged T I h D (replicate T 0) (length-replicate T 0) (zeros-in 320000 T)) (c .all .passed); ends = c .all .ends };
     }
 
 from-demand : (T I : ℕ) → 1 ≤ T → Completes (demand-due T I)
 from-demand T I h =
-    let c = from-spare T I (zeros T) h in
+    let c = from-spare T I (replicate T 0) h in
     record {
-      lines = ended (plain-line demand-key (zeros T)) ∷ c .lines;
+      lines = ended (plain-line demand-key (replicate T 0)) ∷ c .lines;
       gives = c .gives;
-      all = record { last = c .all .last; passed = also (demand-judged T I h (zeros T) (zeros-long T) (zeros-in T)) (c .all .passed); ends = c .all .ends };
+      all = record { last = c .all .last; passed = also (demand-judged T I h (replicate T 0) (length-replicate T 0) (zeros-in 320000 T)) (c .all .passed); ends = c .all .ends };
     }
 
 from-units : (T : ℕ) → 1 ≤ T → Completes (units-due T)

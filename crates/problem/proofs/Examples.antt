@@ -13,7 +13,7 @@ use Rattle.text.specs.Lines.{kind-of}
 use Rattle.text.specs.Forms.{malformed, wrong-count, outside-range}
 use Rattle.text.specs.Rendering.{rendered, plain-line, text-of}
 use Rattle.text.specs.Course.{refused-at, accepted, judged-from}
-use Rattle.text.proofs.Examples.{lines}
+use Rattle.text.specs.Strings.{lines}
 use Rattle.problem.specs.Units.{unit-key, Tini-place, unit-line, unit-of}
 use Rattle.problem.specs.Rendering.{periods-key, units-key, demand-key, spare-key, lines-after, render}
 use Rattle.problem.specs.Course.{judge, problem-judged}

@@ -19,7 +19,8 @@ use Rattle.text.proofs.Plain.{plain-passed, one-value}
 use Rattle.text.proofs.Verdicts.{form-passes}
 use Rattle.problem.specs.Units.{unit-line, unit-of, unit-form}
 use Rattle.problem.specs.Rendering.{lines-after, periods-key, units-key, demand-key, spare-key}
-use Rattle.problem.specs.Course.{Due, periods-due, units-due, demand-due, spare-due, unit-due, end-due, nothing-due, fleet-due, no-units, with-unit, tests, next-due, periods-form, units-form, demand-form, spare-form, end}
+use Rattle.problem.specs.Course.{Due, periods-due, units-due, demand-due, spare-due, unit-due, end-due, nothing-due, fleet-due, no-units, with-unit, tests, next-due, end}
+use Rattle.problem.specs.Refusals.{periods-form, units-form, demand-form, spare-form}
 use Rattle.problem.proofs.UnitLines.{unit-line-was}
 use Rattle.problem.proofs.PlainLines.{between-all}
 use Rattle.problem.proofs.Rendered.{having, with-units}

@@ -1,6 +1,6 @@
 -- The lines of a problem's text that pass are those that begin the text of some well-formed problem, and the first test that holds of a line there is the number
 -- that refuses it, by renderings: so the law of text/proofs/WhichLine.antt holds of problems.
-use Prim.Native.Nat.{ℕ, zero, suc, _+_, _<_}
+use Prim.Native.Nat.{ℕ, zero, suc, _+_, _≤_, _<_}
 use native.Mathlib.Omega.{arith}
 use mathlib.Core.Path.{_≡_, refl, sym, ap, subst, _∙_}
 use mathlib.Core.Bool.{Bool, true, false, not}
@@ -11,30 +11,26 @@ use lib.ListN.{length, length-append}
 use borrow.Author.Tests.{not-true}
 use Rattle.model.specs.declared.generator.Generator.{Generator}
 use Rattle.model.specs.Instance.{Instance}
-use Rattle.model.specs.Ranges.{WellFormed, InRange, Ordered, ordered}
-use Rattle.text.specs.Lines.{Line, ended, due, later, lines-of, end-problem}
+use Rattle.model.specs.Ranges.{Ordered, ordered}
+use Rattle.text.specs.Lines.{Line, ended, later, lines-of, end-problem}
 use Rattle.text.specs.Forms.{Form, form-tests}
-use Rattle.text.specs.Tests.{Test, _if_, FirstTrue, this, after, None, tests-before, RefusedAt}
-use Rattle.text.specs.LineRefused.{Unfit, Beginning, Refuses, at-numbers, at-last, behind-last}
+use Rattle.text.specs.Tests.{Test, _if_, FirstTrue, this, after, None, tests-before, StopsAt}
+use Rattle.text.specs.LineRefused.{Unfit, Beginning, Refuses}
 use Rattle.text.proofs.Courses as courses
 use Rattle.text.proofs.Tests.{first-every}
 use Rattle.text.proofs.Verdicts.{form-passes}
-use Rattle.text.proofs.Unfit as unfitness
-use Rattle.text.proofs.Unfit.{Fits, fits-passes}
+use Rattle.text.proofs.Unfit.{Fits, fits-passes, passes-fits, true-not-false}
 use Rattle.text.proofs.WhichLine as which-line
-use Rattle.text.proofs.WhichLine.{Follows}
+use Rattle.text.proofs.WhichLine.{Faithful}
 use Rattle.problem.specs.Units.{unit-form, unit-line, unit-of}
 use Rattle.problem.specs.Rendering.{lines-after}
-use Rattle.problem.specs.Course.{Due, periods-due, units-due, demand-due, spare-due, unit-due, end-due, nothing-due, tests, next-due, end, periods-form, units-form, demand-form, spare-form}
+use Rattle.problem.specs.Course.{Due, periods-due, units-due, demand-due, spare-due, unit-due, end-due, nothing-due, tests, next-due, end}
 use Rattle.problem.specs.Refusals as refusals
-use Rattle.problem.specs.Refusals.{FormAt, periods, units, demand, spare, unit, Breaks, unfit, disordered, InLimits}
+use Rattle.problem.specs.Refusals.{FormAt, periods, units, demand, spare, unit, Breaks, unfit, disordered, InLimits, periods-form, units-form, demand-form, spare-form}
 use Rattle.problem.proofs.WasRendered.{lines-were}
 use Rattle.problem.proofs.UnitLines.{unit-line-good, unit-line-of, unit-line-formed, ordered-of, of-ordered}
 use Rattle.problem.proofs.Completed.{completed}
 use Rattle.problem.proofs.Beginnings.{Stands, at-periods, at-units, at-demand, at-spare, at-unit, at-end, at-nothing, from-first}
-
-true-not-false : {b : Bool} → b ≡ true → b ≡ false → ⊥
-true-not-false e k = let z : _≡_ {A = ℕ} 0 1 = cc in omega arith
 
 -- ---- the numbers there
 
@@ -70,118 +66,81 @@ module _ (P : Instance) where
   before-last spare = omega arith
   before-last (unit u h) = omega (arith, h)
 
-  breaks-before-last : {k n : ℕ} {l : Line} → Breaks P k l n → k < 4 + length (P .units)
-  breaks-before-last (unfit f F u) = before-last F
-  breaks-before-last (disordered F g e R O) = before-last F
+  -- a line that is no unit line has no tests but 12, 14, 13
+  breaks-plain : (k : ℕ) (f : Form) → FormAt P k f → f .minus ≡ 0 → (n : ℕ) (l : Line)
+      → Breaks P k l n ↔ (Unfit f l n ⊎ (((neg : Bool) × (vs : List ℕ) × Fits f l neg vs) × FirstTrue n []))
+  breaks-plain k f F unsigned n l = (forth n, back)
+    where
+      forth : (n : ℕ) → Breaks P k l n → Unfit f l n ⊎ (((neg : Bool) × (vs : List ℕ) × Fits f l neg vs) × FirstTrue n [])
+      forth n (unfit g G u) = inl (subst (λ (h : Form). Unfit h l n) (one-form G ∙ sym (one-form F)) u)
+      forth n (disordered G g e R O) = absurd (omega (arith, unsigned, ap (λ (h : Form). h .minus) (one-form F ∙ sym (one-form G))))
+
+      back : Unfit f l n ⊎ (((neg : Bool) × (vs : List ℕ) × Fits f l neg vs) × FirstTrue n []) → Breaks P k l n
+      back (inl u) = unfit f F u
+      back (inr (t, h)) = absurd (first-every (λ _. ⊥) n [] tt h)
+
+  -- a unit line has 15 after them
+  abbrev order : Line → List Test
+  order l = 15 if not (ordered (unit-of l)) ∷ []
+
+  breaks-unit : (k : ℕ) → FormAt P k unit-form → (n : ℕ) (l : Line)
+      → Breaks P k l n ↔ (Unfit unit-form l n ⊎ (((neg : Bool) × (vs : List ℕ) × Fits unit-form l neg vs) × FirstTrue n (order l)))
+  breaks-unit k F n l = (forth n, back)
+    where
+      unordered : (g : Generator) → (Ordered g → ⊥) → (b : Bool) → ordered g ≡ b → ordered g ≡ false
+      unordered g O true e = absurd (O (ordered-of g e))
+      unordered g O false e = e
+
+      forth : (n : ℕ) → Breaks P k l n → Unfit unit-form l n ⊎ (((neg : Bool) × (vs : List ℕ) × Fits unit-form l neg vs) × FirstTrue n (order l))
+      forth n (unfit g G u) = inl (subst (λ (h : Form). Unfit h l n) (one-form G ∙ sym (one-form F)) u)
+      forth n (disordered G g e R O) = inr (
+        passes-fits unit-form l (subst (λ (x : Line). None (form-tests unit-form x [])) (sym e) (form-passes unit-form (ended (unit-line g)) [] .1 (unit-line-good g R, tt))),
+        this (ap not (ap ordered (ap unit-of e ∙ unit-line-of g R) ∙ unordered g O (ordered g) refl)),
+      )
+
+      disorder : (n : ℕ) → (neg : Bool) (vs : List ℕ) → Fits unit-form l neg vs → FirstTrue n (order l) → Breaks P k l n
+      disorder n neg vs t (this e) =
+          let u = unit-line-formed l (form-passes unit-form l [] .0 (fits-passes unit-form l neg vs t) .0) in
+          disordered F (unit-of l) (u .0) (u .1) (λ O. true-not-false (ordered (unit-of l)) (of-ordered (unit-of l) O) (not-true (ordered (unit-of l)) e))
+      disorder n neg vs t (after e h) = absurd (first-every (λ _. ⊥) n [] tt h)
+
+      back : Unfit unit-form l n ⊎ (((neg : Bool) × (vs : List ℕ) × Fits unit-form l neg vs) × FirstTrue n (order l)) → Breaks P k l n
+      back (inl u) = unfit unit-form F u
+      back (inr (t, h)) = disorder n (t .0) (t .1) (t .2) h
+
+  -- from the last line on no line of numbers is due
+  no-numbers : (k : ℕ) → 4 + length (P .units) ≤ k → (n : ℕ) (l : Line) → Breaks P k l n → ⊥
+  no-numbers k h n l (unfit f F u) = omega (arith, h, before-last F)
+  no-numbers k h n l (disordered F g e R O) = omega (arith, h, before-last F)
 
   abbrev Broken : ℕ → List Line → ℕ → Type 0
   Broken k left n = Refuses lines-after end-problem InLimits Breaks P k left n
 
-  module _ (k : ℕ) (left : List Line) where
-    -- where a line of numbers is due
-    broken-numbers : (f : Form) → FormAt P k f → (n : ℕ) → Broken k left n → Breaks P k (due left) n
-    broken-numbers f F n (at-numbers b) = b
-    broken-numbers f F n (at-last e h) = absurd (omega (arith, e, before-last F, lines-long P))
-    broken-numbers f F n (behind-last e h) = absurd (omega (arith, e, before-last F, lines-long P))
+  module _ (left : List Line) (n : ℕ) where
+    at-form : (k : ℕ) (s : Due) (f : Form) → FormAt P k f → f .minus ≡ 0 → end s ≡ none → ((l : Line) → tests s l ≡ form-tests f l [])
+        → FirstTrue n (tests-before tests next-due end s left) ↔ Broken k left n
+    at-form k s f F unsigned no-end same =
+        which-line.numbers-refuse tests next-due end lines-after end-problem InLimits Breaks P k s left n f (λ l. []) no-end same
+        (omega (arith, before-last F, lines-long P)) (breaks-plain k f F unsigned n)
 
-    -- one that is no unit line
-    module _ (s : Due) (f : Form) (no-end : end s ≡ none) (same : (l : Line) → tests s l ≡ form-tests f l []) (F : FormAt P k f) (unsigned : f .minus ≡ 0) where
-      breaks-unfit : (n : ℕ) → Breaks P k (due left) n → Unfit f (due left) n
-      breaks-unfit n (unfit g G u) = subst (λ (h : Form). Unfit h (due left) n) (one-form G ∙ sym (one-form F)) u
-      breaks-unfit n (disordered G g e R O) = absurd (omega (arith, unsigned, ap (λ (h : Form). h .minus) (one-form F ∙ sym (one-form G))))
-
-      at-form : (n : ℕ) → FirstTrue n (tests-before tests next-due end s left) ↔ Broken k left n
-      at-form n = (λ h. forth (d .0 h), λ b. d .1 (inl (breaks-unfit n (broken-numbers f F n b))))
-        where
-          d : FirstTrue n (tests-before tests next-due end s left) ↔ (Unfit f (due left) n ⊎ (((neg : Bool) × (vs : List ℕ) × Fits f (due left) neg vs) × FirstTrue n []))
-          d = unfitness.numbers-due tests next-due end s f (λ l. []) no-end same left n
-
-          forth : Unfit f (due left) n ⊎ (((neg : Bool) × (vs : List ℕ) × Fits f (due left) neg vs) × FirstTrue n []) → Broken k left n
-          forth (inl u) = at-numbers (unfit f F u)
-          forth (inr (t, h)) = absurd (first-every (λ _. ⊥) n [] tt h)
-
-    -- a unit line
-    module _ (m : ℕ) (Q : Instance) (F : FormAt P k unit-form) where
-      abbrev order : Line → List Test
-      order l = 15 if not (ordered (unit-of l)) ∷ []
-
-      abbrev Judged : ℕ → Type 0
-      Judged n = Unfit unit-form (due left) n ⊎ (((neg : Bool) × (vs : List ℕ) × Fits unit-form (due left) neg vs) × FirstTrue n (order (due left)))
-
-      out-of-order : (neg : Bool) (vs : List ℕ) → Fits unit-form (due left) neg vs → (n : ℕ) → FirstTrue n (order (due left)) → Breaks P k (due left) n
-      out-of-order neg vs t n (this e) =
-          let u = unit-line-formed (due left) (form-passes unit-form (due left) [] .0 (fits-passes unit-form (due left) neg vs t) .0) in
-          disordered F (unit-of (due left)) (u .0) (u .1) (λ O. true-not-false (of-ordered (unit-of (due left)) O) (not-true (ordered (unit-of (due left))) e))
-      out-of-order neg vs t n (after e h) = absurd (first-every (λ _. ⊥) n [] tt h)
-
-      forth-unit : (n : ℕ) → Judged n → Broken k left n
-      forth-unit n (inl u) = at-numbers (unfit unit-form F u)
-      forth-unit n (inr (t, h)) = at-numbers (out-of-order (t .0) (t .1) (t .2) n h)
-
-      -- numbers in range that are not ordered are 15
-      disorder-first : (g : Generator) → InRange g → (Ordered g → ⊥) → FirstTrue 15 (tests (unit-due m Q) (ended (unit-line g)))
-      disorder-first g R n = let f = formed in after (f .0) (after (f .1 .0) (after (f .1 .1 .0) (this (ap not (ap ordered (unit-line-of g R) ∙ go (ordered g) refl)))))
-        where
-          formed : None (form-tests unit-form (ended (unit-line g)) [])
-          formed = form-passes unit-form (ended (unit-line g)) [] .1 (unit-line-good g R, tt)
-
-          go : (b : Bool) → ordered g ≡ b → ordered g ≡ false
-          go true e = absurd (n (ordered-of g e))
-          go false e = e
-
-      back-unit : (n : ℕ) → Breaks P k (due left) n → FirstTrue n (tests-before tests next-due end (unit-due m Q) left)
-      back-unit n (unfit g G u) =
-          unfitness.numbers-due tests next-due end (unit-due m Q) unit-form order refl (λ l. refl) left n .1
-          (inl (subst (λ (h : Form). Unfit h (due left) n) (one-form G ∙ sym (one-form F)) u))
-      back-unit n (disordered G g e R O) = shown left e
-        where
-          shown : (left : List Line) → due left ≡ ended (unit-line g) → FirstTrue 15 (tests-before tests next-due end (unit-due m Q) left)
-          shown [] e = absurd (let z : _≡_ {A = ℕ} 0 1 = cc in omega arith)
-          shown (x ∷ left) e = subst (λ (l : Line). FirstTrue 15 (tests (unit-due m Q) l)) (sym e) (disorder-first g R O)
-
-      at-unit-line : (n : ℕ) → FirstTrue n (tests-before tests next-due end (unit-due m Q) left) ↔ Broken k left n
-      at-unit-line n = (
-        λ h. forth-unit n (unfitness.numbers-due tests next-due end (unit-due m Q) unit-form order refl (λ l. refl) left n .0 h),
-        λ b. back-unit n (broken-numbers unit-form F n b),
-      )
-
-  module _ (left : List Line) (Q : Instance) where
-    broken-last : (n : ℕ) → Broken (4 + length (P .units)) left n → (n ≡ 12) × (due left ≡ ended end-problem → ⊥)
-    broken-last n (at-numbers b) = absurd (omega (arith, breaks-before-last b))
-    broken-last n (at-last e h) = (refl, h)
-    broken-last n (behind-last e h) = absurd (omega (arith, e, lines-long P))
-
-    broken-behind : (n : ℕ) → Broken (5 + length (P .units)) left n → (n ≡ 12) × (left ≡ [] → ⊥)
-    broken-behind n (at-numbers b) = absurd (omega (arith, breaks-before-last b))
-    broken-behind n (at-last e h) = absurd (omega (arith, e, lines-long P))
-    broken-behind n (behind-last e h) = (refl, h)
-
-    at-end-line : (n : ℕ) → FirstTrue n (tests-before tests next-due end (end-due Q) left) ↔ Broken (4 + length (P .units)) left n
-    at-end-line n =
-        let d = unfitness.word-due tests next-due end (end-due Q) end-problem refl (λ l. refl) left n in (
-          λ h. let t = d .0 h in rw (t .0) (at-last (omega (arith, lines-long P)) (t .1)),
-          λ b. d .1 (broken-last n b),
-        )
-
-    behind-end : (n : ℕ) → FirstTrue n (tests-before tests next-due end (nothing-due Q) left) ↔ Broken (5 + length (P .units)) left n
-    behind-end n =
-        let d = unfitness.nothing-due tests next-due end (nothing-due Q) Q refl (λ l. refl) left n in (
-          λ h. let t = d .0 h in rw (t .0) (behind-last (omega (arith, lines-long P)) (t .1)),
-          λ b. d .1 (broken-behind n b),
-        )
-
-  refuses : (k : ℕ) (s : Due) → Stands P k s → (left : List Line) (n : ℕ) → FirstTrue n (tests-before tests next-due end s left) ↔ Broken k left n
-  refuses k s at-periods left n = at-form 0 left periods-due periods-form refl (λ l. refl) periods refl n
-  refuses k s (at-units T) left n = at-form 1 left (units-due T) units-form refl (λ l. refl) units refl n
-  refuses k s (at-demand I) left n = at-form 2 left (demand-due (P .periods) I) (demand-form (P .periods)) refl (λ l. refl) demand refl n
-  refuses k s (at-spare I D) left n = at-form 3 left (spare-due (P .periods) I D) (spare-form (P .periods)) refl (λ l. refl) spare refl n
-  refuses k s (at-unit u m Q h) left n = at-unit-line (4 + u) left m Q (unit u h) n
-  refuses k s (at-end Q) left n = at-end-line left Q n
-  refuses k s (at-nothing Q) left n = behind-end left Q n
+    refuses : (k : ℕ) (s : Due) → Stands P k s → FirstTrue n (tests-before tests next-due end s left) ↔ Broken k left n
+    refuses k s at-periods = at-form 0 periods-due periods-form periods refl refl (λ l. refl)
+    refuses k s (at-units T) = at-form 1 (units-due T) units-form units refl refl (λ l. refl)
+    refuses k s (at-demand I) = at-form 2 (demand-due (P .periods) I) (demand-form (P .periods)) demand refl refl (λ l. refl)
+    refuses k s (at-spare I D) = at-form 3 (spare-due (P .periods) I D) (spare-form (P .periods)) spare refl refl (λ l. refl)
+    refuses k s (at-unit u m Q h) =
+        which-line.numbers-refuse tests next-due end lines-after end-problem InLimits Breaks P (4 + u) (unit-due m Q) left n unit-form order refl (λ l. refl)
+        (omega (arith, h, lines-long P)) (breaks-unit (4 + u) (unit u h) n)
+    refuses k s (at-end Q) =
+        which-line.last-refuses tests next-due end lines-after end-problem InLimits Breaks P (4 + length (P .units)) (end-due Q) left n refl (λ l. refl)
+        (omega (arith, lines-long P)) (no-numbers (4 + length (P .units)) (omega arith) n)
+    refuses k s (at-nothing Q) =
+        which-line.end-refuses tests next-due end lines-after end-problem InLimits Breaks P (5 + length (P .units)) (nothing-due Q) left n Q refl (λ l. refl)
+        (omega (arith, lines-long P)) (no-numbers (5 + length (P .units)) (omega arith) n)
 
 -- ---- the law
 
-follows : Follows tests next-due end lines-after end-problem InLimits Breaks periods-due Stands
+follows : Faithful tests next-due end lines-after end-problem InLimits Breaks periods-due Stands
 follows = record {
   passes = λ P ls b. let r = from-first P (b .within) ls (b .more) (b .whole) in (r .place, subst (λ (k : ℕ). Stands P k (r .place)) (omega arith) (r .stands), r .passed);
   begins = λ s ls p.
@@ -192,12 +151,12 @@ follows = record {
         ends = c .all .ends;
       }) in
       (c .gives, record { more = c .lines; whole = w .lines; within = w .well-formed });
-  refuses = λ P k s h left n. refuses P k s h left n;
+  refuses = λ P k s h left n. refuses P left n k s h;
 }
 
 module _ (n m : ℕ) (text : List ℕ) where
   -- as the line is judged, and as texts are written
-  pub refused-line-is : RefusedAt tests next-due end n m 2 periods-due (later (lines-of text)) ↔ refusals.RefusedAt text n m
+  pub refused-line-is : StopsAt tests next-due end n m 2 periods-due (later (lines-of text)) ↔ refusals.RefusedAt text n m
   refused-line-is = which-line.line-refused-is tests next-due end lines-after end-problem InLimits Breaks follows n m (later (lines-of text))
 
   -- with the refused line the lines begin the text of no well-formed problem

@@ -22,8 +22,8 @@ use Rattle.text.proofs.Partition.{twelve-is}
 use Rattle.problem.specs.Units.{unit-key, Tini-place, unit-form, unit-of}
 use Rattle.problem.specs.Rendering.{periods-key, units-key, demand-key, spare-key}
 use Rattle.problem.specs.Course as course
-use Rattle.problem.specs.Course.{Due, periods-due, units-due, demand-due, spare-due, unit-due, end-due, nothing-due, periods-form, units-form, demand-form, spare-form, next-due, end, tests, problem-judged}
-use Rattle.problem.specs.Refusals.{RefusedAt}
+use Rattle.problem.specs.Course.{Due, periods-due, units-due, demand-due, spare-due, unit-due, end-due, nothing-due, next-due, end, tests, problem-judged}
+use Rattle.problem.specs.Refusals.{RefusedAt, periods-form, units-form, demand-form, spare-form}
 use Rattle.problem.proofs.Refusals.{refused-is}
 
 -- ---- the law of refused lines, were lines tested otherwise

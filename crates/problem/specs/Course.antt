@@ -1,4 +1,4 @@
--- A problem's text judged line by line: what is due after the first line, and the tests 12, 14, 13, 15 of a line at its place.
+-- A problem's text judged line by line, as the code follows it: what is due after the first line, and the tests 12, 14, 13, 15 of a line at its place.
 use Prim.Native.Nat.{ℕ, zero, suc}
 use mathlib.Core.Bool.{not}
 use mathlib.Core.List.{List, [], _∷_, _++_}
@@ -7,26 +7,11 @@ use Rattle.model.specs.declared.generator.Generator.{Generator}
 use Rattle.model.specs.Instance.{Instance, _at_}
 use Rattle.model.specs.Ranges.{ordered}
 use Rattle.text.specs.Lines.{Line, later, lines-of, end-problem}
-use Rattle.text.specs.Forms.{Form, plain, numbers-of, form-tests, word-tests, nothing-tests}
+use Rattle.text.specs.Forms.{numbers-of, form-tests, word-tests, nothing-tests}
 use Rattle.text.specs.Course.{Found, Judged, judged-from}
 use Rattle.text.specs.Tests.{Test, _if_, found}
 use Rattle.problem.specs.Units.{unit-form, unit-of}
-use Rattle.problem.specs.Rendering.{periods-key, units-key, demand-key, spare-key}
-
--- ---- document 01, Texts: the forms of a problem's lines of numbers
-
-abbrev pub periods-form : Form
-periods-form = plain periods-key 1 1 48
-
-abbrev pub units-form : Form
-units-form = plain units-key 1 1 32
-
--- T numbers
-abbrev pub demand-form : ℕ → Form
-demand-form T = plain demand-key T 0 320000
-
-abbrev pub spare-form : ℕ → Form
-spare-form T = plain spare-key T 0 320000
+use Rattle.problem.specs.Refusals.{periods-form, units-form, demand-form, spare-form}
 
 -- ---- what is due
 

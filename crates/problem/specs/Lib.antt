@@ -1,7 +1,7 @@
 -- A problem's text.
 pub mod Units
 pub mod Rendering
-pub mod Course
 pub mod Refusals
+pub mod Course
 pub mod ReadAnswers
 pub mod Storing

@@ -7,11 +7,25 @@ use Rattle.model.specs.declared.generator.Generator.{Generator}
 use Rattle.model.specs.Instance.{Instance}
 use Rattle.model.specs.Ranges.{InRange, Ordered, WellFormed}
 use Rattle.text.specs.Lines.{Line, ended, later, lines-of, end-problem}
-use Rattle.text.specs.Forms.{Form}
+use Rattle.text.specs.Forms.{Form, plain}
 use Rattle.text.specs.LineRefused.{Unfit, LineRefused}
 use Rattle.problem.specs.Units.{unit-form, unit-line}
-use Rattle.problem.specs.Rendering.{lines-after}
-use Rattle.problem.specs.Course.{periods-form, units-form, demand-form, spare-form}
+use Rattle.problem.specs.Rendering.{periods-key, units-key, demand-key, spare-key, lines-after}
+
+-- ---- document 01, Texts: the forms of a problem's lines of numbers
+
+abbrev pub periods-form : Form
+periods-form = plain periods-key 1 1 48
+
+abbrev pub units-form : Form
+units-form = plain units-key 1 1 32
+
+-- T numbers
+abbrev pub demand-form : ℕ → Form
+demand-form T = plain demand-key T 0 320000
+
+abbrev pub spare-form : ℕ → Form
+spare-form T = plain spare-key T 0 320000
 
 -- ---- document 01, Texts: the lines of numbers of the text of P in their order, counted from 0 after the first line
 

@@ -8,7 +8,8 @@ use Rattle.text.specs.Lines.{lines-of, end-schedule}
 use Rattle.text.specs.Ends.{end-of, ended-by, EndDue}
 use Rattle.text.specs.declared.End.{End}
 use Rattle.text.proofs.Ends.{end-judged}
-use Rattle.schedule.specs.Course.{Written, end-due, nothing-due, judge, end}
+use Rattle.schedule.specs.Course.{end-due, nothing-due, judge, end}
+use Rattle.schedule.specs.Refusals.{Written}
 use Rattle.schedule.specs.ReadAnswers.{by-lines, in-arrays}
 use Rattle.schedule.specs.Storing.{read-from}
 

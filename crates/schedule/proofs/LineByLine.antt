@@ -11,7 +11,8 @@ use Rattle.text.specs.Forms as forms
 use Rattle.text.specs.Course.{Judged}
 use Rattle.text.specs.Tests.{Test, found}
 use Rattle.text.proofs.LineByLine.{numbers-refused, numbers-good}
-use Rattle.schedule.specs.Course.{Written, Due, tests, next-due, judge, end}
+use Rattle.schedule.specs.Course.{Due, tests, next-due, judge, end}
+use Rattle.schedule.specs.Refusals.{Written}
 use Rattle.schedule.specs.ReadAnswers.{by-lines, in-arrays}
 use Rattle.schedule.specs.Storing.{refused-read, read-from}
 use Rattle.schedule.specs.declared.ScheduleRead.{ScheduleRead}

@@ -1,5 +1,5 @@
--- A text is refused at a line exactly where no test holds of a line before it and a test holds of it, and the number is the first such
--- test's: the law of courses. Each of these numbers carries its line.
+-- A text is refused at a line by a number exactly where `RefusedAt` says so, by renderings: the law of courses, and that of which line. Each of these numbers
+-- carries its line.
 use Prim.Native.Nat.{ℕ, _<_}
 use mathlib.Core.Path.{_≡_, refl}
 use mathlib.Core.Bool.{true}

@@ -14,7 +14,8 @@ use Rattle.text.specs.Writer.{writer-form}
 use Rattle.text.proofs.Cuts.{next-lines}
 use Rattle.text.proofs.FirstLine.{schedule-is}
 use Rattle.reader.proofs.WriterLines.{Passed}
-use Rattle.schedule.specs.Course.{written, writer-due, runs-due, schedule-judged}
+use Rattle.schedule.specs.Course.{writer-due, runs-due, schedule-judged}
+use Rattle.schedule.specs.Refusals.{written}
 use Rattle.schedule.specs.ReadAnswers.{IsSchedule, schedule-outcome, schedule-read}
 use Rattle.schedule.specs.Storing.{refused-read, read-from}
 use Rattle.schedule.proofs.LineByLine.{row-passed, row-stopped}

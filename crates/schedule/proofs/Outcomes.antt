@@ -15,9 +15,9 @@ use Rattle.model.proofs.Judging.{judge-none, judge-some}
 use Rattle.refusal.specs.declared.Refusal.{Refusal}
 use Rattle.refusal.specs.Refusals.{refusal-of, carries-line, carries-unit, carries-period, line-refusal}
 use Rattle.text.specs.Course.{Judged, refused-at, accepted}
-use Rattle.schedule.specs.Course.{Written, written, schedule-judged}
+use Rattle.schedule.specs.Course.{schedule-judged}
 use Rattle.schedule.specs.ReadAnswers.{IsSchedule, Outcome, refused-by, accepted-as, by-rules, schedule-outcome}
-use Rattle.schedule.specs.Refusals.{RefusedAt}
+use Rattle.schedule.specs.Refusals.{RefusedAt, Written, written}
 use Rattle.schedule.specs.Acceptance.{rule-refusal, Accepts, AcceptsSome, BreaksFirst, RefusedFor, by-line, by-rule}
 use Rattle.schedule.proofs.Wholes.{judged-is}
 use Rattle.schedule.proofs.LinesRefused as lines
@@ -55,23 +55,23 @@ module _ (P : Instance) (text : List ℕ) where
   outcome-refused n l e = rw e refl
 
   -- what a text is found to be, by the lines and then by the rules
-  pub data Found : Outcome → Type 0 where
-    at-a-line : (n l : ℕ) → schedule-judged P text ≡ refused-at n l → Found (refused-by (refusal-of n l 0 0))
+  pub data OutcomeFound : Outcome → Type 0 where
+    at-a-line : (n l : ℕ) → schedule-judged P text ≡ refused-at n l → OutcomeFound (refused-by (refusal-of n l 0 0))
     at-a-rule : (v : Written) (b : Breach) → schedule-judged P text ≡ accepted v → first-breach P (v .rows) ≡ some b
-        → Found (refused-by (refusal-of (b .number) 0 (b .unit) (b .period)))
+        → OutcomeFound (refused-by (refusal-of (b .number) 0 (b .unit) (b .period)))
     at-no-fault : (v : Written) → schedule-judged P text ≡ accepted v → first-breach P (v .rows) ≡ none
-        → Found (accepted-as (v .writer) (cost P (v .rows)) (v .rows))
+        → OutcomeFound (accepted-as (v .writer) (cost P (v .rows)) (v .rows))
 
-  found : Found (schedule-outcome P text)
+  found : OutcomeFound (schedule-outcome P text)
   found = lines (schedule-judged P text) refl
     where
-      rules : (v : Written) (o : Option Breach) → schedule-judged P text ≡ accepted v → first-breach P (v .rows) ≡ o → Found (by-rules P v o)
+      rules : (v : Written) (o : Option Breach) → schedule-judged P text ≡ accepted v → first-breach P (v .rows) ≡ o → OutcomeFound (by-rules P v o)
       rules v none e f = at-no-fault v e f
       rules v (some b) e f = at-a-rule v b e f
 
-      lines : (j : Judged Written) → schedule-judged P text ≡ j → Found (schedule-outcome P text)
-      lines (refused-at n l) e = subst Found (sym (outcome-refused n l e)) (at-a-line n l e)
-      lines (accepted v) e = subst Found (sym (outcome-accepted v e)) (rules v (first-breach P (v .rows)) e refl)
+      lines : (j : Judged Written) → schedule-judged P text ≡ j → OutcomeFound (schedule-outcome P text)
+      lines (refused-at n l) e = subst OutcomeFound (sym (outcome-refused n l e)) (at-a-line n l e)
+      lines (accepted v) e = subst OutcomeFound (sym (outcome-accepted v e)) (rules v (first-breach P (v .rows)) e refl)
 
 -- ---- accepted
 
@@ -79,7 +79,7 @@ module _ (P : Instance) (W : WellFormed P) (text : List ℕ) (is : IsSchedule te
   pub accepted-is : (w c : ℕ) (s : Schedule) → (schedule-outcome P text ≡ accepted-as w c s) ↔ Accepts P text w c s
   accepted-is w c s = (λ e. forth (schedule-outcome P text) (found P text) e, back)
     where
-      forth : (o : Outcome) → Found P text o → o ≡ accepted-as w c s → Accepts P text w c s
+      forth : (o : Outcome) → OutcomeFound P text o → o ≡ accepted-as w c s → Accepts P text w c s
       forth o (at-a-line n l e) q = absurd (let z : _≡_ {A = ℕ} 0 1 = cc in omega arith)
       forth o (at-a-rule v b e f) q = absurd (let z : _≡_ {A = ℕ} 0 1 = cc in omega arith)
       forth o (at-no-fault v e f) q =
@@ -123,7 +123,7 @@ module _ (P : Instance) (W : WellFormed P) (text : List ℕ) (is : IsSchedule te
   pub refused-is : (r : Refusal) → (schedule-outcome P text ≡ refused-by r) ↔ RefusedFor P text r
   refused-is r = (λ e. forth (schedule-outcome P text) (found P text) r e, back r)
     where
-      forth : (o : Outcome) → Found P text o → (r : Refusal) → o ≡ refused-by r → RefusedFor P text r
+      forth : (o : Outcome) → OutcomeFound P text o → (r : Refusal) → o ≡ refused-by r → RefusedFor P text r
       forth o (at-a-line n l e) r q =
           let k : refusal-of n l 0 0 ≡ r = cc in
           let t = lines.refused-is P (W .periods-in .0) text n l .0 e in

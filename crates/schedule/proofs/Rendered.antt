@@ -23,7 +23,8 @@ use Rattle.text.proofs.Courses.{good-more}
 use Rattle.text.proofs.Verdicts.{form-found}
 use Rattle.judge.proofs.Rows.{all-at}
 use Rattle.schedule.specs.Rendering.{run-key, lines-of-rows, lines-after}
-use Rattle.schedule.specs.Course.{Written, written, Due, writer-due, run-due, end-due, nothing-due, runs-due, with-row, run-form, tests, next-due, judge, end}
+use Rattle.schedule.specs.Course.{Due, writer-due, run-due, end-due, nothing-due, runs-due, with-row, tests, next-due, judge, end}
+use Rattle.schedule.specs.Refusals.{Written, written, run-form}
 use Rattle.schedule.proofs.Alls.{all-from}
 
 -- ---- one line at its place

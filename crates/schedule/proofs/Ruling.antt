@@ -9,7 +9,7 @@ use Rattle.judge.specs.declared.Judgement.the-variants.{Breaks, Costs}
 use Rattle.judge.specs.Judgement.{judgement}
 use Rattle.judge.specs.Rows.{cut-rows}
 use Rattle.judge.proofs.RuleByRule.{refused-is, accepted-is}
-use Rattle.schedule.specs.Course.{written}
+use Rattle.schedule.specs.Refusals.{written}
 use Rattle.schedule.specs.ReadAnswers.{refused-by, accepted-as, by-rules, ruled, in-arrays}
 use Rattle.schedule.specs.Storing.{Filled}
 use Rattle.schedule.specs.declared.ScheduleAnswer.the-variants.{Accepted}

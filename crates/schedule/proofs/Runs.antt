@@ -18,7 +18,8 @@ use Rattle.text.specs.Forms as forms
 use Rattle.text.proofs.Fills.{PlainFilled}
 use Rattle.judge.specs.Rows.{cut-rows}
 use Rattle.schedule.specs.Rendering.{run-key}
-use Rattle.schedule.specs.Course.{Written, written, run-due, end-due, runs-due, with-row, run-form}
+use Rattle.schedule.specs.Course.{run-due, end-due, runs-due, with-row}
+use Rattle.schedule.specs.Refusals.{Written, written, run-form}
 use Rattle.schedule.specs.Storing.{refused-read, read-from, Filled}
 use Rattle.schedule.specs.declared.ScheduleRead.{ScheduleRead}
 use Rattle.schedule.proofs.LineByLine.{row-passed, row-stopped}

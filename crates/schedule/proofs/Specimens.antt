@@ -20,7 +20,7 @@ use Rattle.text.specs.Forms.{malformed, wrong-count, outside-range}
 use Rattle.text.specs.Rendering.{plain-line, text-of}
 use Rattle.text.specs.Writer.{writer-key}
 use Rattle.text.specs.Course.{judged-from}
-use Rattle.text.proofs.Examples.{lines}
+use Rattle.text.specs.Strings.{lines}
 use Rattle.schedule.specs.Rendering.{run-key, render}
 use Rattle.schedule.specs.Course.{judge, schedule-judged}
 use Rattle.schedule.specs.ReadAnswers.{IsSchedule, Outcome, refused-by, accepted-as, schedule-outcome}

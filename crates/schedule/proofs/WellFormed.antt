@@ -10,15 +10,15 @@ use Rattle.model.specs.Instance.{Instance, Schedule}
 use Rattle.model.specs.Ranges as ranges
 use Rattle.model.specs.Ranges.{GoodWriter, GoodRows}
 use Rattle.text.specs.Lines.{Line, later, lines-of, line-at}
-use Rattle.text.specs.Tests.{RefusedAt}
+use Rattle.text.specs.Tests.{StopsAt}
 use Rattle.text.specs.WellFormed.{of-form}
 use Rattle.text.proofs.Tests.{Every}
 use Rattle.text.proofs.Courses.{number-every}
 use Rattle.text.proofs.FirstLine.{schedule-is}
 use Rattle.text.proofs.WellFormed.{unrefused-passed, passed-unrefused}
 use Rattle.schedule.specs.Rendering.{render}
-use Rattle.schedule.specs.Course.{written, Due, writer-due, run-due, end-due, nothing-due, tests, next-due, end}
-use Rattle.schedule.specs.Refusals.{BrokenAt}
+use Rattle.schedule.specs.Course.{Due, writer-due, run-due, end-due, nothing-due, tests, next-due, end}
+use Rattle.schedule.specs.Refusals.{BrokenAt, written}
 use Rattle.schedule.specs.ReadAnswers.{IsSchedule}
 use Rattle.schedule.specs.WellFormed.{WellFormed}
 use Rattle.schedule.proofs.Rendered.{lines-good-is}
@@ -36,7 +36,7 @@ module _ (P : Instance) where
       → WellFormed P text ↔ ((length text ≤ 1048576) × ((w : ℕ) × (s : Schedule) × ((text ≡ render w s) × GoodWriter w × GoodRows P s)))
   well-formed-is W text = (forth, back)
     where
-      which : (n m : ℕ) → RefusedAt (tests P) (next-due P) end n m 2 writer-due (later (lines-of text)) ↔ BrokenAt P n m (later (lines-of text))
+      which : (n m : ℕ) → StopsAt (tests P) (next-due P) end n m 2 writer-due (later (lines-of text)) ↔ BrokenAt P n m (later (lines-of text))
       which n m = line-refused-is P (W .periods-in .0) n m (later (lines-of text))
 
       forth : WellFormed P text → (length text ≤ 1048576) × ((w : ℕ) × (s : Schedule) × ((text ≡ render w s) × GoodWriter w × GoodRows P s))

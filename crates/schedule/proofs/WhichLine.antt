@@ -6,39 +6,25 @@ use mathlib.Core.Path.{_≡_, refl, sym, ap, subst, _∙_}
 use mathlib.Core.Bool.{Bool}
 use mathlib.Core.Logic.{_↔_, _⊎_, inl, inr}
 use mathlib.Core.List.{List, [], _∷_, _++_, map}
-use mathlib.Core.Option.{none, some}
-use lib.ListN.{length, length-append, length-map}
+use lib.ListN.{length, length-append, length-map, replicate, length-replicate}
 use Rattle.model.specs.Instance.{Instance, _at_}
-use Rattle.model.specs.Ranges.{All, GoodOutput, GoodRows}
-use Rattle.text.specs.Lines.{Line, ended, end-schedule, due}
+use Rattle.model.specs.Ranges.{GoodRows}
+use Rattle.model.proofs.Zeros.{zeros-in}
+use Rattle.text.specs.Lines.{Line, ended, end-schedule}
 use Rattle.text.specs.Forms.{Form, numbers-of}
 use Rattle.text.specs.Rendering.{plain-line}
 use Rattle.text.specs.Writer.{writer-key, writer-form}
-use Rattle.text.specs.Tests.{FirstTrue, None, Passed, none-yet, one-more, AllPassed, tests-before, RefusedAt}
+use Rattle.text.specs.Tests.{FirstTrue, None, none-yet, one-more, AllPassed, tests-before, StopsAt}
 use Rattle.text.specs.LineRefused.{Unfit, Beginning, Refuses}
 use Rattle.text.proofs.Courses as courses
 use Rattle.text.proofs.Tests.{first-every}
 use Rattle.text.proofs.Unfit.{Fits}
 use Rattle.text.proofs.WhichLine as which
-use Rattle.text.proofs.WhichLine.{Follows}
-use Rattle.schedule.specs.Rendering.{run-key, lines-of-rows, lines-after}
-use Rattle.schedule.specs.Course.{Written, written, Due, writer-due, run-due, end-due, nothing-due, runs-due, with-row, run-form, tests, next-due, end}
-use Rattle.schedule.specs.Refusals.{FormAt, writer, run, written-lines, Breaks, InLimits, BrokenAt}
+use Rattle.text.proofs.WhichLine.{Faithful}
+use Rattle.schedule.specs.Rendering.{run-key}
+use Rattle.schedule.specs.Course.{Due, writer-due, run-due, end-due, nothing-due, runs-due, with-row, tests, next-due, end}
+use Rattle.schedule.specs.Refusals.{FormAt, writer, run, written-lines, Breaks, InLimits, BrokenAt, Written, written, run-form}
 use Rattle.schedule.proofs.Rendered.{Passes, also, line-run, line-end, line-writer, lines-good-is}
-
-zeros : ℕ → List ℕ
-zeros zero = []
-zeros (suc n) = 0 ∷ zeros n
-
-zeros-long : (n : ℕ) → length (zeros n) ≡ n
-unfolding zeros
-zeros-long zero = refl
-zeros-long (suc n) = ap suc (zeros-long n)
-
-zeros-in : (n : ℕ) → All GoodOutput (zeros n)
-unfolding zeros
-zeros-in zero = tt
-zeros-in (suc n) = ((omega arith, omega arith), zeros-in n)
 
 module _ (P : Instance) (h : 0 < P .periods) where
   -- lines that complete a text from where s is due on
@@ -50,14 +36,14 @@ module _ (P : Instance) (h : 0 < P .periods) where
   from-runs : (n : ℕ) (v : Written) → Completes (runs-due n v)
   from-runs zero v = record { lines = ended end-schedule ∷ []; gives = v; all = record { last = nothing-due v; passed = also P (line-end P v) none-yet; ends = refl } }
   from-runs (suc n) v =
-      let r = zeros (P .periods) in
+      let r : List ℕ = replicate (P .periods) 0 in
       let c = from-runs n (with-row v r) in
       record {
         lines = ended (plain-line run-key r) ∷ c .lines;
         gives = c .gives;
         all = record {
           last = c .all .last;
-          passed = also P (line-run P h n v r (zeros-long (P .periods)) (zeros-in (P .periods))) (c .all .passed);
+          passed = also P (line-run P h n v r (length-replicate (P .periods) 0) (zeros-in 10000 (P .periods))) (c .all .passed);
           ends = c .all .ends;
         };
       }
@@ -194,11 +180,11 @@ module _ (P : Instance) (h : 0 < P .periods) where
       (λ x b. beyond k (omega (arith, r)) (b .0) (b .1))
 
   -- the machine of Course.antt follows the texts of schedules
-  follows : Follows (tests P) (next-due P) end written-lines end-schedule (InLimits P) (Breaks P) writer-due Stands
+  follows : Faithful (tests P) (next-due P) end written-lines end-schedule (InLimits P) (Breaks P) writer-due Stands
   follows = record { passes = begins-passed; begins = passed-begins; refuses = refuses }
 
   module _ (n m : ℕ) (ls : List Line) where
-    pub line-refused-is : RefusedAt (tests P) (next-due P) end n m 2 writer-due ls ↔ BrokenAt P n m ls
+    pub line-refused-is : StopsAt (tests P) (next-due P) end n m 2 writer-due ls ↔ BrokenAt P n m ls
     line-refused-is = which.line-refused-is (tests P) (next-due P) end written-lines end-schedule (InLimits P) (Breaks P) follows n m ls
 
     -- with the refused line the lines begin the text of no writer and rows in range

@@ -14,7 +14,8 @@ use Rattle.text.proofs.Bytes.{rendered-one-line}
 use Rattle.text.proofs.Texts.{OneLines, lines-text, whole-is}
 use Rattle.text.proofs.Courses as courses
 use Rattle.schedule.specs.Rendering.{run-key, lines-of-rows, lines-after, render}
-use Rattle.schedule.specs.Course.{Written, written, writer-due, tests, next-due, judge, end, schedule-judged}
+use Rattle.schedule.specs.Course.{writer-due, tests, next-due, judge, end, schedule-judged}
+use Rattle.schedule.specs.Refusals.{Written, written}
 use Rattle.schedule.specs.ReadAnswers.{IsSchedule}
 use Rattle.schedule.proofs.Rendered.{lines-good-is}
 

@@ -1,4 +1,4 @@
--- When a schedule's text is accepted and when it is refused, in document 01's words: renderings, ranges, rules and the tests of a line.
+-- When a schedule's text is accepted and when it is refused, in document 01's words: renderings, ranges and rules.
 use Prim.Native.Nat.{ℕ}
 use mathlib.Core.Path.{_≡_}
 use mathlib.Core.List.{List}

@@ -1,31 +1,17 @@
--- A schedule's text judged line by line: what is due after the first line, and what each line is found to be at its place.
+-- A schedule's text judged line by line, as the code follows it: what is due after the first line, and what each line is found to be at its place.
 use Prim.Native.Nat.{ℕ, zero, suc}
 use mathlib.Core.List.{List, [], _∷_, _++_}
 use mathlib.Core.Option.{Option, none, some}
 use lib.ListN.{length}
-use Rattle.model.specs.Instance.{Instance, Schedule, _at_}
+use Rattle.model.specs.Instance.{Instance, _at_}
 use Rattle.text.specs.Lines.{Line, later, lines-of, end-schedule}
-use Rattle.text.specs.Forms.{Form, plain, numbers-of, form-tests, word-tests, nothing-tests}
+use Rattle.text.specs.Forms.{numbers-of, form-tests, word-tests, nothing-tests}
 use Rattle.text.specs.Writer.{writer-form}
 use Rattle.text.specs.Course.{Found, Judged, judged-from}
 use Rattle.text.specs.Tests.{Test, found}
-use Rattle.schedule.specs.Rendering.{run-key}
-
--- ---- document 01, Texts: the form of a run line
-
--- T outputs, 0 to 10,000
-abbrev pub run-form : ℕ → Form
-run-form T = plain run-key T 0 10000
+use Rattle.schedule.specs.Refusals.{run-form, Written, written}
 
 -- ---- what is due
-
--- what the lines say: a writer, and rows
-pub record Written : Type 0 where
-  pub writer : ℕ
-  pub rows : Schedule
-
-abbrev pub written : ℕ → Schedule → Written
-written w s = record { writer = w; rows = s }
 
 -- the line that is due, with what the lines above it said; of a run line also how many run lines follow it
 pub data Due : Type 0 where

@@ -1,7 +1,7 @@
 -- A schedule's text: how it is written, how it is judged, and what reading it gives.
 pub mod Rendering
-pub mod Course
 pub mod Refusals
+pub mod Course
 pub mod ReadAnswers
 pub mod Acceptance
 pub mod Storing

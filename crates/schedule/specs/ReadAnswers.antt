@@ -13,7 +13,8 @@ use Rattle.refusal.specs.Refusals.{refusal-of}
 use Rattle.text.specs.Lines.{line-at, kind-of}
 use Rattle.text.specs.Course.{Judged, refused-at, accepted}
 use Rattle.text.specs.declared.Kind.the-variants as kind
-use Rattle.schedule.specs.Course.{Written, schedule-judged}
+use Rattle.schedule.specs.Course.{schedule-judged}
+use Rattle.schedule.specs.Refusals.{Written}
 use Rattle.schedule.specs.declared.ScheduleAnswer.the-variants.{Refused, Accepted}
 use Rattle.schedule.specs.declared.ScheduleRead.{ScheduleRead}
 

@@ -5,7 +5,8 @@ ghost use Prim.Native.Nat.{_+_};
 ghost use Rattle.model.specs.Held.{view, Valid};
 ghost use Rattle.refusal.specs.Refusals.{refusal-of};
 ghost use Rattle.judge.specs.Rows.{schedule-of};
-ghost use Rattle.schedule.specs.Course.{written, runs-due, end-due};
+ghost use Rattle.schedule.specs.Course.{runs-due, end-due};
+ghost use Rattle.schedule.specs.Refusals.{written};
 ghost use Rattle.schedule.specs.ReadAnswers.{IsSchedule, refused-by, ruled, in-arrays, schedule-read};
 ghost use Rattle.schedule.specs.Storing.{read-from, Filled};
 

@@ -11,7 +11,7 @@ use native.Mathlib.Omega.{arith}
 use lib.ListN.{length}
 use Rattle.text.specs.Lines.{Line}
 use Rattle.text.specs.Course.{Found, refused, good, refused-at, accepted, at-end, at-line, judged-from}
-use Rattle.text.specs.Tests.{Test, _if_, FirstTrue, this, None, found, Passed, none-yet, one-more, tests-of-missing, tests-before, RefusedAt, AllPassed}
+use Rattle.text.specs.Tests.{Test, _if_, FirstTrue, this, None, found, Passed, none-yet, one-more, tests-of-missing, tests-before, StopsAt, AllPassed}
 use Rattle.text.proofs.Tests.{found-refused-is, none-good, good-none, Every, first-every}
 
 module _ {S R : Type 0} (tests : S → Line → List Test) (next-due : S → Line → S) (end : S → Option R) where
@@ -57,7 +57,7 @@ module _ {S R : Type 0} (tests : S → Line → List Test) (next-due : S → Lin
 
   -- ---- refused
 
-  refused-first : (n m l : ℕ) (s : S) (ls : List Line) → judged-from judge end l s ls ≡ refused-at n m → RefusedAt tests next-due end n m l s ls
+  refused-first : (n m l : ℕ) (s : S) (ls : List Line) → judged-from judge end l s ls ≡ refused-at n m → StopsAt tests next-due end n m l s ls
   unfolding judged-from
   refused-first n m l s [] e = record {
     before = [];
@@ -78,8 +78,8 @@ module _ {S R : Type 0} (tests : S → Line → List Test) (next-due : S → Lin
   refused-first n m l s (x ∷ ls) e = go (judge s x) refl e (λ t k. refused-first n m (suc l) t ls k)
     where
       go : (f : Found S) → judge s x ≡ f → at-line judge end l f (λ t. judged-from judge end (suc l) t ls) ≡ refused-at n m
-          → ((t : S) → judged-from judge end (suc l) t ls ≡ refused-at n m → RefusedAt tests next-due end n m (suc l) t ls)
-          → RefusedAt tests next-due end n m l s (x ∷ ls)
+          → ((t : S) → judged-from judge end (suc l) t ls ≡ refused-at n m → StopsAt tests next-due end n m (suc l) t ls)
+          → StopsAt tests next-due end n m l s (x ∷ ls)
       go (refused k) p e ih =
           record {
             before = [];
@@ -120,7 +120,7 @@ module _ {S R : Type 0} (tests : S → Line → List Test) (next-due : S → Lin
       rw (passed-line s t x h e) (passed-refused n (suc l) t s′ before rest p f ∙ ap (refused-at n) q)
 
   pub refused-is : (n m l : ℕ) (s : S) (ls : List Line)
-      → (judged-from judge end l s ls ≡ refused-at n m) ↔ RefusedAt tests next-due end n m l s ls
+      → (judged-from judge end l s ls ≡ refused-at n m) ↔ StopsAt tests next-due end n m l s ls
   refused-is n m l s ls = (
     refused-first n m l s ls,
     λ r. rw (r .parts, r .place) (passed-refused n l s (r .stands) (r .before) (r .rest) (r .passed) (r .first)),
@@ -128,7 +128,7 @@ module _ {S R : Type 0} (tests : S → Line → List Test) (next-due : S → Lin
 
   -- what holds of 12 and of each number of the tests holds of a number that refuses a line
   pub number-every : (Q : ℕ → Type 0) → Q 12 → ((s : S) (x : Line) → Every Q (tests s x)) → (n m l : ℕ) (s : S) (ls : List Line)
-      → RefusedAt tests next-due end n m l s ls → Q n
+      → StopsAt tests next-due end n m l s ls → Q n
   number-every Q h all n m l s ls r = go (r .rest) (r .first)
     where
       missing : (o : Option R) → Every Q (tests-of-missing tests next-due end o)

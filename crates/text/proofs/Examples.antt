@@ -1,7 +1,5 @@
 -- Lines of document 01's example, by computation.
 use Prim.Native.Nat.{ℕ}
-use Prim.Native.Char.{code}
-use Prim.Native.String.{String, [] as no-more, _∷_ as _then_}
 use mathlib.Core.Path.{_≡_, refl}
 use mathlib.Core.Bool.{true, false}
 use mathlib.Core.List.{List, [], _∷_, _++_}
@@ -12,18 +10,6 @@ use Rattle.text.specs.Rendering.{rendered}
 use Rattle.decimal.specs.Decimal.{digits, digits-by}
 use Rattle.text.specs.declared.Kind.the-variants.{Unknown, Tree}
 use Rattle.text.specs.declared.End.the-variants.{Missing, Followed, Last}
-
--- ---- texts written as their lines
-
--- the codes of the characters, each of which is one byte in a text
-abbrev pub bytes : String → List ℕ
-bytes no-more = []
-bytes (c then s) = code c ∷ bytes s
-
--- each line ended by byte 10
-abbrev pub lines : List String → List ℕ
-lines [] = []
-lines (l ∷ ls) = bytes l ++ (10 ∷ lines ls)
 
 -- ---- lines of numbers
 

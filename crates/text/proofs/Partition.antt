@@ -11,9 +11,9 @@ use lib.Seq.{drop-append-seam}
 use lib.Dec.{eqb}
 use borrow.Author.Tests.{not-false}
 use Rattle.text.specs.Lines.{Line, missing, unended, ended, begins}
-use Rattle.text.specs.Forms.{Form, cut-values, all-formed, sizes, any-minus, values-of, numbers-of, all-within, malformed, wrong-count, outside-range}
+use Rattle.text.specs.Forms.{Form, cut-values, all-formed, sizes, any-minus, values-of, all-within, malformed, wrong-count, outside-range}
 use Rattle.text.specs.LineRefused.{Renders}
-use Rattle.text.specs.Rendering.{comma-joined, shown, all-shown, rendered}
+use Rattle.text.specs.Rendering.{comma-joined, shown, all-shown}
 use Rattle.text.proofs.Cuts.{and-both}
 use Rattle.text.proofs.Keys.{begins-append, begins-text}
 use Rattle.text.proofs.Joins.{joined-cut, cut-joined, values-some}

@@ -1,6 +1,6 @@
 -- The tests 12, 14, 13 of a line where a line of numbers is due, said by renderings: n is the first that holds exactly where the line is unfit by n, and none
 -- holds exactly where it shows as many values as are due, each in its range. So too where a word is due, and where nothing is.
-use Prim.Native.Nat.{ℕ, _≤_}
+use Prim.Native.Nat.{ℕ}
 use native.Mathlib.Omega.{arith}
 use mathlib.Core.Path.{_≡_, refl, sym, ap, subst, _∙_}
 use mathlib.Core.Bool.{Bool, true, false, not, _&&_}
@@ -68,6 +68,20 @@ module _ (f : Form) (l : Line) where
         ),
       )
 
+  pub passes-fits : None (form-tests f l []) → (neg : Bool) × (vs : List ℕ) × Fits f l neg vs
+  passes-fits h =
+      let r = twelve-is f l .0 (h .0) in
+      let c = sym (fourteen-is f l (r .0) (r .1) (r .2)) ∙ h .1 .0 in
+      let g = sym (thirteen-is f l (r .0) (r .1) (r .2)) ∙ h .1 .1 .0 in (
+        r .0,
+        r .1,
+        record {
+          renders = r .2;
+          count = eqb-true (length (r .1)) (length (f .lows)) (not-false (eqb (length (r .1)) (length (f .lows))) c);
+          range = ranges-true (r .1) (f .lows) (f .highs) (not-false (all-within (r .1) (f .lows) (f .highs)) g);
+        },
+      )
+
   module _ (ts : List Test) where
     abbrev Judged : ℕ → Type 0
     Judged n = Unfit f l n ⊎ (((neg : Bool) × (vs : List ℕ) × Fits f l neg vs) × FirstTrue n ts)
@@ -114,10 +128,10 @@ module _ (f : Form) (l : Line) where
 
 module _ {S R : Type 0} (tests : S → Line → List Test) (next-due : S → Line → S) (end : S → Option R) (s : S) where
   -- a line of numbers
-  pub numbers-due : (f : Form) (more : Line → List Test) → end s ≡ none → ((l : Line) → tests s l ≡ form-tests f l (more l)) → (left : List Line) (n : ℕ)
+  pub numbers-first : (f : Form) (more : Line → List Test) → end s ≡ none → ((l : Line) → tests s l ≡ form-tests f l (more l)) → (left : List Line) (n : ℕ)
       → FirstTrue n (tests-before tests next-due end s left)
       ↔ (Unfit f (due left) n ⊎ (((neg : Bool) × (vs : List ℕ) × Fits f (due left) neg vs) × FirstTrue n (more (due left))))
-  numbers-due f more e same [] n = (λ h. inl (missing-forth h), λ h. missing-back h)
+  numbers-first f more e same [] n = (λ h. inl (missing-forth h), λ h. missing-back h)
     where
       no-line : (neg : Bool) (vs : List ℕ) → Renders f missing neg vs → ⊥
       no-line neg vs r = let q = r .line in let z : _≡_ {A = ℕ} 0 1 = cc in omega arith
@@ -135,19 +149,19 @@ module _ {S R : Type 0} (tests : S → Line → List Test) (next-due : S → Lin
       missing-back : Unfit f missing n ⊎ (((neg : Bool) × (vs : List ℕ) × Fits f missing neg vs) × FirstTrue n (more missing)) → FirstTrue n (tests-of-missing tests next-due end (end s))
       missing-back (inl u) = rw (e, only-twelve n u) (this refl)
       missing-back (inr (t, h)) = absurd (no-line (t .0) (t .1) (t .2 .renders))
-  numbers-due f more e same (x ∷ left) n = rw (same x) (first-is f x (more x) n)
+  numbers-first f more e same (x ∷ left) n = rw (same x) (first-is f x (more x) n)
 
   -- a word
-  pub word-due : (w : List ℕ) → end s ≡ none → ((l : Line) → tests s l ≡ word-tests w l) → (left : List Line) (n : ℕ)
+  pub word-first : (w : List ℕ) → end s ≡ none → ((l : Line) → tests s l ≡ word-tests w l) → (left : List Line) (n : ℕ)
       → FirstTrue n (tests-before tests next-due end s left) ↔ ((n ≡ 12) × (due left ≡ ended w → ⊥))
-  word-due w e same [] n = (forth, back)
+  word-first w e same [] n = (forth, back)
     where
       forth : FirstTrue n (tests-of-missing tests next-due end (end s)) → (n ≡ 12) × (missing ≡ ended w → ⊥)
       forth h = (twelve-alone n (subst (λ (o : Option R). FirstTrue n (tests-of-missing tests next-due end o)) e h), λ q. let z : _≡_ {A = ℕ} 0 1 = cc in omega arith)
 
       back : (n ≡ 12) × (missing ≡ ended w → ⊥) → FirstTrue n (tests-of-missing tests next-due end (end s))
       back h = rw (e, h .0) (this refl)
-  word-due w e same (x ∷ left) n = rw (same x) (forth n, back)
+  word-first w e same (x ∷ left) n = rw (same x) (forth n, back)
     where
       forth : (n : ℕ) → FirstTrue n (word-tests w x) → (n ≡ 12) × (x ≡ ended w → ⊥)
       forth n (this p) = (refl, λ q. true-not-false (is-line w x) (ap (is-line w) q ∙ same-self w) (not-true (is-line w x) p))
@@ -156,13 +170,13 @@ module _ {S R : Type 0} (tests : S → Line → List Test) (next-due : S → Lin
       back h = rw (h .0) (this (otherwise (not (is-line w x)) (λ p. h .1 (word-is w x (not-false (is-line w x) p)))))
 
   -- nothing
-  pub nothing-due : (v : R) → end s ≡ some v → ((l : Line) → tests s l ≡ nothing-tests) → (left : List Line) (n : ℕ)
+  pub nothing-first : (v : R) → end s ≡ some v → ((l : Line) → tests s l ≡ nothing-tests) → (left : List Line) (n : ℕ)
       → FirstTrue n (tests-before tests next-due end s left) ↔ ((n ≡ 12) × (left ≡ [] → ⊥))
-  nothing-due v e same [] n = (forth, λ h. absurd (h .1 refl))
+  nothing-first v e same [] n = (forth, λ h. absurd (h .1 refl))
     where
       forth : FirstTrue n (tests-of-missing tests next-due end (end s)) → (n ≡ 12) × (_≡_ {A = List Line} [] [] → ⊥)
       forth h = absurd (first-every (λ _. ⊥) n [] tt (subst (λ (o : Option R). FirstTrue n (tests-of-missing tests next-due end o)) e h))
-  nothing-due v e same (x ∷ left) n = rw (same x) (
+  nothing-first v e same (x ∷ left) n = rw (same x) (
     λ h. (twelve-alone n h, λ q. let z : _≡_ {A = ℕ} 0 1 = cc in omega arith),
     λ h. rw (h .0) (this refl),
   )

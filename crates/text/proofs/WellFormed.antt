@@ -7,7 +7,7 @@ use mathlib.Core.List.{List, [], _∷_}
 use mathlib.Core.Option.{Option}
 use Rattle.text.specs.Lines.{Line}
 use Rattle.text.specs.Course.{Judged, refused-at, accepted, judged-from}
-use Rattle.text.specs.Tests.{Test, _if_, None, RefusedAt, AllPassed}
+use Rattle.text.specs.Tests.{Test, _if_, None, StopsAt, AllPassed}
 use Rattle.text.specs.WellFormed.{of-form}
 use Rattle.text.proofs.Courses as courses
 
@@ -25,14 +25,14 @@ none-of-form (n if b ∷ ts) h = go (of-form n) (none-of-form ts (h .1))
     go false r = r
 
 module _ {S R : Type 0} (tests : S → Line → List Test) (next-due : S → Line → S) (end : S → Option R) (l : ℕ) (s : S) (ls : List Line) where
-  pub unrefused-passed : ((n m : ℕ) → RefusedAt tests next-due end n m l s ls → ⊥) → (v : R) × AllPassed tests next-due end v s ls
+  pub unrefused-passed : ((n m : ℕ) → StopsAt tests next-due end n m l s ls → ⊥) → (v : R) × AllPassed tests next-due end v s ls
   unrefused-passed h = go (judged-from (courses.judge tests next-due end) end l s ls) refl
     where
       go : (j : Judged R) → judged-from (courses.judge tests next-due end) end l s ls ≡ j → (v : R) × AllPassed tests next-due end v s ls
       go (refused-at n m) e = absurd (h n m (courses.refused-is tests next-due end n m l s ls .0 e))
       go (accepted v) e = (v, courses.accepted-is tests next-due end v l s ls .0 e)
 
-  pub passed-unrefused : (v : R) → AllPassed tests next-due end v s ls → (n m : ℕ) → RefusedAt tests next-due end n m l s ls → ⊥
+  pub passed-unrefused : (v : R) → AllPassed tests next-due end v s ls → (n m : ℕ) → StopsAt tests next-due end n m l s ls → ⊥
   passed-unrefused v a n m r =
       let p = courses.accepted-is tests next-due end v l s ls .1 a in
       let q = courses.refused-is tests next-due end n m l s ls .1 r in

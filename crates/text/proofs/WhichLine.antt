@@ -3,17 +3,17 @@
 -- is refused as LineRefused.antt says; and with the refused line the lines begin no text.
 use Prim.Native.Nat.{ℕ, suc, _+_, _<_}
 use native.Mathlib.Omega.{arith}
-use mathlib.Core.Path.{_≡_, refl, sym, ap, subst, _∙_}
+use mathlib.Core.Path.{_≡_, refl, sym, subst, _∙_}
 use mathlib.Core.Bool.{Bool}
 use mathlib.Core.List.{List, [], _∷_, _++_}
-use mathlib.Core.Logic.{_↔_, _⊎_, inl, inr}
+use mathlib.Core.Logic.{_↔_, _⊎_}
 use mathlib.Core.Option.{Option, none, some}
 use lib.ListN.{length}
 use Rattle.text.specs.Lines.{Line, ended, due}
 use Rattle.text.specs.Forms.{Form, form-tests, word-tests, nothing-tests}
-use Rattle.text.specs.Tests.{Test, _if_, FirstTrue, this, after, None, Passed, none-yet, one-more, tests-before, RefusedAt}
+use Rattle.text.specs.Tests.{Test, _if_, FirstTrue, this, after, None, Passed, none-yet, one-more, tests-before, StopsAt}
 use Rattle.text.specs.LineRefused.{Unfit, Beginning, Refuses, at-numbers, at-last, behind-last, LineRefused}
-use Rattle.text.proofs.Unfit.{Fits, numbers-due, word-due, nothing-due}
+use Rattle.text.proofs.Unfit.{Fits, numbers-first, word-first, nothing-first}
 
 none-first : (n : ℕ) (ts : List Test) → None ts → FirstTrue n ts → ⊥
 none-first n (m if b ∷ ts) h (this e) = let k = h .0 in let z : _≡_ {A = ℕ} 0 1 = cc in omega arith
@@ -33,14 +33,14 @@ module _ {S R : Type 0} (tests : S → Line → List Test) (next-due : S → Lin
   module _ {Value : Type 0} (lines : Value → List (List ℕ)) (last : List ℕ) (InLimits : Value → ℕ → Type 0) (Breaks : Value → ℕ → Line → ℕ → Type 0) where
     -- the way to judge follows the texts: s is due where line k of v is (`Stands`), lines that begin a text pass and end there, lines that pass begin one, and
     -- the numbers there are the same
-    pub record Follows (start : S) (Stands : Value → ℕ → S → Type 0) : Type 0 where
+    pub record Faithful (start : S) (Stands : Value → ℕ → S → Type 0) : Type 0 where
       pub passes : (v : Value) (ls : List Line) → Beginning lines InLimits ls v → (s : S) × Stands v (length ls) s × Passed tests next-due start ls s
       pub begins : (s : S) (ls : List Line) → Passed tests next-due start ls s → (v : Value) × Beginning lines InLimits ls v
       pub refuses : (v : Value) (k : ℕ) (s : S) → Stands v k s → (left : List Line) (n : ℕ)
           → FirstTrue n (tests-before tests next-due end s left) ↔ Refuses lines last InLimits Breaks v k left n
 
-    module _ {start : S} {Stands : Value → ℕ → S → Type 0} (F : Follows start Stands) (n m : ℕ) (ls : List Line) where
-      by-lines : RefusedAt tests next-due end n m 2 start ls → LineRefused lines last InLimits Breaks n m ls
+    module _ {start : S} {Stands : Value → ℕ → S → Type 0} (F : Faithful start Stands) (n m : ℕ) (ls : List Line) where
+      by-lines : StopsAt tests next-due end n m 2 start ls → LineRefused lines last InLimits Breaks n m ls
       by-lines r =
           let b = F .begins (r .stands) (r .before) (r .passed) in
           let p = F .passes (b .0) (r .before) (b .1) in
@@ -55,7 +55,7 @@ module _ {S R : Type 0} (tests : S → Line → List Test) (next-due : S → Lin
             refuses = F .refuses (b .0) (length (r .before)) (p .0) (p .1) (r .rest) n .0 (subst (λ (s : S). FirstTrue n (tests-before tests next-due end s (r .rest))) e (r .first));
           }
 
-      by-tests : LineRefused lines last InLimits Breaks n m ls → RefusedAt tests next-due end n m 2 start ls
+      by-tests : LineRefused lines last InLimits Breaks n m ls → StopsAt tests next-due end n m 2 start ls
       by-tests r =
           let p = F .passes (r .value) (r .before) (r .begins) in
           record {
@@ -68,7 +68,7 @@ module _ {S R : Type 0} (tests : S → Line → List Test) (next-due : S → Lin
             first = F .refuses (r .value) (length (r .before)) (p .0) (p .1) (r .left) n .1 (r .refuses);
           }
 
-      pub line-refused-is : RefusedAt tests next-due end n m 2 start ls ↔ LineRefused lines last InLimits Breaks n m ls
+      pub line-refused-is : StopsAt tests next-due end n m 2 start ls ↔ LineRefused lines last InLimits Breaks n m ls
       line-refused-is = (by-lines, by-tests)
 
       -- with the refused line the lines begin no text
@@ -93,8 +93,8 @@ module _ {S R : Type 0} (tests : S → Line → List Test) (next-due : S → Lin
           → ((l : Line) → Breaks v k l n ↔ (Unfit f l n ⊎ (((neg : Bool) × (vs : List ℕ) × Fits f l neg vs) × FirstTrue n (more l))))
           → FirstTrue n (tests-before tests next-due end s left) ↔ Refuses lines last InLimits Breaks v k left n
       numbers-refuse f more e same inside b = (
-        λ t. at-numbers (b (due left) .1 (numbers-due tests next-due end s f more e same left n .0 t)),
-        λ r. numbers-due tests next-due end s f more e same left n .1 (b (due left) .0 (back n r)),
+        λ t. at-numbers (b (due left) .1 (numbers-first tests next-due end s f more e same left n .0 t)),
+        λ r. numbers-first tests next-due end s f more e same left n .1 (b (due left) .0 (back n r)),
       )
         where
           back : (n : ℕ) → Refuses lines last InLimits Breaks v k left n → Breaks v k (due left) n
@@ -104,11 +104,11 @@ module _ {S R : Type 0} (tests : S → Line → List Test) (next-due : S → Lin
 
       pub last-refuses : end s ≡ none → ((l : Line) → tests s l ≡ word-tests last l) → suc k ≡ length (lines v) → ((l : Line) → Breaks v k l n → ⊥)
           → FirstTrue n (tests-before tests next-due end s left) ↔ Refuses lines last InLimits Breaks v k left n
-      last-refuses e same l no-numbers = (forth, λ r. word-due tests next-due end s last e same left n .1 (back n no-numbers r))
+      last-refuses e same l no-numbers = (forth, λ r. word-first tests next-due end s last e same left n .1 (back n no-numbers r))
         where
           forth : FirstTrue n (tests-before tests next-due end s left) → Refuses lines last InLimits Breaks v k left n
           forth t =
-              let w = word-due tests next-due end s last e same left n .0 t in
+              let w = word-first tests next-due end s last e same left n .0 t in
               subst (Refuses lines last InLimits Breaks v k left) (sym (w .0)) (at-last l (w .1))
 
           back : (n : ℕ) → ((l : Line) → Breaks v k l n → ⊥) → Refuses lines last InLimits Breaks v k left n → (n ≡ 12) × (due left ≡ ended last → ⊥)
@@ -118,11 +118,11 @@ module _ {S R : Type 0} (tests : S → Line → List Test) (next-due : S → Lin
 
       pub end-refuses : (r : R) → end s ≡ some r → ((l : Line) → tests s l ≡ nothing-tests) → k ≡ length (lines v) → ((l : Line) → Breaks v k l n → ⊥)
           → FirstTrue n (tests-before tests next-due end s left) ↔ Refuses lines last InLimits Breaks v k left n
-      end-refuses r e same l no-numbers = (forth, λ h. nothing-due tests next-due end s r e same left n .1 (back n no-numbers h))
+      end-refuses r e same l no-numbers = (forth, λ h. nothing-first tests next-due end s r e same left n .1 (back n no-numbers h))
         where
           forth : FirstTrue n (tests-before tests next-due end s left) → Refuses lines last InLimits Breaks v k left n
           forth t =
-              let w = nothing-due tests next-due end s r e same left n .0 t in
+              let w = nothing-first tests next-due end s r e same left n .0 t in
               subst (Refuses lines last InLimits Breaks v k left) (sym (w .0)) (behind-last l (w .1))
 
           back : (n : ℕ) → ((l : Line) → Breaks v k l n → ⊥) → Refuses lines last InLimits Breaks v k left n → (n ≡ 12) × (left ≡ [] → ⊥)

@@ -8,3 +8,4 @@ pub mod Writer
 pub mod Scan
 pub mod Ends
 pub mod WellFormed
+pub mod Strings

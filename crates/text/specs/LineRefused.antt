@@ -33,8 +33,9 @@ pub data Unfit (f : Form) (l : Line) : ℕ → Type 0 where
   -- 13: it is, and not every value is in its range
   out-of-range : (neg : Bool) (vs : List ℕ) → Renders f l neg vs → length vs ≡ length (f .lows) → (InRanges vs (f .lows) (f .highs) → ⊥) → Unfit f l 13
 
--- ---- a text of one kind, after its first line: `lines v` are the lines of the value v, the last of them the word `last`; `InLimits v k` says that v is within the
--- limits, as far as its first k lines show; `Breaks v k l n` that n refuses the line l where line k of v is due, counted from 0, and it is a line of numbers
+-- ---- a text of one kind, after its first line. `lines v` are the lines of the value v, the last of them the word `last`. `InLimits v k` says that v is within the
+-- limits, and of a tree, where that is asked, that the leaves which end among its first k lines hold. `Breaks v k l n` says that line k of v, counted from 0, is a line
+-- of numbers, and that n refuses the line l in its place
 
 -- these lines begin those of v
 pub record Beginning {Value : Type 0} (lines : Value → List (List ℕ)) (InLimits : Value → ℕ → Type 0) (ls : List Line) (v : Value) : Type 0 where

@@ -1,4 +1,4 @@
--- Document 01, Numbers that come from the docket: line by line, each line by its numbers in their order.
+-- A text judged line by line, each line by its tests in document 01's order: what the code follows. Which line is refused is said without it in LineRefused.antt.
 use Prim.Native.Nat.{ℕ, _+_}
 use mathlib.Core.Path.{_≡_}
 use mathlib.Core.Bool.{Bool, true, false}
@@ -56,7 +56,7 @@ module _ {S : Type 0} (tests : S → Line → List Test) (next-due : S → Line 
 
     -- n refuses line m of lines of which the first is line l and s is due there: the lines before it pass, and n is the first
     -- number whose test holds of it
-    pub record RefusedAt (n m l : ℕ) (s : S) (ls : List Line) : Type 0 where
+    pub record StopsAt (n m l : ℕ) (s : S) (ls : List Line) : Type 0 where
       pub before : List Line
       pub rest : List Line
       pub stands : S

@@ -12,11 +12,11 @@ use Rattle.text.specs.Lines.{Line, ended, line-at, later, lines-of}
 abbrev pub of-form : ℕ → Bool
 of-form n = (leb 12 n && leb n 15) || (eqb n 31 || eqb n 32)
 
--- the word that the first line is due to be; and when n refuses line m, by these lines after the first
+-- `word` is the first line due; `Refused n m ls` says that n refuses line m of a text with the lines ls after its first
 pub record Formed (word : List ℕ) (Refused : ℕ → ℕ → List Line → Type 0) (text : List ℕ) : Type 0 where
   -- 11 doesn't apply
   pub short : length text ≤ 1048576
   -- the first line is the one due
   pub first : line-at text 0 ≡ ended word
-  -- no later line, judged at its place, breaks one of these numbers
+  -- no later line, judged at its place, breaks one of these numbers; a line has a place where the lines before it begin a text
   pub unbroken : (n m : ℕ) → of-form n ≡ true → Refused n m (later (lines-of text)) → ⊥

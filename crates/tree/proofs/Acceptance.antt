@@ -21,8 +21,8 @@ use Rattle.text.proofs.Courses as courses
 use Rattle.text.proofs.FirstLine.{tree-is}
 use Rattle.text.proofs.Texts.{whole-is}
 use Rattle.tree.specs.Rendering.{node-lines, render}
-use Rattle.tree.specs.Course.{Bounded, by-writer, pending, writer-due, tests, next-due, judge, end, IsTree, tree-judged}
-use Rattle.tree.specs.Acceptance.{bounded-of, Accepts}
+use Rattle.tree.specs.Course.{by-writer, pending, writer-due, tests, next-due, judge, end, IsTree, tree-judged}
+use Rattle.tree.specs.Acceptance.{bounded-of, Accepts, Bounded}
 use Rattle.tree.specs.Refusals.{RefusedAt}
 use Rattle.tree.proofs.Bounds.{add-is, figures-same}
 use Rattle.tree.proofs.Written.{lines-one}

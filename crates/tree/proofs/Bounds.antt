@@ -11,7 +11,8 @@ use Rattle.model.specs.Tree.{Tree, split, short, stuck, price, Bound, never, nu
 use Rattle.model.proofs.Integers.{up, down, min-shift, nat→eq}
 use Rattle.tree.specs.declared.figures.Bound as code
 use Rattle.tree.specs.declared.figures.Bound.the-variants.{Never, Number}
-use Rattle.tree.specs.Course.{Bounded, with-split, with-leaf}
+use Rattle.tree.specs.Course.{with-split, with-leaf}
+use Rattle.tree.specs.Acceptance.{Bounded}
 use Rattle.tree.specs.Coded.{bound-of, coded}
 
 min-assoc : (x y z : ℤ) → minℤ x (minℤ y z) ≡ minℤ (minℤ x y) z

@@ -19,8 +19,8 @@ use Rattle.text.proofs.Courses.{good-more, passed-both, accepted-is}
 use Rattle.text.proofs.Plain.{plain-fits, one-between}
 use Rattle.text.proofs.Verdicts.{form-found}
 use Rattle.tree.specs.Rendering.{node-lines, render}
-use Rattle.tree.specs.Course.{Bounded, by-writer, with-split, Pending, pending, Due, writer-due, nodes-due, nothing-due, tests, next-due, judge, end, tree-judged}
-use Rattle.tree.specs.Acceptance.{bounded-of}
+use Rattle.tree.specs.Course.{by-writer, with-split, Pending, pending, Due, writer-due, nodes-due, nothing-due, tests, next-due, judge, end, tree-judged}
+use Rattle.tree.specs.Acceptance.{bounded-of, Bounded}
 use Rattle.tree.proofs.Bounds.{add, add-is, with-tree, figures-same}
 use Rattle.tree.proofs.NodeLines.{split-good, short-good, stuck-good, price-good, reserve-good}
 use Rattle.tree.proofs.Written.{map-both, render-lines}

@@ -25,7 +25,8 @@ use Rattle.text.proofs.Plain.{plain-passed, one-value}
 use Rattle.text.proofs.Courses.{passed-line}
 use Rattle.text.proofs.Tests.{good-none}
 use Rattle.tree.specs.Rendering.{split-key, short-key, stuck-key, price-key, reserve-key, node-lines}
-use Rattle.tree.specs.Course.{Bounded, by-writer, with-split, with-leaf, Pending, pending, Due, writer-due, nodes-due, reserve-due, nothing-due, tests, next-due, judge, end}
+use Rattle.tree.specs.Course.{by-writer, with-split, with-leaf, Pending, pending, Due, writer-due, nodes-due, reserve-due, nothing-due, tests, next-due, judge, end}
+use Rattle.tree.specs.Acceptance.{Bounded}
 use Rattle.tree.proofs.Bounds.{add}
 use Rattle.tree.proofs.NodeLines.{NodeWas, split-was, short-was, stuck-was, price-was, node-was, reserve-was}
 

@@ -27,8 +27,10 @@ use Rattle.text.proofs.Verdicts.{form-passes}
 use Rattle.text.proofs.WellFormed.{form-only, none-of-form}
 use Rattle.text.proofs.Words.{word-is}
 use Rattle.tree.specs.Rendering.{split-key, short-key, stuck-key, price-key, reserve-key, node-lines}
-use Rattle.tree.specs.NodeLines.{LineKind, split-line, short-line, stuck-line, price-line, line-kind-of, node-form, reserve-form, named, split-again, too-deep, node-tests}
-use Rattle.tree.specs.Course.{Bounded, with-split, with-leaf, Pending, pending, Due, writer-due, nodes-due, reserve-due, nothing-due, tests, after-node, next-due, judge, end}
+use Rattle.tree.specs.NodeLines.{line-kind-of, named, split-again, too-deep, node-tests}
+use Rattle.tree.specs.Refusals.{LineKind, split-line, short-line, stuck-line, price-line, node-form, reserve-form}
+use Rattle.tree.specs.Course.{with-split, with-leaf, Pending, pending, Due, writer-due, nodes-due, reserve-due, nothing-due, tests, after-node, next-due, judge, end}
+use Rattle.tree.specs.Acceptance.{Bounded}
 use Rattle.tree.proofs.Bounds.{add}
 use Rattle.tree.proofs.Lines.{multipliers-fit, was-multipliers, one-fits, was-one}
 use Rattle.tree.proofs.Written.{map-both}

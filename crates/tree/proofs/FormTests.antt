@@ -15,8 +15,10 @@ use Rattle.text.specs.Tests.{Test, _if_, FirstTrue, this, after, tests-of-missi
 use Rattle.text.specs.WellFormed.{of-form}
 use Rattle.text.proofs.Tests.{Every, first-every}
 use Rattle.text.proofs.WellFormed.{form-only}
-use Rattle.tree.specs.NodeLines.{line-kind-of, node-form, reserve-form, split-again, too-deep, not-short, not-stuck}
-use Rattle.tree.specs.Course.{Bounded, Due, writer-due, nodes-due, reserve-due, nothing-due, tests, next-due, end}
+use Rattle.tree.specs.NodeLines.{line-kind-of, split-again, too-deep, not-short, not-stuck}
+use Rattle.tree.specs.Refusals.{node-form, reserve-form}
+use Rattle.tree.specs.Course.{Due, writer-due, nodes-due, reserve-due, nothing-due, tests, next-due, end}
+use Rattle.tree.specs.Acceptance.{Bounded}
 
 -- ---- any tests, those of the form before the others
 

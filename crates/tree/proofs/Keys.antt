@@ -10,7 +10,8 @@ use borrow.Author.Tests.{not-true, ne-eqb}
 use Rattle.text.specs.Lines.{Line, missing, unended, ended, bytes-of, due, longer, cut-at, lines-of, line-at, one-line, begins}
 use Rattle.text.proofs.Cuts.{and-both}
 use Rattle.tree.specs.Rendering.{split-key, short-key, stuck-key}
-use Rattle.tree.specs.NodeLines.{split-line, short-line, stuck-line, price-line, line-kind-of}
+use Rattle.tree.specs.NodeLines.{line-kind-of}
+use Rattle.tree.specs.Refusals.{split-line, short-line, stuck-line, price-line}
 
 longer-bytes : (b : ℕ) (l : Line) → bytes-of (longer b l) ≡ b ∷ bytes-of l
 longer-bytes b missing = refl

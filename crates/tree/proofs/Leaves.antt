@@ -25,8 +25,10 @@ use Rattle.walk.specs.Marks.{all-marks}
 use Rattle.least.specs.declared.unit.Least.the-variants.{Stuck, Value}
 use Rattle.least.specs.LeafLeasts.{short-at, leaf-of}
 use Rattle.tree.specs.Rendering.{price-key, reserve-key}
-use Rattle.tree.specs.NodeLines.{LineKind, split-line, short-line, stuck-line, price-line, line-kind-of, node-form, reserve-form, named, split-again, too-deep, not-short, not-stuck, node-tests}
-use Rattle.tree.specs.Course.{Bounded, with-leaf, Pending, pending, nodes-due, reserve-due, tests, next-due, after-node, judge}
+use Rattle.tree.specs.NodeLines.{line-kind-of, named, split-again, too-deep, not-short, not-stuck, node-tests}
+use Rattle.tree.specs.Refusals.{LineKind, split-line, short-line, stuck-line, price-line, node-form, reserve-form}
+use Rattle.tree.specs.Course.{with-leaf, Pending, pending, nodes-due, reserve-due, tests, next-due, after-node, judge}
+use Rattle.tree.specs.Acceptance.{Bounded}
 use Rattle.tree.specs.declared.figures.Tally.{Tally}
 use Rattle.tree.specs.Coded.{bounded, marks-in}
 use Rattle.tree.specs.ReadAnswers.{node-read, leaf-read}

@@ -20,10 +20,11 @@ use Rattle.text.proofs.Accepted.{rendered-numbers}
 use Rattle.text.proofs.Tests.{good-none}
 use Rattle.text.proofs.Verdicts.{form-passes}
 use Rattle.tree.specs.Rendering.{split-key, short-key, stuck-key, price-key, node-lines, lines-after}
-use Rattle.tree.specs.NodeLines.{short-line, stuck-line, line-kind-of, node-form, reserve-form, named, not-short, not-stuck}
+use Rattle.tree.specs.NodeLines.{line-kind-of, named, not-short, not-stuck}
 use Rattle.tree.specs.Places.{HoldsAmong}
-use Rattle.tree.specs.Refusals.{WrittenTree}
-use Rattle.tree.specs.Course.{Bounded, by-writer, with-split, with-leaf, Pending, pending, Due, writer-due, nodes-due, reserve-due, tests, after-node, next-due, judge}
+use Rattle.tree.specs.Refusals.{WrittenTree, short-line, stuck-line, node-form, reserve-form}
+use Rattle.tree.specs.Course.{by-writer, with-split, with-leaf, Pending, pending, Due, writer-due, nodes-due, reserve-due, tests, after-node, next-due, judge}
+use Rattle.tree.specs.Acceptance.{Bounded}
 use Rattle.tree.proofs.Lines.{one-fits}
 use Rattle.tree.proofs.NodeLines.{rules, is-T, not-T, split-good}
 use Rattle.tree.proofs.Complete.{Passes, writer-good}

@@ -3,13 +3,13 @@
 use mathlib.Core.Path.{_≡_, refl, ap, _∙_}
 use mathlib.Core.Bool.{false}
 use mathlib.Core.List.{List, [], _∷_, _++_, map}
-use Prim.Native.Nat.{ℕ, zero, suc, _≤_}
+use Prim.Native.Nat.{ℕ, _≤_}
 use native.Mathlib.Omega.{arith}
 use lib.ListN.{length, replicate, length-replicate}
 use Rattle.model.specs.Instance.{Instance}
-use Rattle.model.specs.Ranges.{All, GoodPrice}
 use Rattle.model.specs.Above.{root}
 use Rattle.model.specs.Tree.{Tree, price, Limits, Multipliers}
+use Rattle.model.proofs.Zeros.{zeros-in}
 use Rattle.text.specs.Lines.{Line, ended, end-tree}
 use Rattle.text.specs.Course.{good}
 use Rattle.text.specs.Rendering.{plain-line}
@@ -20,9 +20,9 @@ use Rattle.text.proofs.Tests.{good-none}
 use Rattle.text.proofs.Verdicts.{form-passes}
 use Rattle.text.proofs.WellFormed.{form-only, none-of-form}
 use Rattle.tree.specs.Rendering.{reserve-key, node-lines, lines-after}
-use Rattle.tree.specs.NodeLines.{reserve-form}
-use Rattle.tree.specs.Refusals.{WrittenTree, InLimits}
-use Rattle.tree.specs.Course.{Bounded, by-writer, Pending, pending, Due, writer-due, nodes-due, reserve-due, nothing-due, tests, next-due, judge, end}
+use Rattle.tree.specs.Refusals.{WrittenTree, InLimits, reserve-form}
+use Rattle.tree.specs.Course.{by-writer, Pending, pending, Due, writer-due, nodes-due, reserve-due, nothing-due, tests, next-due, judge, end}
+use Rattle.tree.specs.Acceptance.{Bounded}
 use Rattle.tree.proofs.Bounds.{add}
 use Rattle.tree.proofs.Lines.{multipliers-fit}
 use Rattle.tree.proofs.Complete.{writer-good, end-good}
@@ -31,16 +31,12 @@ use Rattle.tree.proofs.FormLines.{FormPasses, Limited, FormWhole, passe
 
 -- ---- a text can be completed
 
-zeros-in : (n : ℕ) → All GoodPrice (replicate n 0)
-zeros-in zero = tt
-zeros-in (suc n) = ((omega arith, omega arith), zeros-in n)
-
 module _ (P : Instance) (some : 1 ≤ P .periods) where
   abbrev zeros : List ℕ
   zeros = replicate (P .periods) 0
 
   zeros-fit : Multipliers P zeros
-  zeros-fit = (length-replicate (P .periods) 0, zeros-in (P .periods))
+  zeros-fit = (length-replicate (P .periods) 0, zeros-in 1000000000 (P .periods))
 
   -- lines that complete a text from where s is due on
   record Completes (s : Due) : Type 0 where

@@ -20,9 +20,10 @@ use Rattle.text.proofs.Courses.{passed-both}
 use Rattle.text.proofs.Tests.{good-none}
 use Rattle.text.proofs.WellFormed.{form-only, none-of-form}
 use Rattle.tree.specs.Rendering.{node-lines, lines-after}
-use Rattle.tree.specs.Places.{Place, node-at, reserve-at, LineAt, first-line, reserve-line, in-first, in-second, HoldsAmong}
+use Rattle.tree.specs.Places.{LinePlace, node-at, reserve-at, LineAt, first-line, reserve-line, in-first, in-second, HoldsAmong}
 use Rattle.tree.specs.Refusals.{WrittenTree}
-use Rattle.tree.specs.Course.{Bounded, by-writer, with-split, Pending, pending, Due, writer-due, nodes-due, reserve-due, nothing-due, tests, next-due, judge, end}
+use Rattle.tree.specs.Course.{by-writer, with-split, Pending, pending, Due, writer-due, nodes-due, reserve-due, nothing-due, tests, next-due, judge, end}
+use Rattle.tree.specs.Acceptance.{Bounded}
 use Rattle.tree.proofs.Bounds.{add}
 use Rattle.tree.proofs.Written.{map-both}
 use Rattle.tree.proofs.NodeLines.{split-good, price-good}
@@ -32,14 +33,14 @@ use Rattle.tree.proofs.LinePlaces.{line-among, line-placed}
 
 -- ---- what is due where a line stands
 
-pub data DueAt : Place → Due → Type 0 where
+pub data DueAt : LinePlace → Due → Type 0 where
   node-due : {A : Above} {d : ℕ} {F : Bounded} {ps : List Pending} → DueAt (node-at A d) (nodes-due F (pending A d ∷ ps))
   reserve-there : {A : Above} {F : Bounded} {q : List ℕ} {ps : List Pending} → DueAt (reserve-at A q) (reserve-due F A q ps)
 
 -- s is due where line k of the text is
 pub data Stands (v : WrittenTree) (k : ℕ) : Due → Type 0 where
   at-writer : k ≡ 0 → Stands v k writer-due
-  at-place : {i : ℕ} {w : Place} {s : Due} → k ≡ suc i → LineAt root 0 (v .tree) i w → DueAt w s → Stands v k s
+  at-place : {i : ℕ} {w : LinePlace} {s : Due} → k ≡ suc i → LineAt root 0 (v .tree) i w → DueAt w s → Stands v k s
   at-end : {F : Bounded} → k ≡ suc (length (node-lines (v .tree))) → Stands v k (nodes-due F [])
   past-end : {F : Bounded} → k ≡ suc (suc (length (node-lines (v .tree)))) → Stands v k (nothing-due F)
 
@@ -66,7 +67,7 @@ module _ (P : Instance) (tests′ : Due → Line → List Test) (Asked : Above �
     also {s} {s′} {s″} {x} e p = one-more (J .good-line s s′ x e) (good-none (next-due P s x) s′ (tests P s x) e .1) p
 
     -- the lines of a node before one of its lines
-    to-place : {A : Above} {d : ℕ} {x : Tree} {k : ℕ} {w : Place} → LineAt A d x k w → Limits P A d x → AskedAmong A k x → (F : Bounded) (ps : List Pending)
+    to-place : {A : Above} {d : ℕ} {x : Tree} {k : ℕ} {w : LinePlace} → LineAt A d x k w → Limits P A d x → AskedAmong A k x → (F : Bounded) (ps : List Pending)
         → (s : Due) × DueAt w s × Passes (nodes-due F (pending A d ∷ ps)) (take k (map ended (node-lines x))) s
     unfolding Limits node-lines
     to-place {A} {d} first-line l g F ps = (nodes-due F (pending A d ∷ ps), node-due, none-yet)

@@ -24,8 +24,10 @@ use Rattle.text.proofs.Tests.{none-good, good-none}
 use Rattle.text.proofs.Plain.{plain-was, plain-passed}
 use Rattle.text.proofs.Verdicts.{form-passes}
 use Rattle.tree.specs.Rendering.{split-key, short-key, stuck-key, price-key, reserve-key}
-use Rattle.tree.specs.NodeLines.{LineKind, split-line, short-line, stuck-line, price-line, line-kind-of, node-form, reserve-form, named, is-fixed, split-again, too-deep, not-short, not-stuck, node-tests, reserve-tests}
-use Rattle.tree.specs.Course.{Bounded, Pending, pending, with-split, with-leaf, Due, nodes-due, reserve-due, tests, next-due, after-node, judge}
+use Rattle.tree.specs.NodeLines.{line-kind-of, named, is-fixed, split-again, too-deep, not-short, not-stuck, node-tests, reserve-tests}
+use Rattle.tree.specs.Refusals.{LineKind, split-line, short-line, stuck-line, price-line, node-form, reserve-form}
+use Rattle.tree.specs.Course.{Pending, pending, with-split, with-leaf, Due, nodes-due, reserve-due, tests, next-due, after-node, judge}
+use Rattle.tree.specs.Acceptance.{Bounded}
 use Rattle.tree.proofs.Lines.{was-written, multipliers-fit, was-multipliers, one-fits, was-one}
 
 -- the tests of a node line after 12, 14, 13

@@ -21,14 +21,15 @@ use Rattle.text.specs.Tests.{Test, _if_, FirstTrue, this, after, tests-before}
 use Rattle.text.specs.LineRefused.{Renders, Unfit, shows-none, miscounted, out-of-range}
 use Rattle.text.proofs.Accepted.{Fits, rendered-good, rendered-numbers}
 use Rattle.text.proofs.Unfit as unfit-laws
-use Rattle.text.proofs.Unfit.{true-not-false, otherwise, first-is, unfit-first, fits-passes, numbers-due}
+use Rattle.text.proofs.Unfit.{true-not-false, otherwise, first-is, unfit-first, fits-passes, numbers-first}
 use Rattle.text.proofs.Plain.{plain-was}
 use Rattle.text.proofs.Verdicts.{form-passes}
 use Rattle.tree.specs.Rendering.{split-key, short-key, stuck-key, reserve-key}
-use Rattle.tree.specs.NodeLines.{LineKind, split-line, short-line, stuck-line, price-line, line-kind-of, node-form, reserve-form, named, is-fixed, split-again, too-deep, not-short, not-stuck, node-tests, reserve-tests}
+use Rattle.tree.specs.NodeLines.{line-kind-of, named, is-fixed, split-again, too-deep, not-short, not-stuck, node-tests, reserve-tests}
 use Rattle.tree.specs.Refusals as refusals
-use Rattle.tree.specs.Refusals.{NodeBreaks, no-node, unfit, again, ReserveBreaks, unfit-reserve, some-stuck}
-use Rattle.tree.specs.Course.{Bounded, Pending, pending, nodes-due, reserve-due, tests, next-due, end}
+use Rattle.tree.specs.Refusals.{NodeBreaks, no-node, unfit, again, ReserveBreaks, unfit-reserve, some-stuck, LineKind, split-line, short-line, stuck-line, price-line, node-form, reserve-form}
+use Rattle.tree.specs.Course.{Pending, pending, nodes-due, reserve-due, tests, next-due, end}
+use Rattle.tree.specs.Acceptance.{Bounded}
 use Rattle.tree.proofs.Lines.{multipliers-fit, was-multipliers, one-fits, was-one}
 use Rattle.tree.proofs.NodeLines.{rules, T-is, is-T, T-not, not-T, free-mark, split-fits, was-split}
 
@@ -221,7 +222,7 @@ module _ (P : Instance) (some : 1 ≤ P .periods) (A : Above) (q : List ℕ) whe
   reserve-first F ps left n = (λ h. judged-breaks (due left) n (law left n .0 h), back left n)
     where
       law : (left : List Line) (n : ℕ) → FirstTrue n (tests-before (tests P) (next-due P) end (reserve-due F A q ps) left) ↔ Tested (due left) n
-      law = numbers-due (tests P) (next-due P) end (reserve-due F A q ps) (reserve-form P) (λ l. 35 if any-stuck (P .periods) (P .units) (A .marks) ∷ []) refl (λ l. refl)
+      law = numbers-first (tests P) (next-due P) end (reserve-due F A q ps) (reserve-form P) (λ l. 35 if any-stuck (P .periods) (P .units) (A .marks) ∷ []) refl (λ l. refl)
 
       back : (left : List Line) (n : ℕ) → ReserveBreaks P A q (due left) n → FirstTrue n (tests-before (tests P) (next-due P) end (reserve-due F A q ps) left)
       back left n (unfit-reserve u) = law left n .1 (inl u)

@@ -11,7 +11,7 @@ use Rattle.model.specs.Examples.{line, unit1, unit2, periods-of}
 use Rattle.text.specs.Course.{refused-at, judged-from}
 use Rattle.text.specs.Forms.{malformed, wrong-count, outside-range}
 use Rattle.text.specs.Rendering.{plain-line, text-of}
-use Rattle.text.proofs.Examples.{bytes, lines}
+use Rattle.text.specs.Strings.{bytes, lines}
 use Rattle.tree.specs.Rendering.{split-key}
 use Rattle.tree.specs.NodeLines.{line-kind-of, split-again, too-deep, not-short, not-stuck}
 use Rattle.tree.specs.Course.{tests, after-node, next-due, judge, tree-judged}

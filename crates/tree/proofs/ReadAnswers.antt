@@ -22,10 +22,9 @@ use Rattle.refusal.specs.Refusals.{carries-line, refusal-of, line-refusal}
 use Rattle.refusal.specs.declared.Refusal.{Refusal}
 use Rattle.tree.specs.declared.figures.Bound.{Bound}
 use Rattle.tree.specs.declared.TreeRead.the-variants as answer
-use Rattle.tree.specs.Course.{Bounded, IsTree, tree-judged}
-use Rattle.tree.specs.NodeLines.{node-form, reserve-form}
-use Rattle.tree.specs.Acceptance.{Accepts}
-use Rattle.tree.specs.Refusals.{WrittenTree, written-lines, NodeBreaks, no-node, unfit, again, deeper, short-fails, stuck-fails, ReserveBreaks, unfit-reserve, some-stuck, Breaks, at-writer, at-node, at-reserve, HoldsSoFar, RefusedAt}
+use Rattle.tree.specs.Course.{IsTree, tree-judged}
+use Rattle.tree.specs.Acceptance.{Accepts, Bounded}
+use Rattle.tree.specs.Refusals.{WrittenTree, written-lines, NodeBreaks, no-node, unfit, again, deeper, short-fails, stuck-fails, ReserveBreaks, unfit-reserve, some-stuck, Breaks, at-writer, at-node, at-reserve, HoldsSoFar, RefusedAt, node-form, reserve-form}
 use Rattle.tree.specs.Coded.{bound-of}
 use Rattle.tree.specs.ReadAnswers.{coded, read-as, tree-read}
 use Rattle.tree.proofs.Bounds.{coded-is, figures-same}

@@ -18,8 +18,10 @@ use Rattle.text.proofs.LineByLine as steps
 use Rattle.tree.specs.declared.figures.Tally.{Tally}
 use Rattle.tree.specs.declared.leaf.Read.{Read}
 use Rattle.tree.specs.declared.leaf.Read.the-variants.{Refused, Tree}
-use Rattle.tree.specs.NodeLines.{LineKind, split-line, short-line, stuck-line, price-line, line-kind-of}
-use Rattle.tree.specs.Course.{Bounded, Pending, pending, Due, writer-due, nodes-due, reserve-due, nothing-due, tests, next-due, after-node, judge, end}
+use Rattle.tree.specs.NodeLines.{line-kind-of}
+use Rattle.tree.specs.Refusals.{LineKind, split-line, short-line, stuck-line, price-line}
+use Rattle.tree.specs.Course.{Pending, pending, Due, writer-due, nodes-due, reserve-due, nothing-due, tests, next-due, after-node, judge, end}
+use Rattle.tree.specs.Acceptance.{Bounded}
 use Rattle.tree.specs.Coded.{bounded, tally-of, none-read}
 use Rattle.tree.specs.ReadAnswers.{all-read, read-lines, read-from, node-read, trees-read, Placed}
 use Rattle.tree.proofs.Bounds.{coded-back}

@@ -18,7 +18,8 @@ use Rattle.text.proofs.Tests.{found-refused-is, none-good, good-none}
 use Rattle.text.proofs.Verdicts.{form-found, form-passes}
 use Rattle.tree.specs.declared.splitting.SplitLine.{SplitLine}
 use Rattle.tree.specs.declared.splitting.SplitLine.the-variants as split
-use Rattle.tree.specs.NodeLines.{split-line, line-kind-of, node-form, named, is-fixed, split-again, too-deep, not-short, not-stuck, node-tests}
+use Rattle.tree.specs.NodeLines.{line-kind-of, named, is-fixed, split-again, too-deep, not-short, not-stuck, node-tests}
+use Rattle.tree.specs.Refusals.{split-line, node-form}
 use Rattle.tree.specs.Course.{with-split, pending, nodes-due, after-node, judge}
 use Rattle.tree.specs.ReadAnswers.{split-by, split-line-read}
 use Rattle.tree.proofs.NodeLines.{rules, was-split}

@@ -22,7 +22,8 @@ use Rattle.tree.specs.declared.figures.Bound.{Bound}
 use Rattle.tree.specs.declared.leaf.Read as code
 use Rattle.tree.specs.declared.leaf.Read.the-variants as read
 use Rattle.tree.specs.declared.TreeRead.the-variants as answer
-use Rattle.tree.specs.Course.{Bounded, by-writer, pending, writer-due, nodes-due, nothing-due, tests, next-due, judge, end, IsTree, tree-judged}
+use Rattle.tree.specs.Course.{by-writer, pending, writer-due, nodes-due, nothing-due, tests, next-due, judge, end, IsTree, tree-judged}
+use Rattle.tree.specs.Acceptance.{Bounded}
 use Rattle.tree.specs.Coded.{bounded, none-read}
 use Rattle.tree.specs.ReadAnswers.{read-as, Placed, Came, ended-as}
 use Rattle.tree.proofs.Bounds.{coded-is}

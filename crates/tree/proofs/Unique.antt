@@ -16,7 +16,8 @@ use Rattle.text.specs.Rendering.{plain-line}
 use Rattle.text.specs.Writer.{writer-key}
 use Rattle.text.proofs.Accepted.{rendered-numbers}
 use Rattle.tree.specs.Rendering.{split-key, short-key, stuck-key, price-key, reserve-key, node-lines, tree-lines, render}
-use Rattle.tree.specs.NodeLines.{LineKind, split-line, short-line, stuck-line, price-line, line-kind-of}
+use Rattle.tree.specs.NodeLines.{line-kind-of}
+use Rattle.tree.specs.Refusals.{LineKind, split-line, short-line, stuck-line, price-line}
 use Rattle.tree.proofs.Written.{render-cut}
 
 -- ---- one line

@@ -16,8 +16,10 @@ use Rattle.text.specs.Forms.{Form, form, plain, numbers-of, form-tests}
 use Rattle.text.specs.Course.{judged-from}
 use Rattle.text.specs.Tests.{_if_, found}
 use Rattle.tree.specs.Rendering.{split-key, stuck-key}
-use Rattle.tree.specs.NodeLines.{LineKind, split-line, short-line, stuck-line, price-line, line-kind-of, node-form, reserve-form, named, is-fixed, split-again, too-deep, not-short, not-stuck, node-tests, reserve-tests}
-use Rattle.tree.specs.Course.{Bounded, with-split, with-leaf, Pending, pending, Due, writer-due, nodes-due, reserve-due, nothing-due, tests, after-node, next-due, judge, end, tree-judged}
+use Rattle.tree.specs.NodeLines.{line-kind-of, named, is-fixed, split-again, too-deep, not-short, not-stuck, node-tests, reserve-tests}
+use Rattle.tree.specs.Refusals.{LineKind, split-line, short-line, stuck-line, price-line, node-form, reserve-form}
+use Rattle.tree.specs.Course.{with-split, with-leaf, Pending, pending, Due, writer-due, nodes-due, reserve-due, nothing-due, tests, after-node, next-due, judge, end, tree-judged}
+use Rattle.tree.specs.Acceptance.{Bounded}
 
 -- ---- a problem, with 0 for every p0
 

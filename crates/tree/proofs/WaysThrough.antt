@@ -12,7 +12,8 @@ use Rattle.tree.specs.declared.figures.Bound.{Bound}
 use Rattle.tree.specs.declared.figures.Tally.{Tally}
 use Rattle.tree.specs.declared.leaf.Read.{Read}
 use Rattle.tree.specs.declared.leaf.Read.the-variants.{Refused, Tree}
-use Rattle.tree.specs.Course.{Bounded, with-split, with-leaf, Pending, pending, Due, nodes-due, reserve-due, judge}
+use Rattle.tree.specs.Course.{with-split, with-leaf, Pending, pending, Due, nodes-due, reserve-due, judge}
+use Rattle.tree.specs.Acceptance.{Bounded}
 use Rattle.tree.specs.Coded.{bound-of, lower-of, bounded, tally-of, one-split, one-leaf}
 use Rattle.tree.specs.ReadAnswers.{read-from, node-read, trees-read, reserve-read}
 use Rattle.tree.proofs.Rows.{Moved}

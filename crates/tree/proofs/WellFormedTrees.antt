@@ -10,8 +10,8 @@ use Rattle.text.specs.Lines.{due, line-at}
 use Rattle.text.proofs.FirstLine.{tree-is}
 use Rattle.text.specs.Course.{accepted}
 use Rattle.tree.specs.Rendering.{render}
-use Rattle.tree.specs.Course.{Bounded, IsTree, tree-judged}
-use Rattle.tree.specs.Acceptance.{bounded-of}
+use Rattle.tree.specs.Course.{IsTree, tree-judged}
+use Rattle.tree.specs.Acceptance.{bounded-of, Bounded}
 use Rattle.tree.proofs.Written.{render-lines}
 use Rattle.tree.proofs.Unique.{tree-once}
 use Rattle.tree.proofs.Complete.{tree-accepted}

@@ -1,32 +1,31 @@
 -- Which line of a tree's text is refused and by which number: the way to judge it line by line follows the texts of trees, by all tests and by those of the form.
 -- With the refused line the lines begin no text of a tree within the limits whose leaves hold.
-use mathlib.Core.Path.{_≡_, refl, sym, subst}
+use mathlib.Core.Path.{_≡_, refl, subst}
 use mathlib.Core.Bool.{true}
 use mathlib.Core.List.{List, [], _∷_, _++_}
 use mathlib.Core.Logic.{_↔_, _⊎_, inl, inr}
-use Prim.Native.Nat.{ℕ, suc, _+_, _≤_}
+use Prim.Native.Nat.{ℕ, suc, _+_, _≤_, _<_}
 use native.Mathlib.Omega.{arith}
 use lib.ListN.{length, length-append}
 use Rattle.model.specs.Instance.{Instance}
 use Rattle.model.specs.Above.{Above, root}
 use Rattle.model.specs.Tree.{Holds}
-use Rattle.text.specs.Lines.{Line, ended, due, later, lines-of, end-tree}
+use Rattle.text.specs.Lines.{Line, due, later, lines-of, end-tree}
 use Rattle.text.specs.Writer.{writer-form}
 use Rattle.text.specs.Tests as lines
 use Rattle.text.specs.Tests.{FirstTrue, tests-before}
 use Rattle.text.specs.LineRefused.{Unfit, Beginning, Refuses, at-numbers, at-last, behind-last, LineRefused}
 use Rattle.text.specs.WellFormed.{of-form}
 use Rattle.text.proofs.Tests.{first-every}
-use Rattle.text.proofs.Unfit.{numbers-due, word-due, nothing-due}
+use Rattle.text.proofs.Unfit.{numbers-first}
 use Rattle.text.proofs.WellFormed.{form-only}
 use Rattle.text.proofs.WhichLine as which
-use Rattle.text.proofs.WhichLine.{Follows}
+use Rattle.text.proofs.WhichLine.{Faithful}
 use Rattle.tree.specs.Rendering.{node-lines}
-use Rattle.tree.specs.Places.{Place, node-at, reserve-at, LineAt, HoldsAmong}
+use Rattle.tree.specs.Places.{LinePlace, node-at, reserve-at, LineAt, HoldsAmong}
 use Rattle.tree.specs.Refusals.{WrittenTree, written-lines, NodeBreaks, ReserveBreaks, Breaks, InLimits, HoldsSoFar, BrokenAt, RefusedAt}
 use Rattle.tree.specs.Refusals as refusals
-use Rattle.tree.specs.Course.{Due, writer-due, nodes-due, tests, next-due, end}
-use Rattle.tree.specs.Course as machine
+use Rattle.tree.specs.Course.{Due, writer-due, nodes-due, nothing-due, tests, next-due, end}
 use Rattle.tree.proofs.FormLines.{all-of-form}
 use Rattle.tree.proofs.FormTests.{form-first}
 use Rattle.tree.proofs.LinePlaces.{line-among, line-once}
@@ -78,23 +77,13 @@ module _ (P : Instance) (some : 1 ≤ P .periods) where
     reserve-breaks i A q z c n (at-last e f) = absurd (let h = lines-long v in let m = line-among c in omega arith)
     reserve-breaks i A q z c n (behind-last e f) = absurd (let h = lines-long v in let m = line-among c in omega arith)
 
-    -- the end line
-    end-missing : k ≡ suc (length (node-lines (v .tree))) → (n : ℕ) → Number v k left n → (n ≡ 12) × (due left ≡ ended end-tree → ⊥)
-    end-missing z n (at-numbers (refusals.at-writer e u)) = absurd (omega arith)
-    end-missing z n (at-numbers (refusals.at-node e a b)) = absurd (let m = line-among a in omega arith)
-    end-missing z n (at-numbers (refusals.at-reserve e a b)) = absurd (let m = line-among a in omega arith)
-    end-missing z n (at-last e f) = (refl, f)
-    end-missing z n (behind-last e f) = absurd (let h = lines-long v in omega arith)
+    -- from the end line on no line of numbers is due
+    no-numbers : length (node-lines (v .tree)) < k → (n : ℕ) (l : Line) → Breaks P v k l n → ⊥
+    no-numbers h n l (refusals.at-writer e u) = omega (arith, h, e)
+    no-numbers h n l (refusals.at-node e a b) = let m = line-among a in omega (arith, h, e, m)
+    no-numbers h n l (refusals.at-reserve e a b) = let m = line-among a in omega (arith, h, e, m)
 
-    -- past it
-    something-left : k ≡ suc (suc (length (node-lines (v .tree)))) → (n : ℕ) → Number v k left n → (n ≡ 12) × (left ≡ [] → ⊥)
-    something-left z n (at-numbers (refusals.at-writer e u)) = absurd (omega arith)
-    something-left z n (at-numbers (refusals.at-node e a b)) = absurd (let m = line-among a in omega arith)
-    something-left z n (at-numbers (refusals.at-reserve e a b)) = absurd (let m = line-among a in omega arith)
-    something-left z n (at-last e f) = absurd (let h = lines-long v in omega arith)
-    something-left z n (behind-last e f) = (refl, f)
-
-    at-place-refuses : (i : ℕ) (w : Place) (s : Due) → k ≡ suc i → LineAt root 0 (v .tree) i w → DueAt w s → (n : ℕ)
+    at-place-refuses : (i : ℕ) (w : LinePlace) (s : Due) → k ≡ suc i → LineAt root 0 (v .tree) i w → DueAt w s → (n : ℕ)
         → FirstTrue n (tests-before (tests P) (next-due P) end s left) ↔ Number v k left n
     at-place-refuses i w s z c (node-due {A} {d} {F} {ps}) n =
         let law = node-first P A d F ps left n in
@@ -106,7 +95,7 @@ module _ (P : Instance) (some : 1 ≤ P .periods) where
     refuses : (s : Due) → Stands v k s → (n : ℕ) → FirstTrue n (tests-before (tests P) (next-due P) end s left) ↔ Number v k left n
     unfolding tests
     refuses s (at-writer z) n =
-        let law = numbers-due (tests P) (next-due P) end writer-due writer-form (λ l. []) refl (λ l. refl) left n in
+        let law = numbers-first (tests P) (next-due P) end writer-due writer-form (λ l. []) refl (λ l. refl) left n in
         (λ h. at-numbers (refusals.at-writer z (go (law .0 h))), λ r. law .1 (inl (writer-unfit z n r)))
       where
         go : {X : Type 0} → Unfit writer-form (due left) n ⊎ (X × FirstTrue n []) → Unfit writer-form (due left) n
@@ -114,15 +103,15 @@ module _ (P : Instance) (some : 1 ≤ P .periods) where
         go (inr (t, f)) = absurd (first-every (λ _. ⊥) n [] tt f)
     refuses s (at-place {i} {w} z c t) n = at-place-refuses i w s z c t n
     refuses s (at-end {F} z) n =
-        let law = word-due (tests P) (next-due P) end (nodes-due F []) end-tree refl (λ l. refl) left n in
-        (λ h. subst (Number v k left) (sym (law .0 h .0)) (at-last (omega (arith, lines-long v)) (law .0 h .1)), λ r. law .1 (end-missing z n r))
+        which.last-refuses (tests P) (next-due P) end written-lines end-tree (HoldsSoFar P) (Breaks P) v k (nodes-due F []) left n refl (λ l. refl)
+        (omega (arith, lines-long v, z)) (no-numbers (omega (arith, z)) n)
     refuses s (past-end {F} z) n =
-        let law = nothing-due (tests P) (next-due P) end (machine.nothing-due F) F refl (λ l. refl) left n in
-        (λ h. subst (Number v k left) (sym (law .0 h .0)) (behind-last (omega (arith, lines-long v)) (law .0 h .1)), λ r. law .1 (something-left z n r))
+        which.end-refuses (tests P) (next-due P) end written-lines end-tree (HoldsSoFar P) (Breaks P) v k (nothing-due F) left n F refl (λ l. refl)
+        (omega (arith, lines-long v, z)) (no-numbers (omega (arith, z)) n)
 
   -- ---- all tests
 
-  pub all-follow : Follows (tests P) (next-due P) end written-lines end-tree (HoldsSoFar P) (Breaks P) writer-due Stands
+  pub all-follow : Faithful (tests P) (next-due P) end written-lines end-tree (HoldsSoFar P) (Breaks P) writer-due Stands
   all-follow = record {
     passes = λ v ls b. begins-come P (tests P) (Holds P) (HoldsAmong P) some (all-takes P some) v (b .within .0 .0) (b .within .0 .1) ls (b .more) (b .whole) (b .within .1);
     begins = λ s ls p.
@@ -133,7 +122,7 @@ module _ (P : Instance) (some : 1 ≤ P .periods) where
 
   module _ (n m : ℕ) where
     pub line-refused-is : (ls : List Line)
-        → lines.RefusedAt (tests P) (next-due P) end n m 2 writer-due ls ↔ LineRefused written-lines end-tree (HoldsSoFar P) (Breaks P) n m ls
+        → lines.StopsAt (tests P) (next-due P) end n m 2 writer-due ls ↔ LineRefused written-lines end-tree (HoldsSoFar P) (Breaks P) n m ls
     line-refused-is ls = which.line-refused-is (tests P) (next-due P) end written-lines end-tree (HoldsSoFar P) (Breaks P) all-follow n m ls
 
     -- with the refused line the lines begin no text of a tree within the limits whose leaves, as far as they end there, hold
@@ -157,7 +146,7 @@ module _ (P : Instance) (some : 1 ≤ P .periods) where
     of-all n (at-last e f) = (refl, at-last e f)
     of-all n (behind-last e f) = (refl, behind-last e f)
 
-  form-follow : Follows (λ s l. form-only (tests P s l)) (next-due P) end written-lines end-tree (InLimits P) FormBreaks writer-due Stands
+  form-follow : Faithful (λ s l. form-only (tests P s l)) (next-due P) end written-lines end-tree (InLimits P) FormBreaks writer-due Stands
   form-follow = record {
     passes = λ v ls b. begins-come P (λ s l. form-only (tests P s l)) (λ A t. Unit {0}) (λ A k t. Unit {0}) some (form-takes P some) v (b .within .0) (b .within .1) ls (b .more) (b .whole) tt;
     begins = λ s ls p. let b = begun P some s ls p in (b .text, record { more = b .more; whole = b .whole; within = b .within });
@@ -171,10 +160,10 @@ module _ (P : Instance) (some : 1 ≤ P .periods) where
 
   -- a number of the form breaks a line at its place exactly where its test is the first of these that holds
   pub line-broken-is : (n m : ℕ) (ls : List Line)
-      → lines.RefusedAt (λ s l. form-only (tests P s l)) (next-due P) end n m 2 writer-due ls ↔ ((of-form n ≡ true) × BrokenAt P n m ls)
+      → lines.StopsAt (λ s l. form-only (tests P s l)) (next-due P) end n m 2 writer-due ls ↔ ((of-form n ≡ true) × BrokenAt P n m ls)
   line-broken-is n m ls = (λ r. narrow (law .0 r), λ b. law .1 (widen (b .0) (b .1)))
     where
-      law : lines.RefusedAt (λ s l. form-only (tests P s l)) (next-due P) end n m 2 writer-due ls ↔ LineRefused written-lines end-tree (InLimits P) FormBreaks n m ls
+      law : lines.StopsAt (λ s l. form-only (tests P s l)) (next-due P) end n m 2 writer-due ls ↔ LineRefused written-lines end-tree (InLimits P) FormBreaks n m ls
       law = which.line-refused-is (λ s l. form-only (tests P s l)) (next-due P) end written-lines end-tree (InLimits P) FormBreaks form-follow n m ls
 
       narrow : LineRefused written-lines end-tree (InLimits P) FormBreaks n m ls → (of-form n ≡ true) × BrokenAt P n m ls

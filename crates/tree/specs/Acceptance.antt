@@ -1,13 +1,19 @@
--- What document 01 says of a tree's text as a whole: when it is accepted, apart from any reader.
+-- What document 01 says of a tree's text as a whole: what it gives, and when it is accepted, apart from any reader.
 use mathlib.Core.Path.{_≡_}
 use mathlib.Core.List.{List}
 use Prim.Native.Nat.{ℕ}
 use Rattle.model.specs.Instance.{Instance}
 use Rattle.model.specs.Ranges.{GoodWriter}
 use Rattle.model.specs.Above.{root}
-use Rattle.model.specs.Tree.{Tree, Limits, Holds, bound, splits, leaves}
+use Rattle.model.specs.Tree.{Tree, Limits, Holds, Bound, bound, splits, leaves}
 use Rattle.tree.specs.Rendering.{render}
-use Rattle.tree.specs.Course.{Bounded}
+
+-- what a tree gives, and a part of one that is read: the writer, the smallest price leaf's value, the split lines and the leaves
+pub record Bounded : Type 0 where
+  pub writer : ℕ
+  pub bound : Bound
+  pub splits : ℕ
+  pub leaves : ℕ
 
 -- what a tree by the writer w gives
 abbrev pub bounded-of : Instance → ℕ → Tree → Bounded

@@ -12,7 +12,7 @@ use Rattle.tree.specs.declared.figures.Bound.{Bound}
 use Rattle.tree.specs.declared.figures.Bound.the-variants.{Never, Number}
 use Rattle.tree.specs.declared.figures.Tally.{Tally}
 use Rattle.tree.specs.NodeLines.{is-fixed}
-use Rattle.tree.specs.Course.{Bounded}
+use Rattle.tree.specs.Acceptance.{Bounded}
 
 -- ---- what stands above a node
 

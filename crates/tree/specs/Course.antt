@@ -1,4 +1,4 @@
--- Document 01, Texts: which line of a tree's text is due after which. Units and periods count from 0.
+-- A tree's text judged line by line, as the code follows it: which line is due after which, and what each is found to be. Units and periods count from 0.
 use mathlib.Core.Path.{_≡_}
 use mathlib.Core.Bool.{true, false}
 use mathlib.Core.List.{List, [], _∷_}
@@ -14,14 +14,9 @@ use Rattle.text.specs.Writer.{writer-form}
 use Rattle.text.specs.declared.Kind.the-variants as kind
 use Rattle.text.specs.Course.{Found, Judged, judged-from}
 use Rattle.text.specs.Tests.{Test, found}
-use Rattle.tree.specs.NodeLines.{LineKind, split-line, short-line, stuck-line, price-line, line-kind-of, node-form, reserve-form, named, node-tests, reserve-tests}
-
--- what the lines read so far give: the writer, the smallest price leaf's value, the split lines and the leaves
-pub record Bounded : Type 0 where
-  pub writer : ℕ
-  pub bound : Bound
-  pub splits : ℕ
-  pub leaves : ℕ
+use Rattle.tree.specs.Acceptance.{Bounded}
+use Rattle.tree.specs.NodeLines.{line-kind-of, named, node-tests, reserve-tests}
+use Rattle.tree.specs.Refusals.{LineKind, split-line, short-line, stuck-line, price-line, node-form, reserve-form}
 
 abbrev pub by-writer : ℕ → Bounded
 by-writer w = record { writer = w; bound = never; splits = 0; leaves = 0 }

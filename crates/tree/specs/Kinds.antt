@@ -1,7 +1,7 @@
 -- The code's kinds of node lines.
 use Rattle.tree.specs.declared.node.NodeKind.{NodeKind}
 use Rattle.tree.specs.declared.node.NodeKind.the-variants.{Split, Short, Stuck, Price}
-use Rattle.tree.specs.NodeLines.{LineKind, split-line, short-line, stuck-line, price-line}
+use Rattle.tree.specs.Refusals.{LineKind, split-line, short-line, stuck-line, price-line}
 
 abbrev pub line-kind : NodeKind → LineKind
 line-kind Split = split-line

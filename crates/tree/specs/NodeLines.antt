@@ -1,22 +1,18 @@
--- Document 01, Numbers that come from the text: the tests of one line of a tree by what stands above it.
+-- The tests of one line of a tree by what stands above it, in document 01's order, as the code follows them.
 use mathlib.Core.Bool.{Bool, true, false, not, cond}
 use mathlib.Core.List.{List, [], _∷_}
 use Prim.Native.Nat.{ℕ, _+_, pred}
 use lib.Dec.{ltb}
-use lib.ListN.{length}
 use Rattle.model.specs.Instance.{Instance, _at_}
 use Rattle.model.specs.Above.{Mark, free, fixed, Above}
 use Rattle.model.specs.Leaf.{available, stuck-at, any-stuck}
 use Rattle.text.specs.Lines.{Line, bytes-of, begins}
-use Rattle.text.specs.Forms.{Form, form, plain, numbers-of, form-tests}
+use Rattle.text.specs.Forms.{Form, numbers-of, form-tests}
 use Rattle.text.specs.Tests.{Test, _if_}
-use Rattle.tree.specs.Rendering.{split-key, short-key, stuck-key, price-key, reserve-key}
+use Rattle.tree.specs.Rendering.{split-key, short-key, stuck-key}
+use Rattle.tree.specs.Refusals.{LineKind, split-line, short-line, stuck-line, price-line, node-form, reserve-form}
 
 -- ---- what a line is due to be
-
--- the four node lines
-pub data LineKind : Type 0 where
-  split-line short-line stuck-line price-line : LineKind
 
 -- by the key that the line begins with; a line with no node's key is no price line either
 unfoldable pub line-kind-of : Line → LineKind
@@ -25,16 +21,6 @@ line-kind-of l =
     (cond (begins short-key (bytes-of l)) short-line
     (cond (begins stuck-key (bytes-of l)) stuck-line
     price-line))
-
--- a unit and a period, each from 1 on; or a multiplier for each period
-abbrev pub node-form : Instance → LineKind → Form
-node-form P split-line = form split-key 0 (1 ∷ 1 ∷ []) (length (P .units) ∷ P .periods ∷ [])
-node-form P short-line = plain short-key 1 1 (P .periods)
-node-form P stuck-line = plain stuck-key 1 1 (length (P .units))
-node-form P price-line = plain price-key (P .periods) 0 1000000000
-
-abbrev pub reserve-form : Instance → Form
-reserve-form P = plain reserve-key (P .periods) 0 1000000000
 
 -- a unit or a period that a line names, from 0
 abbrev pub named : Form → Line → ℕ → ℕ

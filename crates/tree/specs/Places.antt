@@ -9,16 +9,16 @@ use Rattle.model.specs.Tree.{Tree, split, short, stuck, price, Holds}
 use Rattle.tree.specs.Rendering.{node-lines}
 
 -- the first line of a node, with what is above it and its depth; or the reserve line of a price leaf, with what is above it and its price multipliers
-pub data Place : Type 0 where
-  node-at : Above → ℕ → Place
-  reserve-at : Above → List ℕ → Place
+pub data LinePlace : Type 0 where
+  node-at : Above → ℕ → LinePlace
+  reserve-at : Above → List ℕ → LinePlace
 
 -- line k, counted from 0, of a tree at depth d with A above it
-pub data LineAt : Above → ℕ → Tree → ℕ → Place → Type 0 where
+pub data LineAt : Above → ℕ → Tree → ℕ → LinePlace → Type 0 where
   first-line : {A : Above} {d : ℕ} {x : Tree} → LineAt A d x 0 (node-at A d)
   reserve-line : {A : Above} {d : ℕ} {q s : List ℕ} → LineAt A d (price q s) 1 (reserve-at A q)
-  in-first : {A : Above} {d U t k : ℕ} {x y : Tree} {w : Place} → LineAt (fix U t false A) (suc d) x k w → LineAt A d (split U t x y) (suc k) w
-  in-second : {A : Above} {d U t k : ℕ} {x y : Tree} {w : Place}
+  in-first : {A : Above} {d U t k : ℕ} {x y : Tree} {w : LinePlace} → LineAt (fix U t false A) (suc d) x k w → LineAt A d (split U t x y) (suc k) w
+  in-second : {A : Above} {d U t k : ℕ} {x y : Tree} {w : LinePlace}
       → LineAt (fix U t true A) (suc d) y k w → LineAt A d (split U t x y) (suc (length (node-lines x) + k)) w
 
 -- every leaf of which all lines are among the tree's first k meets its rule

@@ -20,8 +20,10 @@ use Rattle.tree.specs.declared.splitting.SplitLine.{SplitLine}
 use Rattle.tree.specs.declared.splitting.SplitLine.the-variants as split
 use Rattle.tree.specs.declared.TreeRead.{TreeRead}
 use Rattle.tree.specs.declared.TreeRead.the-variants as answer
-use Rattle.tree.specs.NodeLines.{split-line, node-form, named, node-tests}
-use Rattle.tree.specs.Course.{Bounded, pending, Due, writer-due, nodes-due, reserve-due, nothing-due, judge, tree-judged}
+use Rattle.tree.specs.NodeLines.{named, node-tests}
+use Rattle.tree.specs.Refusals.{split-line, node-form}
+use Rattle.tree.specs.Course.{pending, Due, writer-due, nodes-due, reserve-due, nothing-due, judge, tree-judged}
+use Rattle.tree.specs.Acceptance.{Bounded}
 use Rattle.tree.specs.Coded.{bounded, tally-of}
 pub use Rattle.tree.specs.Coded.{coded}
 

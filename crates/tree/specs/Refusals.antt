@@ -9,12 +9,30 @@ use Rattle.model.specs.Ranges.{GoodWriter}
 use Rattle.model.specs.Above.{free, Above, root}
 use Rattle.model.specs.Tree.{Tree, short, stuck, price, Limits, Holds, Multipliers}
 use Rattle.text.specs.Lines.{Line, ended, later, lines-of, end-tree}
+use Rattle.text.specs.Forms.{Form, form, plain}
 use Rattle.text.specs.Rendering.{plain-line}
 use Rattle.text.specs.Writer.{writer-form}
 use Rattle.text.specs.LineRefused.{Renders, Unfit, LineRefused}
-use Rattle.tree.specs.Rendering.{split-key, short-key, stuck-key, reserve-key, lines-after}
-use Rattle.tree.specs.NodeLines.{LineKind, node-form, reserve-form}
+use Rattle.tree.specs.Rendering.{split-key, short-key, stuck-key, price-key, reserve-key, lines-after}
 use Rattle.tree.specs.Places.{node-at, reserve-at, LineAt, HoldsAmong}
+
+-- ---- document 01, Texts: the forms of a tree's lines of numbers
+
+-- the four node lines
+pub data LineKind : Type 0 where
+  split-line short-line stuck-line price-line : LineKind
+
+-- a unit and a period, each from 1 on; or a multiplier for each period
+abbrev pub node-form : Instance → LineKind → Form
+node-form P split-line = form split-key 0 (1 ∷ 1 ∷ []) (length (P .units) ∷ P .periods ∷ [])
+node-form P short-line = plain short-key 1 1 (P .periods)
+node-form P stuck-line = plain stuck-key 1 1 (length (P .units))
+node-form P price-line = plain price-key (P .periods) 0 1000000000
+
+abbrev pub reserve-form : Instance → Form
+reserve-form P = plain reserve-key (P .periods) 0 1000000000
+
+-- ---- what refuses a line
 
 -- a writer and a tree
 pub record WrittenTree : Type 0 where
@@ -29,7 +47,7 @@ written-lines v = lines-after (v .writer) (v .tree)
 pub data NodeBreaks (P : Instance) (A : Above) (d : ℕ) (l : Line) : ℕ → Type 0 where
   -- 12: it shows no values after any node's key
   no-node : ((k : LineKind) → Unfit (node-form P k) l 12) → NodeBreaks P A d l 12
-  -- 14, 13: it does after the key of one
+  -- 14, 13: it shows values after the key of one, and they do not fit
   unfit : {n : ℕ} (k : LineKind) (neg : Bool) (vs : List ℕ) → Renders (node-form P k) l neg vs → Unfit (node-form P k) l n → NodeBreaks P A d l n
   -- 31: a split on a status that is fixed already
   again : (U t : ℕ) → U < length (P .units) → t < P .periods → l ≡ ended (plain-line split-key (suc U ∷ suc t ∷ [])) → (A .marks U t ≡ free → ⊥) → NodeBreaks P A d l 31
@@ -61,7 +79,7 @@ module _ (P : Instance) where
   abbrev pub HoldsSoFar : WrittenTree → ℕ → Type 0
   HoldsSoFar v k = InLimits v k × HoldsAmong P root (k - 1) (v .tree)
 
-  -- the lines before line m begin the text of a writer and a tree within the limits, and n refuses line m, of lines after the first
+  -- the lines before line m begin the text of a writer and a tree within the limits, and n refuses line m; ls are the lines after the first
   abbrev pub BrokenAt : ℕ → ℕ → List Line → Type 0
   BrokenAt n m ls = LineRefused written-lines end-tree InLimits Breaks n m ls
 

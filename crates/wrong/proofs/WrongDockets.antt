@@ -18,7 +18,7 @@ use Rattle.refusal.specs.declared.Refusal.{Refusal}
 use Rattle.problem.proofs.Examples.{example, example-formed}
 use Rattle.schedule.specs.Rendering as schedules
 use Rattle.tree.specs.Rendering as rendered-trees
-use Rattle.tree.specs.Course.{Bounded}
+use Rattle.tree.specs.Acceptance.{Bounded}
 use Rattle.docket.specs.declared.Docket.{Docket}
 use Rattle.docket.specs.declared.held.HeldBound.{HeldBound}
 use Rattle.answer.specs.StatedAnswers.{its-cost, its-bound, Stated, held, Carries}

@@ -13,7 +13,7 @@ use Rattle.writer.specs.declared.Figure.{Figure}
 use Rattle.writer.specs.declared.Figure.the-variants.{Missing, Number}
 use Rattle.report.specs.declared.Figures as shown
 use Rattle.problem.proofs.Examples.{example}
-use Rattle.tree.specs.Course.{Bounded}
+use Rattle.tree.specs.Acceptance.{Bounded}
 use Rattle.report.specs.StatedReports.{its-length}
 use Rattle.docket.specs.Verdicts.{problem, schedule, tree}
 use Rattle.docket.specs.Texts.{Are}

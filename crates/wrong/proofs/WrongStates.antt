@@ -14,7 +14,7 @@ use Rattle.model.proofs.Lists.{held-least, held-highest}
 use Rattle.model.proofs.Unbroken.{meets-shaped}
 use Rattle.judge.specs.Rows.{schedule-of}
 use Rattle.schedule.proofs.Filling.{rows-held}
-use Rattle.tree.specs.Course.{Bounded}
+use Rattle.tree.specs.Acceptance.{Bounded}
 use Rattle.docket.specs.declared.Docket.{Docket}
 use Rattle.docket.specs.declared.held.CostBy.{CostBy}
 use Rattle.docket.specs.declared.held.Held.{Held}

@@ -14,7 +14,7 @@ use Rattle.model.specs.Tree.{Bound, never, number}
 use Rattle.model.specs.Best.{FirstLeast, FirstHighest}
 use Rattle.model.specs.Held.{view}
 use Rattle.judge.specs.Rows.{schedule-of}
-use Rattle.tree.specs.Course.{Bounded}
+use Rattle.tree.specs.Acceptance.{Bounded}
 use Rattle.docket.specs.declared.held.BoundBy.{BoundBy}
 use Rattle.docket.specs.declared.held.CostBy.{CostBy}
 use Rattle.docket.specs.declared.held.HeldCost.the-variants as cost

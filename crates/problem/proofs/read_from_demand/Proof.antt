@@ -2,7 +2,8 @@ use mathlib.Core.Path.{refl, sym, ap}
 use Rattle.text.specs.Lines.{line-at}
 use Rattle.text.proofs.PlainRows.{plain-row}
 use Rattle.problem.specs.Rendering.{demand-key}
-use Rattle.problem.specs.Course.{demand-due, spare-due, demand-form}
+use Rattle.problem.specs.Course.{demand-due, spare-due}
+use Rattle.problem.specs.Refusals.{demand-form}
 use Rattle.problem.proofs.LineByLine.{line-refused, line-good}
 use borrow.Author.Needs.{needs}
 use Rattle.problem.proofs.read_from_demand.Statement.{statement}

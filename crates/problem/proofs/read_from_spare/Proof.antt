@@ -5,7 +5,8 @@ use lib.ListN.{take}
 use Rattle.text.specs.Lines.{line-at}
 use Rattle.text.proofs.PlainRows.{plain-row}
 use Rattle.problem.specs.Rendering.{spare-key}
-use Rattle.problem.specs.Course.{spare-due, fleet-due, no-units, spare-form}
+use Rattle.problem.specs.Course.{spare-due, fleet-due, no-units}
+use Rattle.problem.specs.Refusals.{spare-form}
 use Rattle.problem.proofs.LineByLine.{line-refused, line-good}
 use borrow.Author.Needs.{needs}
 use Rattle.problem.proofs.read_from_spare.Statement.{statement}

@@ -3,7 +3,8 @@ use mathlib.Core.Path.{refl, sym, ap}
 use Rattle.text.specs.Lines.{line-at}
 use Rattle.text.proofs.PlainRows.{plain-row}
 use Rattle.problem.specs.Rendering.{units-key}
-use Rattle.problem.specs.Course.{units-due, demand-due, units-form}
+use Rattle.problem.specs.Course.{units-due, demand-due}
+use Rattle.problem.specs.Refusals.{units-form}
 use Rattle.problem.proofs.LineByLine.{line-refused, line-good}
 use borrow.Author.Needs.{needs}
 use Rattle.problem.proofs.read_from_units.Statement.{statement}

@@ -3,7 +3,8 @@ use mathlib.Core.Path.{refl, sym, ap, _∙_}
 use Rattle.text.specs.Lines.{line-at}
 use Rattle.text.proofs.PlainRows.{plain-row}
 use Rattle.problem.specs.Rendering.{periods-key}
-use Rattle.problem.specs.Course.{periods-due, units-due, periods-form}
+use Rattle.problem.specs.Course.{periods-due, units-due}
+use Rattle.problem.specs.Refusals.{periods-form}
 use Rattle.problem.proofs.LineByLine.{line-refused, line-good}
 use Rattle.problem.proofs.FirstLine.{from-second}
 use borrow.Author.Needs.{needs}

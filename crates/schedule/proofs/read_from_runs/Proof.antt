@@ -12,7 +12,8 @@ use Rattle.text.specs.Forms.{row-of}
 use Rattle.text.proofs.Verdicts.{ruled-refused}
 use Rattle.text.proofs.Fills.{PlainFilled, plain-filled}
 use Rattle.schedule.specs.Rendering.{run-key}
-use Rattle.schedule.specs.Course.{written, runs-due, run-form}
+use Rattle.schedule.specs.Course.{runs-due}
+use Rattle.schedule.specs.Refusals.{written, run-form}
 use Rattle.schedule.specs.Storing.{read-from}
 use Rattle.schedule.proofs.Runs.{outputs-in, rows-fit, Reading, reading-none, reading-done, reading-filled, reading-stopped, reading-more}
 use Rattle.schedule.proofs.Filling.{filled-length}

@@ -8,7 +8,7 @@ use Rattle.numbers.specs.Numbers.{instance-in}
 use Rattle.text.specs.Lines.{line-at}
 use Rattle.text.specs.Forms.{plain, row-of}
 use Rattle.tree.specs.Rendering.{price-key}
-use Rattle.tree.specs.NodeLines.{price-line, node-form}
+use Rattle.tree.specs.Refusals.{price-line, node-form}
 use Rattle.tree.specs.Coded.{above-of}
 use Rattle.tree.proofs.Rows.{Moved, row-refused, row-moved, taken-multipliers}
 use Rattle.tree.proofs.ReadLines.{moved-placed}

@@ -19,7 +19,7 @@ use Rattle.text.specs.Lines.{line-at}
 use Rattle.text.specs.Forms.{plain, row-of}
 use Rattle.tree.specs.declared.figures.Bound.the-variants.{Number}
 use Rattle.tree.specs.Rendering.{reserve-key}
-use Rattle.tree.specs.NodeLines.{reserve-form}
+use Rattle.tree.specs.Refusals.{reserve-form}
 use Rattle.tree.specs.Coded.{above-of, one-leaf}
 use Rattle.tree.proofs.Places.{statuses-fit}
 use Rattle.tree.proofs.Rows.{Moved, row-moved, taken-multipliers}

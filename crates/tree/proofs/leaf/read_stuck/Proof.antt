@@ -9,7 +9,7 @@ use Rattle.tree.specs.declared.figures.Bound.the-variants.{Never}
 use Rattle.tree.specs.declared.naming.NamedLine.{NamedLine}
 use Rattle.tree.specs.declared.naming.NamedLine.the-variants.{Refused, Names}
 use Rattle.tree.specs.Rendering.{stuck-key}
-use Rattle.tree.specs.NodeLines.{stuck-line}
+use Rattle.tree.specs.Refusals.{stuck-line}
 use Rattle.tree.specs.Coded.{above-of}
 use Rattle.tree.specs.ReadAnswers.{named-line-read}
 use Rattle.tree.proofs.Places.{statuses-fit}

@@ -13,7 +13,8 @@ use Rattle.walk.specs.Marks.{mark-of}
 use Rattle.tree.specs.Kinds.{line-kind}
 use Rattle.tree.specs.Coded.{above-of}
 use Rattle.tree.specs.declared.leaf.Read.{Read}
-use Rattle.tree.specs.NodeLines.{line-kind-of, split-line, short-line, stuck-line, price-line}
+use Rattle.tree.specs.NodeLines.{line-kind-of}
+use Rattle.tree.specs.Refusals.{split-line, short-line, stuck-line, price-line}
 use Rattle.tree.specs.ReadAnswers.{node-read, trees-read}
 use Rattle.tree.proofs.Places.{place-inside}
 use Rattle.tree.proofs.Marked.{split-is, set-length, set-over, set-back}

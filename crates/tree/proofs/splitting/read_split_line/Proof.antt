@@ -17,7 +17,8 @@ use Rattle.text.specs.Forms.{form, row-of, all-below}
 use Rattle.text.proofs.Fills.{Filled, filled}
 use Rattle.text.proofs.Verdicts.{ruled-refused}
 use Rattle.tree.specs.Rendering.{split-key}
-use Rattle.tree.specs.NodeLines.{split-line, node-form, is-fixed}
+use Rattle.tree.specs.NodeLines.{is-fixed}
+use Rattle.tree.specs.Refusals.{split-line, node-form}
 use Rattle.tree.specs.Coded.{marks-in, above-of, split-refusal}
 use Rattle.tree.proofs.Places.{place-inside}
 use Rattle.tree.proofs.Marked.{mark-there}
