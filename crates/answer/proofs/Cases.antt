@@ -4,23 +4,22 @@ use mathlib.Core.Path.{_≡_, sym, ap}
 use mathlib.Core.List.{[], _∷_, _++_}
 use lib.IntN.{ℤ}
 use Rattle.refusal.specs.declared.Refusal.{Refusal}
-use Rattle.tree.specs.declared.figures.Bound.{Bound}
-use Rattle.tree.specs.declared.figures.Bound.the-variants as bound
-use Rattle.tree.specs.Coded.{bound-of}
+use Rattle.model.specs.declared.figures.Bound.{Bound}
+use Rattle.model.specs.declared.figures.Bound.the-variants.{Number as number}
+use Rattle.model.specs.declared.figures.TreeFigures.{TreeFigures}
 use Rattle.writer.specs.Written.{figure-of}
 use Rattle.writer.specs.declared.Figure.{Figure}
 use Rattle.writer.specs.declared.Figure.the-variants.{Number}
 use Rattle.answer.specs.declared.Answer.{Answer}
 use Rattle.answer.specs.declared.Answer.the-variants.{Refused, TextHeld, ScheduleHeld, SchedulePassed, TreeHeld, TreePassed}
-use Rattle.answer.specs.declared.TreeFigures.{TreeFigures}
-use Rattle.answer.specs.StatedAnswers.{its-cost, tree-values, stated}
+use Rattle.answer.specs.StatedAnswers.{its-cost, its-bound, stated}
 use Rattle.answer.specs.AnswerLines.{bound-figure, value-figures, ending, held-key, passed-key, answer-line}
 
-pub number-shown : (b : Bound) (z : ℤ) → b ≡ bound.Number z → figure-of z ≡ bound-figure (bound-of b)
-number-shown b z e = sym (ap (λ (x : Bound). bound-figure (bound-of x)) e)
+pub number-shown : (b : Bound) (z : ℤ) → b ≡ number z → figure-of z ≡ bound-figure b
+number-shown b z e = sym (ap bound-figure e)
 
-pub tree-ending : (s : Figure) (f : TreeFigures) → s ≡ bound-figure (bound-of (f .bound))
-    → ending (s ∷ Number (f .splits) ∷ Number (f .leaves) ∷ []) ≡ ending (value-figures (tree-values f))
+pub tree-ending : (s : Figure) (f : TreeFigures) → s ≡ bound-figure (f .bound)
+    → ending (s ∷ Number (f .splits) ∷ Number (f .leaves) ∷ []) ≡ ending (value-figures (its-bound f))
 tree-ending s f e = ap (λ (x : Figure). ending (x ∷ Number (f .splits) ∷ Number (f .leaves) ∷ [])) e
 
 module _ (a : Answer) where
@@ -39,10 +38,10 @@ module _ (a : Answer) where
   unfolding answer-line
   is-schedule-passed c e = sym (ap (λ (x : Answer). answer-line (stated x)) e)
 
-  pub is-tree-held : (f : TreeFigures) → a ≡ TreeHeld f → held-key ++ ending (value-figures (tree-values f)) ≡ answer-line (stated a)
+  pub is-tree-held : (f : TreeFigures) → a ≡ TreeHeld f → held-key ++ ending (value-figures (its-bound f)) ≡ answer-line (stated a)
   unfolding answer-line
   is-tree-held f e = sym (ap (λ (x : Answer). answer-line (stated x)) e)
 
-  pub is-tree-passed : (f : TreeFigures) → a ≡ TreePassed f → passed-key ++ ending (value-figures (tree-values f)) ≡ answer-line (stated a)
+  pub is-tree-passed : (f : TreeFigures) → a ≡ TreePassed f → passed-key ++ ending (value-figures (its-bound f)) ≡ answer-line (stated a)
   unfolding answer-line
   is-tree-passed f e = sym (ap (λ (x : Answer). answer-line (stated x)) e)

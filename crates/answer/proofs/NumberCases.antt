@@ -4,15 +4,15 @@ use mathlib.Core.Path.{_≡_, refl, sym, ap, _∙_}
 use mathlib.Core.List.{List, [], _∷_, _++_}
 use lib.IntN.{pos, negsuc}
 use Rattle.model.specs.Instance.{_at_}
-use Rattle.model.specs.Tree.{Bound, never, number}
+use Rattle.model.specs.declared.figures.Bound.{Bound}
+use Rattle.model.specs.declared.figures.Bound.the-variants.{Never as never, Number as number}
+use Rattle.model.specs.declared.figures.TreeFigures.{TreeFigures}
 use Rattle.model.specs.Held.{pad}
-use Rattle.tree.specs.Coded.{bound-of}
 use Rattle.writer.specs.Written.{figure-of}
 use Rattle.writer.specs.declared.Figure.{Figure}
 use Rattle.writer.specs.declared.Figure.the-variants.{Missing, Never, Number, Minus}
 use Rattle.answer.specs.declared.Answer.{Answer}
-use Rattle.answer.specs.declared.TreeFigures.{TreeFigures}
-use Rattle.answer.specs.StatedAnswers.{tree-values, stated}
+use Rattle.answer.specs.StatedAnswers.{its-bound, stated}
 use Rattle.answer.specs.AnswerLines.{bound-figure}
 use Rattle.answer.specs.AnswerNumbers.{bound-numbers, value-numbers, answer-numbers}
 
@@ -43,10 +43,10 @@ tree-is k m n never = refl
 tree-is k m n (number (pos z)) = refl
 tree-is k m n (number (negsuc z)) = refl
 
-pub tree-told : (k : ℕ) (f : TreeFigures) (p : List ℕ) → p ≡ bound-numbers (bound-of (f .bound))
+pub tree-told : (k : ℕ) (f : TreeFigures) (p : List ℕ) → p ≡ bound-numbers (f .bound)
     → k ∷ p at 0 ∷ p at 1 ∷ f .splits ∷ f .leaves ∷ 0 ∷ 0 ∷ 0 ∷ 0 ∷ 0 ∷ 0 ∷ 0 ∷ 0 ∷ 0 ∷ 0 ∷ 0 ∷ []
-    ≡ pad 0 16 (k ∷ value-numbers (tree-values f))
-tree-told k f p e = rw e (tree-is k (f .splits) (f .leaves) (bound-of (f .bound)))
+    ≡ pad 0 16 (k ∷ value-numbers (its-bound f))
+tree-told k f p e = rw e (tree-is k (f .splits) (f .leaves) (f .bound))
 
 -- ---- an answer that is x
 

@@ -2,8 +2,9 @@
 use mathlib.Core.Path.{_≡_, refl}
 use mathlib.Core.List.{[], _∷_}
 use lib.IntN.{pos, negsuc}
-use Rattle.model.specs.Tree.{never, number}
+use Rattle.model.specs.declared.figures.Bound.the-variants.{Never as never, Number as number}
 use Rattle.model.specs.Held.{pad}
+use Rattle.model.specs.Figures.{tree-gives}
 use Rattle.answer.specs.StatedAnswers.{no-values, its-cost, its-bound, refused, held, passed}
 use Rattle.answer.specs.AnswerNumbers.{answer-numbers}
 
@@ -32,19 +33,19 @@ unfolding answer-numbers pad
 schedule-passed = refl
 
 -- answer=held,1980,1,2
-tree-held : answer-numbers (held (its-bound (number (pos 1980)) 1 2))
+tree-held : answer-numbers (held (its-bound (tree-gives (number (pos 1980)) 1 2)))
     ≡ 1 ∷ 2 ∷ 1980 ∷ 1 ∷ 2 ∷ 0 ∷ 0 ∷ 0 ∷ 0 ∷ 0 ∷ 0 ∷ 0 ∷ 0 ∷ 0 ∷ 0 ∷ 0 ∷ []
 unfolding answer-numbers pad
 tree-held = refl
 
 -- answer=passed,-30,0,1
-minus-passed : answer-numbers (passed (its-bound (number (negsuc 29)) 0 1))
+minus-passed : answer-numbers (passed (its-bound (tree-gives (number (negsuc 29)) 0 1)))
     ≡ 2 ∷ 3 ∷ 30 ∷ 0 ∷ 1 ∷ 0 ∷ 0 ∷ 0 ∷ 0 ∷ 0 ∷ 0 ∷ 0 ∷ 0 ∷ 0 ∷ 0 ∷ 0 ∷ []
 unfolding answer-numbers pad
 minus-passed = refl
 
 -- answer=held,never,1,2
-never-held : answer-numbers (held (its-bound never 1 2))
+never-held : answer-numbers (held (its-bound (tree-gives never 1 2)))
     ≡ 1 ∷ 4 ∷ 0 ∷ 1 ∷ 2 ∷ 0 ∷ 0 ∷ 0 ∷ 0 ∷ 0 ∷ 0 ∷ 0 ∷ 0 ∷ 0 ∷ 0 ∷ 0 ∷ []
 unfolding answer-numbers pad
 never-held = refl

@@ -5,7 +5,9 @@ use mathlib.Core.List.{List, _∷_}
 use lib.IntN.{ℤ, pos, negsuc}
 use lib.ListN.{length}
 use Rattle.model.specs.Instance.{_at_}
-use Rattle.model.specs.Tree.{never, number}
+use Rattle.model.specs.declared.figures.Bound.{Bound}
+use Rattle.model.specs.declared.figures.Bound.the-variants.{Never as never, Number as number}
+use Rattle.model.specs.Figures.{tree-gives}
 use Rattle.model.specs.Held.{pad}
 use Rattle.answer.specs.StatedAnswers.{AnswerValues, no-values, its-cost, its-bound, Stated, refused, held, passed}
 use Rattle.answer.specs.AnswerNumbers.{value-numbers, answer-numbers}
@@ -16,9 +18,12 @@ values-long : (k : ℕ) (v : AnswerValues) → length (pad 0 16 (k ∷ value-num
 unfolding pad
 values-long k no-values = refl
 values-long k (its-cost c) = refl
-values-long k (its-bound never m n) = refl
-values-long k (its-bound (number (pos b)) m n) = refl
-values-long k (its-bound (number (negsuc b)) m n) = refl
+values-long k (its-bound F) = go (F .bound) (F .splits) (F .leaves)
+  where
+    go : (b : Bound) (m n : ℕ) → length (pad 0 16 (k ∷ value-numbers (its-bound (tree-gives b m n)))) ≡ 16
+    go never m n = refl
+    go (number (pos b)) m n = refl
+    go (number (negsuc b)) m n = refl
 
 pub answer-numbers-long : (s : Stated) → length (answer-numbers s) ≡ 16
 unfolding answer-numbers pad
@@ -36,9 +41,9 @@ below (suc n) = negsuc n
 abbrev values-by : (kind size splits leaves : ℕ) → AnswerValues
 values-by zero s m n = no-values
 values-by (suc zero) s m n = its-cost s
-values-by (suc (suc zero)) s m n = its-bound (number (pos s)) m n
-values-by (suc (suc (suc zero))) s m n = its-bound (number (below s)) m n
-values-by (suc (suc (suc (suc k)))) s m n = its-bound never m n
+values-by (suc (suc zero)) s m n = its-bound (tree-gives (number (pos s)) m n)
+values-by (suc (suc (suc zero))) s m n = its-bound (tree-gives (number (below s)) m n)
+values-by (suc (suc (suc (suc k)))) s m n = its-bound (tree-gives never m n)
 
 abbrev values-in : List ℕ → AnswerValues
 values-in v = values-by (v at 1) (v at 2) (v at 3) (v at 4)
@@ -57,9 +62,12 @@ values-again : (k : ℕ) (v : AnswerValues) → values-in (pad 0 16 (k ∷ value
 unfolding pad
 values-again k no-values = refl
 values-again k (its-cost c) = refl
-values-again k (its-bound never m n) = refl
-values-again k (its-bound (number (pos b)) m n) = refl
-values-again k (its-bound (number (negsuc b)) m n) = refl
+values-again k (its-bound F) = go (F .bound) (F .splits) (F .leaves)
+  where
+    go : (b : Bound) (m n : ℕ) → values-in (pad 0 16 (k ∷ value-numbers (its-bound (tree-gives b m n)))) ≡ its-bound (tree-gives b m n)
+    go never m n = refl
+    go (number (pos b)) m n = refl
+    go (number (negsuc b)) m n = refl
 
 answer-again : (s : Stated) → answer-in (answer-numbers s) ≡ s
 unfolding answer-numbers pad

@@ -6,7 +6,8 @@ use mathlib.Core.List.{List, [], _∷_}
 use lib.IntN.{pos, negsuc}
 use lib.ListN.{length, length-append}
 use Rattle.decimal.proofs.Digits.{width-below}
-use Rattle.model.specs.Tree.{Bound, never, number}
+use Rattle.model.specs.declared.figures.Bound.{Bound}
+use Rattle.model.specs.declared.figures.Bound.the-variants.{Never as never, Number as number}
 use Rattle.model.proofs.LeafSizes.{Fits}
 use Rattle.writer.specs.Written.{figure, figure-of}
 use Rattle.writer.specs.declared.Figure.{Figure}
@@ -20,7 +21,7 @@ use Rattle.answer.specs.AnswerLines.{bound-figure, value-figures, ending
 abbrev pub SmallValues : AnswerValues → Type 0
 SmallValues no-values = Unit {0}
 SmallValues (its-cost c) = c < 1_000_000_000_000_000_000
-SmallValues (its-bound b m n) = Fits b × ((m < 10_000_000) × (n < 10_000_000))
+SmallValues (its-bound F) = Fits (F .bound) × ((F .splits < 10_000_000) × (F .leaves < 10_000_000))
 
 -- a number, a unit and a period below 100, a line below 10^7
 abbrev pub Small : Stated → Type 0
@@ -49,7 +50,10 @@ ending-more f fs = ap suc (length-append (figure f) (ending fs))
 ending-fits : (v : AnswerValues) → SmallValues v → length (ending (value-figures v)) ≤ 37
 ending-fits no-values s = omega arith
 ending-fits (its-cost c) s = omega (arith, ending-more (Number c) [], number-width 17 c s)
-ending-fits (its-bound b m n) s =
+ending-fits (its-bound F) s =
+    let b = F .bound in
+    let m = F .splits in
+    let n = F .leaves in
     omega (
       arith,
       ending-more (bound-figure b) (Number m ∷ Number n ∷ []),

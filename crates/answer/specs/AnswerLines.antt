@@ -1,7 +1,8 @@
 -- Document 01, The listing program: the line that shows an answer.
 use mathlib.Core.List.{List, [], _∷_, _++_}
 use Prim.Native.Nat.{ℕ}
-use Rattle.model.specs.Tree.{Bound, never, number}
+use Rattle.model.specs.declared.figures.Bound.{Bound}
+use Rattle.model.specs.declared.figures.Bound.the-variants.{Never as never, Number as number}
 use Rattle.writer.specs.Written.{figure, figure-of}
 use Rattle.writer.specs.declared.Figure.{Figure}
 use Rattle.writer.specs.declared.Figure.the-variants.{Never, Number}
@@ -16,7 +17,7 @@ bound-figure (number z) = figure-of z
 abbrev pub value-figures : AnswerValues → List Figure
 value-figures no-values = []
 value-figures (its-cost c) = Number c ∷ []
-value-figures (its-bound b m n) = bound-figure b ∷ Number m ∷ Number n ∷ []
+value-figures (its-bound F) = bound-figure (F .bound) ∷ Number (F .splits) ∷ Number (F .leaves) ∷ []
 
 -- how the line ends: the values, each behind a comma, and byte 10
 abbrev pub ending : List Figure → List ℕ

@@ -2,7 +2,8 @@
 use mathlib.Core.List.{List, [], _∷_, _++_}
 use Prim.Native.Nat.{ℕ, suc}
 use lib.IntN.{pos, negsuc}
-use Rattle.model.specs.Tree.{Bound, never, number}
+use Rattle.model.specs.declared.figures.Bound.{Bound}
+use Rattle.model.specs.declared.figures.Bound.the-variants.{Never as never, Number as number}
 use Rattle.model.specs.Held.{pad}
 use Rattle.answer.specs.StatedAnswers.{AnswerValues, no-values, its-cost, its-bound, Stated, refused, held, passed}
 
@@ -16,7 +17,7 @@ bound-numbers never = 4 ∷ 0 ∷ []
 abbrev pub value-numbers : AnswerValues → List ℕ
 value-numbers no-values = 0 ∷ []
 value-numbers (its-cost c) = 1 ∷ c ∷ []
-value-numbers (its-bound b m n) = bound-numbers b ++ (m ∷ n ∷ [])
+value-numbers (its-bound F) = bound-numbers (F .bound) ++ (F .splits ∷ F .leaves ∷ [])
 
 -- 0 for refused, 1 for held, 2 for passed; a refusal has 0, and then its number, line, unit and period
 abbrev pub stated-numbers : Stated → List ℕ

@@ -4,21 +4,14 @@ ghost use mathlib.Core.List.{[], _∷_, _++_};
 ghost use Prim.Native.Nat.{_≤_};
 ghost use lib.ListN.{length};
 ghost use Rattle.writer.specs.Written.{over, figure};
-ghost use Rattle.tree.specs.Coded.{bound-of};
-ghost use Rattle.answer.specs.StatedAnswers.{its-cost, tree-values, stated};
+ghost use Rattle.answer.specs.StatedAnswers.{its-cost, its-bound, stated};
 ghost use Rattle.answer.specs.AnswerLines.{bound-figure, value-figures, ending, answer-line};
+use model::figures::Bound;
+use model::figures::TreeFigures;
 use refusal::Refusal;
-use tree::figures::Bound;
 use writer::Figure;
 
 pub mod values;
-
-// What an accepted tree gives: its bound, its split lines and its leaves.
-pub struct TreeFigures {
-    pub bound: Bound,
-    pub splits: usize,
-    pub leaves: usize,
-}
 
 // Refused; or held or passed, a schedule with its cost and a tree with its figures; or held, any other text, with none.
 pub enum Answer {
@@ -32,7 +25,7 @@ pub enum Answer {
 
 // The figure that shows a bound.
 fn figure_of_bound(bound: Bound) -> Figure
-    ensures { λ r. ⌜ r ≡ bound-figure (bound-of bound) ⌝ }
+    ensures { λ r. ⌜ r ≡ bound-figure bound ⌝ }
 {
     match bound {
         Bound::Never => Figure::Never,
@@ -121,9 +114,9 @@ fn write_cost(buf: &mut [u8], key: &[u8], cost: u64) -> usize
 
 // How many bytes were written: key and a tree's bound, splits and leaves, at the front of buf.
 fn write_tree(buf: &mut [u8], key: &[u8], figures: TreeFigures) -> usize
-    requires { ⌜ length (now key ++ ending (value-figures (tree-values figures))) ≤ length (now buf) ⌝ }
-    ensures { λ r. ⌜ r ≡ length (now (key .entry) ++ ending (value-figures (tree-values figures))) ⌝ }
-    ensures { λ _. ⌜ now (buf .exit) ≡ over (now (key .entry) ++ ending (value-figures (tree-values figures))) (now (buf .entry)) ⌝ }
+    requires { ⌜ length (now key ++ ending (value-figures (its-bound figures))) ≤ length (now buf) ⌝ }
+    ensures { λ r. ⌜ r ≡ length (now (key .entry) ++ ending (value-figures (its-bound figures))) ⌝ }
+    ensures { λ _. ⌜ now (buf .exit) ≡ over (now (key .entry) ++ ending (value-figures (its-bound figures))) (now (buf .entry)) ⌝ }
 {
     let bound = figures.bound;
     let shown = figure_of_bound(bound);

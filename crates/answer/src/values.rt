@@ -2,13 +2,12 @@
 ghost use mathlib.Core.Path.{_≡_};
 ghost use mathlib.Core.List.{_∷_};
 ghost use Rattle.model.specs.Held.{pad};
-ghost use Rattle.tree.specs.Coded.{bound-of};
-ghost use Rattle.answer.specs.StatedAnswers.{its-cost, tree-values, stated};
+ghost use Rattle.answer.specs.StatedAnswers.{its-cost, its-bound, stated};
 ghost use Rattle.answer.specs.AnswerNumbers.{bound-numbers, value-numbers, answer-numbers};
 use crate::Answer;
-use crate::TreeFigures;
+use model::figures::Bound;
+use model::figures::TreeFigures;
 use refusal::Refusal;
-use tree::figures::Bound;
 use writer::Figure;
 
 // What the first number says of an accepted text.
@@ -36,7 +35,7 @@ fn cost_numbers(first: u64, cost: u64) -> [u64; 16]
 
 // The two numbers of a bound.
 fn bound_numbers(bound: Bound) -> [u64; 2]
-    ensures { λ r. ⌜ r ≡ bound-numbers (bound-of bound) ⌝ }
+    ensures { λ r. ⌜ r ≡ bound-numbers bound ⌝ }
 {
     let shown = crate::figure_of_bound(bound);
     match shown {
@@ -49,7 +48,7 @@ fn bound_numbers(bound: Bound) -> [u64; 2]
 
 // The numbers of a tree that is HELD or PASSED, with its figures.
 fn tree_numbers(first: u64, figures: TreeFigures) -> [u64; 16]
-    ensures { λ r. ⌜ r ≡ pad 0 16 (first ∷ value-numbers (tree-values figures)) ⌝ }
+    ensures { λ r. ⌜ r ≡ pad 0 16 (first ∷ value-numbers (its-bound figures)) ⌝ }
 {
     let bound = figures.bound;
     let parts = bound_numbers(bound);

@@ -35,7 +35,7 @@ use Rattle.docket.specs.Docket.{fresh-docket, size-limit, small-number, 
 use Rattle.docket.specs.Verdicts as verdict
 use Rattle.docket.specs.Verdicts.{Verdict}
 use Rattle.docket.specs.Texts.{Is}
-use Rattle.docket.specs.Lodging.{lodged, hold, text-judged, admit, admit-kind, refuse-whole, verdict-by, trusted, lodge-of, is-less, is-higher, with-schedule, with-bound, given-figures}
+use Rattle.docket.specs.Lodging.{lodged, hold, text-judged, admit, admit-kind, refuse-whole, verdict-by, trusted, lodge-of, is-less, is-higher, with-schedule, with-bound}
 use Rattle.docket.specs.Report.{text-shown, report-of, buffer-of}
 use Rattle.docket.specs.ReportDue.{WrittenOr43}
 use Rattle.docket.specs.Promised.{Long, KnownSound, JudgesBy, its-own, no-problem}
@@ -136,9 +136,9 @@ module _ (d e : Docket) where
       go : (c : Bool) → stated (cond c (lodged (with-schedule e s) (ScheduleHeld (s .cost))) (lodged d (SchedulePassed (s .cost))) .answer) ≡ answers.refused (r .number) (r .line) (r .unit) (r .period) → ⊥
       go true h = let z : _≡_ {A = ℕ} 0 1 = cc in omega arith
       go false h = let z : _≡_ {A = ℕ} 0 1 = cc in omega arith
-  refused-hold (verdict.tree F) r h = absurd (go (is-higher (F .bound) (e .held .bound)) h)
+  refused-hold (verdict.tree F) r h = absurd (go (is-higher (F .figures .bound) (e .held .bound)) h)
     where
-      go : (c : Bool) → stated (cond c (lodged (with-bound e F) (TreeHeld (given-figures F))) (lodged d (TreePassed (given-figures F))) .answer) ≡ answers.refused (r .number) (r .line) (r .unit) (r .period) → ⊥
+      go : (c : Bool) → stated (cond c (lodged (with-bound e F) (TreeHeld (F .figures))) (lodged d (TreePassed (F .figures))) .answer) ≡ answers.refused (r .number) (r .line) (r .unit) (r .period) → ⊥
       go true h = let z : _≡_ {A = ℕ} 0 1 = cc in omega arith
       go false h = let z : _≡_ {A = ℕ} 0 1 = cc in omega arith
 

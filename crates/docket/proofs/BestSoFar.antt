@@ -9,7 +9,7 @@ use Prim.Native.Nat.{ℕ}
 use native.Mathlib.Omega.{arith}
 use lib.Dec.{T, ltb→lt, lt→ltb, nltb→le}
 use Rattle.model.specs.Ranges.{every}
-use Rattle.model.specs.Tree.{Bound}
+use Rattle.model.specs.declared.figures.Bound.{Bound}
 use Rattle.model.specs.Best.{First}
 use Rattle.model.proofs.Lists.{take, held-after, IsFirst, cheaper, raises, higher-trans, higher-weak}
 use Rattle.model.proofs.Tests.{T-and, T-and-l, T-and-r}

@@ -8,7 +8,8 @@ use Prim.Native.Nat.{ℕ}
 use Rattle.model.specs.Instance.{Instance}
 use Rattle.model.specs.Ranges.{All}
 use Rattle.model.specs.Held.{view}
-use Rattle.model.specs.Tree.{Bound, never, number}
+use Rattle.model.specs.declared.figures.Bound.{Bound}
+use Rattle.model.specs.declared.figures.Bound.the-variants.{Never as never, Number as number}
 use Rattle.model.proofs.Lists.{IsFirst, held-least, held-highest}
 use Rattle.model.proofs.Soundness.{number-sound, never-sound}
 use Rattle.tree.specs.Acceptance.{Bounded}
@@ -16,7 +17,7 @@ use Rattle.docket.specs.declared.Docket.{Docket}
 use Rattle.answer.specs.declared.Answer.the-variants.{ScheduleHeld, SchedulePassed, TreeHeld, TreePassed}
 use Rattle.answer.specs.StatedAnswers.{stated}
 use Rattle.docket.specs.Verdicts.{Costed, Verdict, refused, problem, schedule, tree, schedules, trees, known-at-end}
-use Rattle.docket.specs.Lodging.{text-judged, lodged, with-schedule, with-bound, is-less, is-higher, given-figures, bound-by, hold, trusted, lodge-of}
+use Rattle.docket.specs.Lodging.{text-judged, lodged, with-schedule, with-bound, is-less, is-higher, bound-by, hold, trusted, lodge-of}
 use Rattle.docket.specs.Report.{text-shown, report-of, buffer-of}
 use Rattle.docket.specs.ReportDue.{ReportDue}
 use Rattle.docket.specs.Demand3.{reached, CostHeld, BoundHeld, Holding, Unheld, Demand3}
@@ -38,12 +39,12 @@ module _ (P : Instance) where
 
   bound-held : (b : Option Bounded) (l : List Bounded) → IsFirst by-bound b l → All (GoodTree P) l → BoundHeld P l (bound-kept b)
   bound-held none l e g = e
-  bound-held (some h) l f g = go (h .bound) refl
+  bound-held (some h) l f g = go (h .figures .bound) refl
     where
       t : GoodTree P h
       t = all-mem (GoodTree P) l g h (first-mem by-bound h l f)
 
-      go : (b : Bound) → h .bound ≡ b → BoundHeld P l (bound-by b (h .writer))
+      go : (b : Bound) → h .figures .bound ≡ b → BoundHeld P l (bound-by b (h .writer))
       go never e = (
         record { best = h; first = f; held-bound = sym e; held-writer = refl },
         λ s M. never-sound P (t .its) (t .holds) (sym (t .bound-is) ∙ e) s (M .printed),
@@ -59,7 +60,7 @@ holding (some P) vs p = record {
   known = refl;
   problem-is = refl;
   cost-held = cost-held P (least vs) (schedules vs) (held-least (λ (s : Costed). s .cost) (schedules vs)) (p .1 .0);
-  bound-held = bound-held P (highest vs) (trees vs) (held-highest (λ (F : Bounded). F .bound) (trees vs)) (p .1 .1);
+  bound-held = bound-held P (highest vs) (trees vs) (held-highest (λ (F : Bounded). F .figures .bound) (trees vs)) (p .1 .1);
 }
 
 -- ---- a refused or passed text leaves any docket as it was
@@ -73,10 +74,10 @@ hold-unheld d e (schedule s) u = go (is-less (s .cost) (e .held .cost)) u
         → cond t (lodged (with-schedule e s) (ScheduleHeld (s .cost))) (lodged d (SchedulePassed (s .cost))) .docket ≡ d
     go true u = absurd u
     go false u = refl
-hold-unheld d e (tree F) u = go (is-higher (F .bound) (e .held .bound)) u
+hold-unheld d e (tree F) u = go (is-higher (F .figures .bound) (e .held .bound)) u
   where
-    go : (t : Bool) → Unheld (stated (cond t (lodged (with-bound e F) (TreeHeld (given-figures F))) (lodged d (TreePassed (given-figures F))) .answer))
-        → cond t (lodged (with-bound e F) (TreeHeld (given-figures F))) (lodged d (TreePassed (given-figures F))) .docket ≡ d
+    go : (t : Bool) → Unheld (stated (cond t (lodged (with-bound e F) (TreeHeld (F .figures))) (lodged d (TreePassed (F .figures))) .answer))
+        → cond t (lodged (with-bound e F) (TreeHeld (F .figures))) (lodged d (TreePassed (F .figures))) .docket ≡ d
     go true u = absurd u
     go false u = refl
 

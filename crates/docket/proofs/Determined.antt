@@ -8,14 +8,11 @@ use Prim.Native.Nat.{ℕ}
 use native.Mathlib.Omega.{arith}
 use Rattle.model.specs.Instance.{Instance}
 use Rattle.model.specs.Held.{pad}
-use Rattle.model.specs.Tree.{Bound, never, number}
+use Rattle.model.specs.declared.figures.Bound.{Bound}
+use Rattle.model.specs.declared.figures.Bound.the-variants.{Never as never, Number as number}
 use Rattle.model.specs.Best.{First}
 use Rattle.model.proofs.Lists.{held-least, held-highest}
-use Rattle.tree.specs.declared.figures.Bound as code
-use Rattle.tree.specs.declared.figures.Bound.the-variants as given
 use Rattle.tree.specs.Acceptance.{Bounded}
-use Rattle.tree.specs.Coded.{bound-of}
-use Rattle.tree.specs.ReadAnswers.{coded}
 use Rattle.docket.specs.declared.Docket.{Docket}
 use Rattle.docket.specs.declared.held.HeldCost.{HeldCost}
 use Rattle.docket.specs.declared.held.HeldCost.the-variants as cost
@@ -37,19 +34,15 @@ use Rattle.docket.proofs.Demand3.{demand3}
 
 -- ---- an answer is known by what it states
 
-given-back : (b : code.Bound) → coded (bound-of b) ≡ b
-given-back given.Never = refl
-given-back (given.Number z) = refl
-
 -- the answer with these values
 answer-of : Stated → Answer
 answer-of (answers.refused n l u t) = Refused (record { number = n; line = l; unit = u; period = t })
 answer-of (answers.held no-values) = TextHeld
 answer-of (answers.held (its-cost c)) = ScheduleHeld c
-answer-of (answers.held (its-bound b m n)) = TreeHeld (record { bound = coded b; splits = m; leaves = n })
+answer-of (answers.held (its-bound F)) = TreeHeld F
 answer-of (answers.passed no-values) = TextHeld
 answer-of (answers.passed (its-cost c)) = SchedulePassed c
-answer-of (answers.passed (its-bound b m n)) = TreePassed (record { bound = coded b; splits = m; leaves = n })
+answer-of (answers.passed (its-bound F)) = TreePassed F
 
 answer-back : (a : Answer) → answer-of (stated a) ≡ a
 unfolding answer-of
@@ -57,8 +50,8 @@ answer-back (Refused r) = refl
 answer-back TextHeld = refl
 answer-back (ScheduleHeld c) = refl
 answer-back (SchedulePassed c) = refl
-answer-back (TreeHeld f) = ap (λ (b : code.Bound). TreeHeld (record { bound = b; splits = f .splits; leaves = f .leaves })) (given-back (f .bound))
-answer-back (TreePassed f) = ap (λ (b : code.Bound). TreePassed (record { bound = b; splits = f .splits; leaves = f .leaves })) (given-back (f .bound))
+answer-back (TreeHeld F) = refl
+answer-back (TreePassed F) = refl
 
 answers-back : (l : List Answer) → map answer-of (map stated l) ≡ l
 answers-back [] = refl
@@ -85,8 +78,8 @@ module _ (P : Instance) where
   same-bound : (l : List Bounded) (b b′ : Bound) (w w′ : ℕ) → HoldsBound l b w → HoldsBound l b′ w′ → (b ≡ b′) × (w ≡ w′)
   same-bound l b b′ w w′ p q =
       let e : p .best ≡ q .best =
-      one-first by-bound (raises-trans (λ (x : Bounded). x .bound)) (raises-weak (λ (x : Bounded). x .bound)) (held-highest (λ (x : Bounded). x .bound)) (p .best) (q .best) l (p .first) (q .first) in
-      (p .held-bound ∙ ap (λ (x : Bounded). x .bound) e ∙ sym (q .held-bound), p .held-writer ∙ ap (λ (x : Bounded). x .writer) e ∙ sym (q .held-writer))
+      one-first by-bound (raises-trans (λ (x : Bounded). x .figures .bound)) (raises-weak (λ (x : Bounded). x .figures .bound)) (held-highest (λ (x : Bounded). x .figures .bound)) (p .best) (q .best) l (p .first) (q .first) in
+      (p .held-bound ∙ ap (λ (x : Bounded). x .figures .bound) e ∙ sym (q .held-bound), p .held-writer ∙ ap (λ (x : Bounded). x .writer) e ∙ sym (q .held-writer))
 
   bound-one : (l : List Bounded) (b b′ : HeldBound) → BoundHeld P l b → BoundHeld P l b′ → b ≡ b′
   bound-one l bound.Nothing bound.Nothing p q = refl

@@ -14,7 +14,8 @@ use Rattle.model.specs.Rules.{Meets}
 use Rattle.model.specs.Cost.{cost}
 use Rattle.model.specs.Above.{root}
 use Rattle.model.specs.Held as arrays
-use Rattle.model.specs.Tree.{Tree, Limits, Holds, Bound, bound, splits, leaves}
+use Rattle.model.specs.declared.figures.Bound.{Bound}
+use Rattle.model.specs.Tree.{Tree, Limits, Holds, bound, tree-figures}
 use Rattle.model.specs.Best.{higher}
 use Rattle.model.proofs.Held.{view-held}
 use Rattle.refusal.specs.declared.Refusal.{Refusal}
@@ -62,7 +63,7 @@ abbrev less-than : List Verdict → ℕ → Bool
 less-than past c = every (λ x. ltb c (x .cost)) (schedules past)
 
 abbrev higher-than : List Verdict → Bound → Bool
-higher-than past b = every (λ G. higher b (G .bound)) (trees past)
+higher-than past b = every (λ G. higher b (G .figures .bound)) (trees past)
 
 -- a verdict to which a refusal is due is that refusal
 due-refused : (past : List Verdict) (v : Verdict) (r : Refusal) → answer-due past v ≡ answers.refused (r .number) (r .line) (r .unit) (r .period)
@@ -75,7 +76,7 @@ due-refused past (refused q) r e =
     λ i. refused (record { number = a i; line = b i; unit = c i; period = d i })
 due-refused past (problem P) r e = absurd (not-refused true no-values (r .number) (r .line) (r .unit) (r .period) e)
 due-refused past (schedule s) r e = absurd (not-refused (less-than past (s .cost)) (its-cost (s .cost)) (r .number) (r .line) (r .unit) (r .period) e)
-due-refused past (tree F) r e = absurd (not-refused (higher-than past (F .bound)) (its-bound (F .bound) (F .splits) (F .leaves)) (r .number) (r .line) (r .unit) (r .period) e)
+due-refused past (tree F) r e = absurd (not-refused (higher-than past (F .figures .bound)) (its-bound (F .figures)) (r .number) (r .line) (r .unit) (r .period) e)
 
 -- ---- what a rendering can be
 
@@ -104,7 +105,7 @@ module _ (P : Instance) (W : WellFormed P) (past : List Verdict) (text : List �
 
   -- a text of a tree within the limits that is accepted has leaves that hold, and its figures are given
   of-tree : (w : ℕ) (t : Tree) → Limits P root 0 t → text ≡ tree-text.render w t → (v : Verdict) → Is (some P) text v → Carries (answer-due past v) x
-      → Holds P root t × (x ≡ its-bound (bound P root t) (splits t) (leaves t))
+      → Holds P root t × (x ≡ its-bound (tree-figures P t))
   of-tree w t within e v (too-long h) c = absurd c
   of-tree w t within e v (no-kind h p q r) c = absurd c
   of-tree w t within e v (second-problem h b) c = absurd c
@@ -115,8 +116,8 @@ module _ (P : Instance) (W : WellFormed P) (past : List Verdict) (text : List �
   of-tree w t within e v (a-tree w′ t′ h e′ ok within′ holds) c =
       let same = tree-once P (W .periods-in .0) w w′ t t′ within within′ (sym e ∙ e′) .1 in (
         subst (Holds P root) (sym same) holds,
-        sym (carries-if (higher-than past (bound P root t′)) (its-bound (bound P root t′) (splits t′) (leaves t′)) x c)
-            ∙ ap (λ (z : Tree). its-bound (bound P root z) (splits z) (leaves z)) (sym same),
+        sym (carries-if (higher-than past (bound P root t′)) (its-bound (tree-figures P t′)) x c)
+            ∙ ap (λ (z : Tree). its-bound (tree-figures P z)) (sym same),
       )
 
 -- where no problem is held, an accepted text is a problem's
@@ -144,7 +145,7 @@ of-some P past text x v (a-schedule w s h e ok rows meets) c =
     inl (h, (w, s, (e, ok, rows), meets, sym (carries-if (less-than past (cost P s)) (its-cost (cost P s)) x c)))
 of-some P past text x v (tree-refused n l h b r) c = absurd c
 of-some P past text x v (a-tree w t h e ok within holds) c =
-    inr (h, (w, t, (e, ok, within), holds, sym (carries-if (higher-than past (bound P root t)) (its-bound (bound P root t) (splits t) (leaves t)) x c)))
+    inr (h, (w, t, (e, ok, within), holds, sym (carries-if (higher-than past (bound P root t)) (its-bound (tree-figures P t)) x c)))
 
 -- ---- after a list with these verdicts
 
@@ -216,15 +217,15 @@ module _ (texts : List (List ℕ)) (vs : List Verdict) (are : Are none texts vs)
         )
 
     pub tree-as : (w : ℕ) (t : Tree) → Short (tree-text.render w t) → GoodWriter w → Limits P root 0 t → (x : AnswerValues)
-        → Carries (answer texts (tree-text.render w t)) x ↔ (Holds P root t × (x ≡ its-bound (bound P root t) (splits t) (leaves t)))
+        → Carries (answer texts (tree-text.render w t)) x ↔ (Holds P root t × (x ≡ its-bound (tree-figures P t)))
     tree-as w t h ok within x =
         let text = tree-text.render w t in
         let i = verdict-is (given vs) fine text in (
           (λ c. of-tree P formed vs text x w t within refl (verdict-of (given vs) text) (under text (verdict-of (given vs) text) i)
               (subst (λ (a : Stated). Carries a x) (due text (verdict-of (given vs) text) i) c)),
           (λ m. subst (λ (a : Stated). Carries a x) (sym (due text _ (over text _ (a-tree w t h refl ok within (m .0)))))
-              (subst (λ (y : AnswerValues). Carries (held-if (higher-than vs (bound P root t)) (its-bound (bound P root t) (splits t) (leaves t))) y) (sym (m .1))
-              (if-carries (higher-than vs (bound P root t)) (its-bound (bound P root t) (splits t) (leaves t))))),
+              (subst (λ (y : AnswerValues). Carries (held-if (higher-than vs (bound P root t)) (its-bound (tree-figures P t))) y) (sym (m .1))
+              (if-carries (higher-than vs (bound P root t)) (its-bound (tree-figures P t))))),
         )
 
     -- the same of well-formed texts, which are the short ones of a writer and rows in range, or of a writer and a tree within the limits
@@ -250,12 +251,12 @@ module _ (texts : List (List ℕ)) (vs : List Verdict) (are : Are none texts vs)
 
     pub tree-by-lines : (text : List ℕ) → tree-lines.WellFormed P text
         → (w : ℕ) × (t : Tree) × TreeText P text w t
-        × ((x : AnswerValues) → Carries (answer texts text) x ↔ (Holds P root t × (x ≡ its-bound (bound P root t) (splits t) (leaves t))))
+        × ((x : AnswerValues) → Carries (answer texts text) x ↔ (Holds P root t × (x ≡ its-bound (tree-figures P t))))
     tree-by-lines text f = go (tree-formed-is text .0 f)
       where
         go : Short text × ((w : ℕ) × (t : Tree) × TreeText P text w t)
             → (w : ℕ) × (t : Tree) × TreeText P text w t
-            × ((x : AnswerValues) → Carries (answer texts text) x ↔ (Holds P root t × (x ≡ its-bound (bound P root t) (splits t) (leaves t))))
+            × ((x : AnswerValues) → Carries (answer texts text) x ↔ (Holds P root t × (x ≡ its-bound (tree-figures P t))))
         go (h, (w, t, (e, ok, within))) = (w, t, (e, ok, within), λ x. rw e (tree-as w t (rw e at h) ok within x))
 
     pub nothing-else : (text : List ℕ) (x : AnswerValues) → Carries (answer texts text) x → OfSchedule P text x ⊎ OfTree P text x

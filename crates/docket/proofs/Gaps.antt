@@ -7,7 +7,8 @@ use native.Mathlib.Omega.{arith}
 use lib.IntN.{ℤ, pos, negsuc, _+ℤ_, _-ℤ_}
 use lib.Signed.{_≤ℤ_}
 use Rattle.model.specs.Instance.{Instance}
-use Rattle.model.specs.Tree.{Bound, never, number}
+use Rattle.model.specs.declared.figures.Bound.{Bound}
+use Rattle.model.specs.declared.figures.Bound.the-variants.{Never as never, Number as number}
 use Rattle.model.proofs.Integers.{le→nat, nat→le, +ℤ-nat, -ℤ-nat}
 use Rattle.model.proofs.Soundness.{number-sound}
 use Rattle.writer.specs.Written.{figure-of}
@@ -41,7 +42,7 @@ module _ (P : Instance) (n : ℕ) where
       → ⊥
   under-no-minus none F vs p q W e = missing-no-minus n e
   under-no-minus (some s) none vs p q W e = missing-no-minus n e
-  under-no-minus (some s) (some F) vs p q W e = go (F .bound) refl e
+  under-no-minus (some s) (some F) vs p q W e = go (F .figures .bound) refl e
     where
       good : GoodSchedule P s
       good = all-mem (GoodSchedule P) (schedules vs) (W .1 .0) s (first-mem by-cost s (schedules vs) p)
@@ -49,7 +50,7 @@ module _ (P : Instance) (n : ℕ) where
       its : GoodTree P F
       its = all-mem (GoodTree P) (trees vs) (W .1 .1) F (first-mem by-bound F (trees vs) q)
 
-      go : (b : Bound) → F .bound ≡ b → gap-between (s .cost) b ≡ Minus n → ⊥
+      go : (b : Bound) → F .figures .bound ≡ b → gap-between (s .cost) b ≡ Minus n → ⊥
       go never f e = missing-no-minus n e
       go (number z) f e =
           let below = number-sound P (its .its) (its .holds) z (sym (its .bound-is) ∙ f) (s .rows) (good .meets .printed) in

@@ -26,7 +26,7 @@ pub record GoodTree (P : Instance) (F : Bounded) : Type 0 where
   pub its : Tree
   pub within : Limits P root 0 its
   pub holds : Holds P root its
-  pub bound-is : F .bound ≡ model-tree.bound P root its
+  pub bound-is : F .figures .bound ≡ model-tree.bound P root its
   pub writer-in : GoodWriter (F .writer)
 
 -- what a verdict can be, under the problem that the texts before gave

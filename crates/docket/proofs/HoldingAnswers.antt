@@ -10,7 +10,6 @@ use lib.ListN.{length}
 use borrow.Author.Tests.{ltb-false, lt-ltb, le-ltb}
 use Rattle.model.specs.Instance.{Instance}
 use Rattle.model.specs.Held.{view, valid-problem}
-use Rattle.model.specs.Tree.{Bound, never, number}
 use Rattle.refusal.specs.declared.Refusal.{Refusal}
 use Rattle.text.specs.Lines.{line-at, kind-of}
 use Rattle.text.specs.Course.{Judged, refused-at, accepted}
@@ -22,9 +21,8 @@ use Rattle.problem.specs.ReadAnswers.{problem-read}
 use Rattle.schedule.specs.ReadAnswers.{Outcome, refused-by, accepted-as, schedule-outcome, in-arrays, schedule-read}
 use Rattle.tree.specs.Course as trees
 use Rattle.tree.specs.Acceptance.{Bounded}
-use Rattle.tree.specs.Coded.{bound-of}
 use Rattle.tree.specs.ReadAnswers as tree-reading
-use Rattle.tree.specs.ReadAnswers.{coded, tree-read}
+use Rattle.tree.specs.ReadAnswers.{tree-read}
 use Rattle.docket.specs.declared.Docket.{Docket}
 use Rattle.docket.specs.declared.admission.Admission.{Admission}
 use Rattle.docket.specs.declared.admission.Admission.the-variants as admission
@@ -122,17 +120,13 @@ module _ (d : Docket) (text : List ℕ) where
       go (refused-by r) = refl
       go (accepted-as w c s) = refl
 
-  coded-back : (b : Bound) → bound-of (coded b) ≡ b
-  coded-back never = refl
-  coded-back (number z) = refl
-
   pub tree-held : (P : Instance) → hold d d (by-tree (trees.tree-judged P text)) ≡ hold-tree d (tree-read P text)
   unfolding tree-read tree-reading.read-as
   tree-held P = go (trees.tree-judged P text)
     where
       go : (j : Judged Bounded) → hold d d (by-tree j) ≡ hold-tree d (tree-reading.read-as j)
       go (refused-at n l) = refl
-      go (accepted F) = rw (coded-back (F .bound)) refl
+      go (accepted F) = refl
 
 -- ---- sound or not
 

@@ -13,7 +13,8 @@ use lib.Signed.{_≤ℤ_, ltZ}
 use Rattle.model.specs.Instance.{Instance, Schedule}
 use Rattle.model.specs.Rules.{Meets}
 use Rattle.model.specs.Cost as model
-use Rattle.model.specs.Tree.{Bound, never, number}
+use Rattle.model.specs.declared.figures.Bound.{Bound}
+use Rattle.model.specs.declared.figures.Bound.the-variants.{Never as never, Number as number}
 use Rattle.model.specs.Best.{First, FirstLeast, FirstHighest, higher}
 use Rattle.model.proofs.EveryLeaf.{not-above-self}
 use Rattle.model.proofs.Integers.{ltZ→nat}
@@ -64,10 +65,10 @@ at-most-all h l f =
     (λ x t. nltb→le (x .cost) (h .cost) t)
 
 -- no one's bound is higher
-pub none-above : (h : Bounded) (l : List Bounded) → FirstHighest (λ F. F .bound) h l → (x : Bounded) → List·Memᴰ x l → T (not (higher (x .bound) (h .bound)))
+pub none-above : (h : Bounded) (l : List Bounded) → FirstHighest (λ F. F .figures .bound) h l → (x : Bounded) → List·Memᴰ x l → T (not (higher (x .figures .bound) (h .figures .bound)))
 none-above h l f =
-    through (λ (x : Bounded). T (not (higher (x .bound) (h .bound)))) (λ x y. higher (x .bound) (y .bound)) h l f
-    (λ x t. not-both (h .bound) (x .bound) t) (not-above-self (h .bound)) (λ x t. t)
+    through (λ (x : Bounded). T (not (higher (x .figures .bound) (h .figures .bound)))) (λ x y. higher (x .figures .bound) (y .figures .bound)) h l f
+    (λ x t. not-both (h .figures .bound) (x .figures .bound) t) (not-above-self (h .figures .bound)) (λ x t. t)
   where
     not-both : (a b : Bound) → T (higher a b) → T (not (higher b a))
     not-both never never t = tt
@@ -142,17 +143,17 @@ module _ (texts : List (List ℕ)) (vs : List Verdict) (are : Are none texts vs)
       pub its-number : HoldsBound (trees vs) (number (by .value)) (by .writer) × ((s : Schedule) → Meets P s → by .value ≤ℤ pos (model.cost P s))
       its-number = subst (BoundHeld P (trees vs)) e (under .bound-held)
 
-      pub held-number : (F : Bounded) × FirstHighest (λ x. x .bound) F (trees vs) × (number (by .value) ≡ F .bound) × (by .writer ≡ F .writer)
+      pub held-number : (F : Bounded) × FirstHighest (λ x. x .figures .bound) F (trees vs) × (number (by .value) ≡ F .figures .bound) × (by .writer ≡ F .writer)
       held-number = let h = its-number .0 in (h .best, h .first, h .held-bound, h .held-writer)
 
-      pub highest-of-all : (x : Bounded) → List·Memᴰ x (trees vs) → T (not (higher (x .bound) (number (by .value))))
+      pub highest-of-all : (x : Bounded) → List·Memᴰ x (trees vs) → T (not (higher (x .figures .bound) (number (by .value))))
       highest-of-all x m =
           let h = its-number .0 in
-          subst (λ (b : Bound). T (not (higher (x .bound) b))) (sym (h .held-bound)) (none-above (h .best) (trees vs) (h .first) x m)
+          subst (λ (b : Bound). T (not (higher (x .figures .bound) b))) (sym (h .held-bound)) (none-above (h .best) (trees vs) (h .first) x m)
 
     module _ (by : NeverBy) (e : after texts .held .bound ≡ bound.Never by) where
       pub its-never : HoldsBound (trees vs) never (by .writer) × ((s : Schedule) → Meets P s → ⊥)
       its-never = subst (BoundHeld P (trees vs)) e (under .bound-held)
 
-      pub held-never : (F : Bounded) × FirstHighest (λ x. x .bound) F (trees vs) × (never ≡ F .bound) × (by .writer ≡ F .writer)
+      pub held-never : (F : Bounded) × FirstHighest (λ x. x .figures .bound) F (trees vs) × (never ≡ F .figures .bound) × (by .writer ≡ F .writer)
       held-never = let h = its-never .0 in (h .best, h .first, h .held-bound, h .held-writer)

@@ -5,16 +5,19 @@ use mathlib.Core.List.{List, [], _∷_}
 use mathlib.Core.Option.{none, some}
 use Rattle.model.specs.Instance.{Instance}
 use Rattle.model.specs.Ranges.{midnight-ordered, ordered}
-use Rattle.model.specs.Leaf.{available, is-stuck}
-use Rattle.model.specs.Tree.{never}
+use Rattle.model.specs.Leaf.{units-available, available, is-stuck}
+use Rattle.model.specs.declared.figures.Bound.the-variants.{Never as never}
+use Rattle.model.specs.Figures.{tree-gives}
+use Rattle.model.specs.Tree.{leaf-bound}
 use Rattle.refusal.specs.Refusals.{refusal-of, carries-line, carries-unit, carries-period}
 use Rattle.text.specs.Lines.{kind-of}
 use Rattle.text.specs.Course.{judged-from}
 use Rattle.text.specs.Forms.{malformed, wrong-count, outside-range}
 use Rattle.problem.specs.Course as problem-course
 use Rattle.problem.specs.Units.{unit-of}
-use Rattle.tree.specs.NodeLines.{line-kind-of, split-again, too-deep, not-short, not-stuck}
+use Rattle.tree.specs.NodeLines.{line-kind-of, kind-tests}
 use Rattle.tree.specs.Course as tree-course
+use Rattle.tree.specs.Acceptance.{bounded}
 use Rattle.docket.specs.declared.Docket.{Docket}
 use Rattle.docket.specs.declared.held.HeldBound.the-variants as held-bound
 use Rattle.docket.specs.Verdicts as verdict
@@ -42,8 +45,8 @@ gives : verdict-of none too-little ≡ verdict.problem little
 unfolding text-judged admit kind-of problem-course.problem-judged judged-from problem-course.judge malformed wrong-count outside-range unit-of ordered midnight-ordered too-little
 gives = refl
 
-gives-never : verdict-of (some little) short-tree ≡ verdict.tree (record { writer = 9; bound = never; splits = 0; leaves = 1 })
-unfolding text-judged admit kind-of tree-course.tree-judged judged-from tree-course.judge tree-course.tests tree-course.next-due tree-course.after-node line-kind-of malformed wrong-count outside-range split-again too-deep not-short not-stuck available is-stuck refusal-of carries-line carries-unit carries-period specimens.tree-text
+gives-never : verdict-of (some little) short-tree ≡ verdict.tree (bounded 9 (tree-gives never 0 1))
+unfolding text-judged admit kind-of tree-course.tree-judged judged-from tree-course.judge tree-course.tests tree-course.next-due tree-course.after-node line-kind-of malformed wrong-count outside-range kind-tests leaf-bound available units-available is-stuck refusal-of carries-line carries-unit carries-period specimens.tree-text
 gives-never = refl
 
 pub never-held : after (too-little ∷ short-tree ∷ []) .held .bound ≡ held-bound.Never (record { writer = 9 })

@@ -9,19 +9,18 @@ use lib.Dec.{ltb}
 use Rattle.model.specs.Instance.{Instance}
 use Rattle.model.specs.Ranges.{every}
 use Rattle.model.specs.Held.{view}
-use Rattle.model.specs.Tree.{Bound, never, number}
+use Rattle.model.specs.declared.figures.Bound.{Bound}
+use Rattle.model.specs.declared.figures.Bound.the-variants.{Never as never, Number as number}
 use Rattle.model.specs.Best.{higher}
 use Rattle.model.proofs.Held.{view-held}
 use Rattle.model.proofs.Lists.{take, held-after, held-least, held-highest}
 use Rattle.tree.specs.Acceptance.{Bounded}
-use Rattle.tree.specs.Coded.{bound-of}
-use Rattle.tree.specs.ReadAnswers.{coded}
 use Rattle.docket.specs.declared.Docket.{Docket}
 use Rattle.answer.specs.declared.Answer.the-variants.{ScheduleHeld, SchedulePassed, TreeHeld, TreePassed}
 use Rattle.docket.specs.Docket.{fresh-docket, sound}
 use Rattle.answer.specs.StatedAnswers.{its-cost, its-bound, stated}
 use Rattle.docket.specs.Verdicts.{Costed, Verdict, refused, problem, schedule, tree, schedules, trees, known-after}
-use Rattle.docket.specs.Lodging.{text-judged, lodged, with-schedule, with-bound, is-less, is-higher, bound-by, given-figures, hold, lodge-of}
+use Rattle.docket.specs.Lodging.{text-judged, lodged, with-schedule, with-bound, is-less, is-higher, bound-by, hold, lodge-of}
 use Rattle.docket.specs.Demand3.{held-if, answer-due}
 use Rattle.docket.proofs.OneVerdict.{verdict-of}
 use Rattle.docket.proofs.BestSoFar.{beats, held-both, beats-every, cheaper-trans, cheaper-weak, raises-trans, raises-weak}
@@ -65,9 +64,9 @@ module _ (P : Instance) where
   keeps-bound : (c : Option Costed) (b : Option Bounded) (F : Bounded)
       → hold (docket-under P c b) (docket-under P c b) (tree F) .docket ≡ docket-under P c (take by-bound b F)
   keeps-bound c none F = refl
-  keeps-bound c (some G) F = rw (is-higher-is (F .bound) (G .bound) (G .writer)) (go (higher (F .bound) (G .bound)))
+  keeps-bound c (some G) F = rw (is-higher-is (F .figures .bound) (G .figures .bound) (G .writer)) (go (higher (F .figures .bound) (G .figures .bound)))
     where
-      go : (t : Bool) → cond t (lodged (with-bound (docket-under P c (some G)) F) (TreeHeld (given-figures F))) (lodged (docket-under P c (some G)) (TreePassed (given-figures F))) .docket
+      go : (t : Bool) → cond t (lodged (with-bound (docket-under P c (some G)) F) (TreeHeld (F .figures))) (lodged (docket-under P c (some G)) (TreePassed (F .figures))) .docket
           ≡ docket-under P c (cond t (some F) (some G))
       go true = refl
       go false = refl
@@ -97,28 +96,24 @@ docket-next (some P) past v p (good-tree {F = F} g) = keeps-bound P (least past)
 
 -- ---- the answer
 
-pub given-is : (b : Bound) → bound-of (coded b) ≡ b
-given-is never = refl
-given-is (number z) = refl
-
 module _ (d e : Docket) where
   schedule-stated : (t : Bool) (c : ℕ) → stated (cond t (lodged d (ScheduleHeld c)) (lodged e (SchedulePassed c)) .answer) ≡ held-if t (its-cost c)
   schedule-stated true c = refl
   schedule-stated false c = refl
 
   tree-stated : (t : Bool) (F : Bounded)
-      → stated (cond t (lodged d (TreeHeld (given-figures F))) (lodged e (TreePassed (given-figures F))) .answer)
-      ≡ held-if t (its-bound (F .bound) (F .splits) (F .leaves))
-  tree-stated true F = rw (given-is (F .bound)) refl
-  tree-stated false F = rw (given-is (F .bound)) refl
+      → stated (cond t (lodged d (TreeHeld (F .figures))) (lodged e (TreePassed (F .figures))) .answer)
+      ≡ held-if t (its-bound (F .figures))
+  tree-stated true F = refl
+  tree-stated false F = refl
 
 less-beats : (c : Option Costed) (s : Costed) → is-less (s .cost) (cost-kept c) ≡ beats by-cost c s
 less-beats none s = refl
 less-beats (some h) s = refl
 
-higher-beats : (b : Option Bounded) (F : Bounded) → is-higher (F .bound) (bound-kept b) ≡ beats by-bound b F
+higher-beats : (b : Option Bounded) (F : Bounded) → is-higher (F .figures .bound) (bound-kept b) ≡ beats by-bound b F
 higher-beats none F = refl
-higher-beats (some G) F = is-higher-is (F .bound) (G .bound) (G .writer)
+higher-beats (some G) F = is-higher-is (F .figures .bound) (G .figures .bound) (G .writer)
 
 module _ (past : List Verdict) where
   -- less than what is held is less than all before
@@ -128,11 +123,11 @@ module _ (past : List Verdict) where
       ∙ beats-every by-cost (cheaper-trans (λ (x : Costed). x .cost)) (cheaper-weak (λ (x : Costed). x .cost)) (held-least (λ (x : Costed). x .cost))
       (least past) (schedules past) (held-least (λ (x : Costed). x .cost) (schedules past)) s
 
-  higher-every : (F : Bounded) → is-higher (F .bound) (bound-kept (highest past)) ≡ every (by-bound F) (trees past)
+  higher-every : (F : Bounded) → is-higher (F .figures .bound) (bound-kept (highest past)) ≡ every (by-bound F) (trees past)
   higher-every F =
       higher-beats (highest past) F
-      ∙ beats-every by-bound (raises-trans (λ (x : Bounded). x .bound)) (raises-weak (λ (x : Bounded). x .bound)) (held-highest (λ (x : Bounded). x .bound))
-      (highest past) (trees past) (held-highest (λ (x : Bounded). x .bound) (trees past)) F
+      ∙ beats-every by-bound (raises-trans (λ (x : Bounded). x .figures .bound)) (raises-weak (λ (x : Bounded). x .figures .bound)) (held-highest (λ (x : Bounded). x .figures .bound))
+      (highest past) (trees past) (held-highest (λ (x : Bounded). x .figures .bound) (trees past)) F
 
 pub answer-is : (o : Option Instance) (past : List Verdict) (v : Verdict) → Possible o v
     → stated (hold (docket-of o past) (docket-of o past) v .answer) ≡ answer-due past v
@@ -142,5 +137,5 @@ answer-is (some P) past v (good-schedule {s = s} g) =
     schedule-stated (with-schedule (docket-of (some P) past) s) (docket-of (some P) past) (is-less (s .cost) (cost-kept (least past))) (s .cost)
     ∙ ap (λ (t : Bool). held-if t (its-cost (s .cost))) (less-every past s)
 answer-is (some P) past v (good-tree {F = F} g) =
-    tree-stated (with-bound (docket-of (some P) past) F) (docket-of (some P) past) (is-higher (F .bound) (bound-kept (highest past))) F
-    ∙ ap (λ (t : Bool). held-if t (its-bound (F .bound) (F .splits) (F .leaves))) (higher-every past F)
+    tree-stated (with-bound (docket-of (some P) past) F) (docket-of (some P) past) (is-higher (F .figures .bound) (bound-kept (highest past))) F
+    ∙ ap (λ (t : Bool). held-if t (its-bound (F .figures))) (higher-every past F)

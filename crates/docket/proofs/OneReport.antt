@@ -39,7 +39,7 @@ one-highest l none none p q = refl
 one-highest l none (some b) p q = absurd (no-first by-bound b l q p)
 one-highest l (some a) none p q = absurd (no-first by-bound a l p q)
 one-highest l (some a) (some b) p q =
-    ap some (one-first by-bound (raises-trans (λ (x : Bounded). x .bound)) (raises-weak (λ (x : Bounded). x .bound)) (held-highest (λ (x : Bounded). x .bound)) a b l p q)
+    ap some (one-first by-bound (raises-trans (λ (x : Bounded). x .figures .bound)) (raises-weak (λ (x : Bounded). x .figures .bound)) (held-highest (λ (x : Bounded). x .figures .bound)) a b l p q)
 
 module _ (vs : List Verdict) (l m : List ℕ) (R : ReportDue vs l) (S : ReportDue vs m) where
   pub same-figures : figures-due (R .cheapest) (R .highest) ≡ figures-due (S .cheapest) (S .highest)

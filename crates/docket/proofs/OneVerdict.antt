@@ -13,7 +13,8 @@ use borrow.Author.Tests.{lt-ltb, le-ltb, ltb-true, ltb-false}
 use Rattle.model.specs.Instance.{Instance}
 use Rattle.model.specs.Ranges.{WellFormed}
 use Rattle.model.specs.Held.{view, blank-problem}
-use Rattle.model.specs.Tree.{Tree}
+use Rattle.model.specs.declared.figures.TreeFigures.{TreeFigures}
+use Rattle.model.specs.Tree.{Tree, tree-figures}
 use Rattle.refusal.specs.declared.Refusal.{Refusal}
 use Rattle.refusal.specs.Refusals.{refusal-of, carries-line, carries-unit, carries-period}
 use Rattle.text.specs.Lines.{Line, ended, due, line-at, kind-of, kind-problem, kind-schedule, kind-tree}
@@ -28,7 +29,7 @@ use Rattle.schedule.specs.ReadAnswers.{Outcome, refused-by, accepted-as, schedu
 use Rattle.schedule.proofs.Wholes.{render-is-schedule}
 use Rattle.schedule.proofs.Outcomes as schedules
 use Rattle.tree.specs.Course as trees
-use Rattle.tree.specs.Acceptance.{bounded-of, Bounded}
+use Rattle.tree.specs.Acceptance.{Bounded, bounded}
 use Rattle.tree.specs.Rendering as trees-rendered
 use Rattle.tree.proofs.Written.{render-cut}
 use Rattle.tree.proofs.Acceptance as trees-answered
@@ -121,7 +122,7 @@ is-verdict (some P) text v W (a-tree w t h e ok within holds) =
     let b : Begins text kind-tree = rw e (tree-begins w t) in
     let k = first-line.tree-is (line-at text 0) .1 b in
     judged-kind true P text kind.Tree h k
-    ∙ ap by-tree (trees-answered.accepted-is P text k (bounded-of P w t) W .1
+    ∙ ap by-tree (trees-answered.accepted-is P text k (bounded w (tree-figures P t)) W .1
     (record { tree = t; written = e; writer-in = ok; within = within; holds = holds; figures = refl }))
 
 -- what a text is, is one thing
@@ -168,7 +169,7 @@ module _ (text : List ℕ) (h : Short text) where
         subst (Is (some P) text) (ap refused (sym (trees-read.refused-carries P text n l r))) (tree-refused n l h (first-line.tree-is (line-at text 0) .0 k) r)
     of-tree (accepted F) k e =
         let a = trees-answered.accepted-is P text k F W .0 e in
-        subst (λ (G : Bounded). Is (some P) text (tree G)) (sym (a .figures))
+        subst (λ (S : TreeFigures). Is (some P) text (tree (bounded (F .writer) S))) (sym (a .figures))
         (a-tree (F .writer) (a .tree) h (a .written) (a .writer-in) (a .within) (a .holds))
 
   short-is : (o : Option Instance) → Fine o → (k : Kind) → kind-of (line-at text 0) ≡ k → Is o text (verdict-of o text)

@@ -17,7 +17,8 @@ use Rattle.model.specs.Held.{view}
 use Rattle.model.specs.Above.{Mark, root}
 use Rattle.model.specs.Agreement.{Candidate, LeafOf, above, leaf-at}
 use Rattle.model.specs.Leaf.{is-stuck, value, unit-least}
-use Rattle.model.specs.Tree.{Tree, Holds, number, never, splits, leaves}
+use Rattle.model.specs.declared.figures.Bound.the-variants.{Never as never, Number as number}
+use Rattle.model.specs.Tree.{Tree, Holds, leaf-bound, tree-figures}
 use Rattle.model.specs.Tree as tree
 use Rattle.model.specs.Best.{higher, FirstLeast, FirstHighest}
 use Rattle.model.specs.declared.generator.Generator.{Generator}
@@ -111,8 +112,8 @@ module _ (P : Instance) (W : WellFormed P) where
 
 -- ---- Demand 2, of a tree's bound: it is the smallest value of its leaves (one without prices has never, which is above every number)
 
-pub bound-smallest : (P : Instance) (t : Tree) → ((l : LeafOf t) × (tree.bound P root t ≡ tree.bound P (above root t l) (leaf-at t l)))
-    × ((l : LeafOf t) → T (not (higher (tree.bound P root t) (tree.bound P (above root t l) (leaf-at t l)))))
+pub bound-smallest : (P : Instance) (t : Tree) → ((l : LeafOf t) × (tree.bound P root t ≡ leaf-bound P (above root t l) (leaf-at t l)))
+    × ((l : LeafOf t) → T (not (higher (tree.bound P root t) (leaf-bound P (above root t l) (leaf-at t l)))))
 bound-smallest P t = (leaf.bound-attained P root t, leaf.bound-lowest P root t)
 
 -- and the minima in it are true ones: of a unit's rows of whole outputs that obey and agree, none has a lower value, and one has this
@@ -187,7 +188,7 @@ module _ (texts : List (List ℕ)) (vs : List Verdict) (are : Are none texts vs)
     -- and the well-formed trees are those whose leaves all meet their rules, each with its bound and its counts of split lines and leaves
     pub tree-accepted : (text : List ℕ) → tree-lines.WellFormed P text
         → (w : ℕ) × (t : Tree) × TreeText P text w t
-        × ((x : AnswerValues) → Carries (answer texts text) x ↔ (Holds P root t × (x ≡ its-bound (tree.bound P root t) (splits t) (leaves t))))
+        × ((x : AnswerValues) → Carries (answer texts text) x ↔ (Holds P root t × (x ≡ its-bound (tree-figures P t))))
     tree-accepted = each.tree-by-lines texts vs are P known
 
     -- and no other text is accepted
@@ -209,10 +210,10 @@ module _ (texts : List (List ℕ)) (vs : List Verdict) (are : Are none texts vs)
 
     module _ (by : BoundBy) (e : after texts .held .bound ≡ bound.Number by) where
       -- Of the accepted trees with the highest bound the first gives the held bound and its writer
-      pub held-number : (F : Bounded) × FirstHighest (λ x. x .bound) F (trees vs) × (number (by .value) ≡ F .bound) × (by .writer ≡ F .writer)
+      pub held-number : (F : Bounded) × FirstHighest (λ x. x .figures .bound) F (trees vs) × (number (by .value) ≡ F .figures .bound) × (by .writer ≡ F .writer)
       held-number = holdings.held-number texts vs are P known by e
 
-      pub highest-bound : (x : Bounded) → List·Memᴰ x (trees vs) → T (not (higher (x .bound) (number (by .value))))
+      pub highest-bound : (x : Bounded) → List·Memᴰ x (trees vs) → T (not (higher (x .figures .bound) (number (by .value))))
       highest-bound = holdings.highest-of-all texts vs are P known by e
 
       -- No schedule of whole outputs that meets the rules costs less than the held bound, whether it was lodged or not
@@ -220,7 +221,7 @@ module _ (texts : List (List ℕ)) (vs : List Verdict) (are : Are none texts vs)
       never-undercut = holdings.its-number texts vs are P known by e .1
 
     module _ (by : NeverBy) (e : after texts .held .bound ≡ bound.Never by) where
-      pub held-never : (F : Bounded) × FirstHighest (λ x. x .bound) F (trees vs) × (never ≡ F .bound) × (by .writer ≡ F .writer)
+      pub held-never : (F : Bounded) × FirstHighest (λ x. x .figures .bound) F (trees vs) × (never ≡ F .figures .bound) × (by .writer ≡ F .writer)
       held-never = holdings.held-never texts vs are P known by e
 
       -- where never is held there is no such schedule

@@ -13,12 +13,14 @@ use Rattle.model.specs.Ranges.{WellFormed, All}
 use Rattle.model.specs.Held as arrays
 use Rattle.model.specs.Held.{pad, valid-problem}
 use Rattle.model.specs.Above.{root}
-use Rattle.model.specs.Tree.{Bound, never, number}
+use Rattle.model.specs.declared.figures.Bound.{Bound}
+use Rattle.model.specs.declared.figures.Bound.the-variants.{Never as never, Number as number}
 use Rattle.model.proofs.Tests.{T-true, T-and}
 use Rattle.model.proofs.Valid.{held-passes}
 use Rattle.model.proofs.Lists.{held-after, IsFirst, cheaper, raises, held-least, held-highest}
 use Rattle.model.proofs.CostSizes.{meets-small, cost-fits}
-use Rattle.model.proofs.LeafSizes.{Fits, bound-fits}
+use Rattle.model.proofs.LeafSizes.{Fits}
+use Rattle.model.proofs.TreeSizes.{bound-fits}
 use Rattle.tree.specs.Acceptance.{Bounded}
 use Rattle.docket.specs.declared.Docket.{Docket}
 use Rattle.docket.specs.declared.held.HeldCost.{HeldCost}
@@ -37,7 +39,7 @@ abbrev pub by-cost : Costed → Costed → Bool
 by-cost = cheaper (λ (s : Costed). s .cost)
 
 abbrev pub by-bound : Bounded → Bounded → Bool
-by-bound = raises (λ (F : Bounded). F .bound)
+by-bound = raises (λ (F : Bounded). F .figures .bound)
 
 -- what is held of the accepted schedules and of the accepted trees
 abbrev pub least : List Verdict → Option Costed
@@ -56,7 +58,7 @@ rows-kept (some s) = pad 0 1536 (flatten (s .rows))
 
 abbrev pub bound-kept : Option Bounded → HeldBound
 bound-kept none = bound.Nothing
-bound-kept (some F) = bound-by (F .bound) (F .writer)
+bound-kept (some F) = bound-by (F .figures .bound) (F .writer)
 
 abbrev pub docket-under : Instance → Option Costed → Option Bounded → Docket
 docket-under P c b = record { known = true; problem = arrays.held P; held = record { cost = cost-kept c; bound = bound-kept b }; rows = rows-kept c }
@@ -87,7 +89,7 @@ module _ (P : Instance) (W : WellFormed P) where
   bound-small none l f g = refl
   bound-small (some h) l f g =
       let t = all-mem (GoodTree P) l g h (first-mem by-bound h l f) in
-      fits-small (h .bound) (h .writer) (subst Fits (sym (t .bound-is)) (bound-fits P W root 0 (t .its) (t .within)))
+      fits-small (h .figures .bound) (h .writer) (subst Fits (sym (t .bound-is)) (bound-fits P W root 0 (t .its) (t .within)))
 
 both-true : (a b c : Bool) → a ≡ true → b ≡ true → c ≡ true → (a && (b && c)) ≡ true
 both-true a b c p q r = simp (p, q, r)
@@ -98,4 +100,4 @@ docket-sound none past p = refl
 docket-sound (some P) past p =
     both-true (valid-problem (arrays.held P)) (small-cost (cost-kept (least past))) (small-bound (bound-kept (highest past)))
     (held-passes P (p .0)) (cost-small P (p .0) (least past) (schedules past) (held-least (λ (s : Costed). s .cost) (schedules past)) (p .1 .0))
-    (bound-small P (p .0) (highest past) (trees past) (held-highest (λ (F : Bounded). F .bound) (trees past)) (p .1 .1))
+    (bound-small P (p .0) (highest past) (trees past) (held-highest (λ (F : Bounded). F .figures .bound) (trees past)) (p .1 .1))

@@ -9,7 +9,8 @@ use Prim.Native.Nat.{ℕ, _+_}
 use lib.ListN.{length}
 use borrow.Author.Tests.{leb-true, leb-false}
 use Rattle.model.specs.Instance.{Instance}
-use Rattle.model.specs.Tree.{Bound, never, number}
+use Rattle.model.specs.declared.figures.Bound.{Bound}
+use Rattle.model.specs.declared.figures.Bound.the-variants.{Never as never, Number as number}
 use Rattle.model.proofs.Lists.{held-least, held-highest}
 use Rattle.refusal.specs.Refusals.{refusal-of, carries-line, carries-unit, carries-period}
 use Rattle.report.specs.Report.{report-lines, has-room, written-at, placed-at}
@@ -33,11 +34,11 @@ bound-figure-is (number z) w = refl
 
 bound-is : (F : Option Bounded) → bound-shown (bound-kept F) ≡ bound-due F
 bound-is none = refl
-bound-is (some F) = bound-figure-is (F .bound) (F .writer)
+bound-is (some F) = bound-figure-is (F .figures .bound) (F .writer)
 
 writer-is : (F : Option Bounded) → bound-writer-shown (bound-kept F) ≡ bound-writer-due F
 writer-is none = refl
-writer-is (some F) = go (F .bound)
+writer-is (some F) = go (F .figures .bound)
   where
     go : (b : Bound) → bound-writer-shown (bound-by b (F .writer)) ≡ bound-writer-due (some F)
     go never = refl
@@ -46,7 +47,7 @@ writer-is (some F) = go (F .bound)
 gap-is : (s : Option Costed) (F : Option Bounded) → gap-shown (cost-kept s) (bound-kept F) ≡ gap-due s F
 gap-is none F = refl
 gap-is (some s) none = refl
-gap-is (some s) (some F) = go (F .bound)
+gap-is (some s) (some F) = go (F .figures .bound)
   where
     go : (b : Bound) → gap-shown (cost-kept (some s)) (bound-by b (F .writer)) ≡ gap-between (s .cost) b
     go never = refl
@@ -77,7 +78,7 @@ lines-due o vs p = rw (trusted-is (docket-of o vs) (docket-sound o vs p)) (go o 
       cheapest = least vs;
       is-cheapest = held-least (λ (s : Costed). s .cost) (schedules vs);
       highest = highest vs;
-      is-highest = held-highest (λ (F : Bounded). F .bound) (trees vs);
+      is-highest = held-highest (λ (F : Bounded). F .figures .bound) (trees vs);
       lines-are = ap report-lines (figures-are P (least vs) (highest vs));
     }
 

@@ -35,7 +35,7 @@ due-after vs = record {
   cheapest = least vs;
   is-cheapest = held-least (λ (s : Costed). s .cost) (schedules vs);
   highest = highest vs;
-  is-highest = held-highest (λ (F : Bounded). F .bound) (trees vs);
+  is-highest = held-highest (λ (F : Bounded). F .figures .bound) (trees vs);
   lines-are = refl;
 }
 

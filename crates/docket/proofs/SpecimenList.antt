@@ -6,7 +6,8 @@ use Prim.Native.Nat.{ℕ}
 use lib.IntN.{pos}
 use Rattle.model.specs.Instance.{Instance}
 use Rattle.model.specs.Ranges.{All}
-use Rattle.model.specs.Tree.{number}
+use Rattle.model.specs.declared.figures.Bound.the-variants.{Number as number}
+use Rattle.model.specs.Figures.{tree-gives}
 use Rattle.problem.proofs.Examples.{example, example-formed}
 use Rattle.answer.specs.StatedAnswers.{no-values, its-cost, its-bound, held, stated}
 use Rattle.docket.specs.declared.Docket.{Docket}
@@ -91,7 +92,7 @@ listed-are : Are none listed-texts (problem example ∷ by-seven 1980 (rows 60 8
 listed-are = then is-listed-problem (then is-listed-schedule (then is-listed-tree no-more))
 
 pub listing-answers : map stated (answers-to lodge-of fresh-docket listed-texts)
-    ≡ held no-values ∷ held (its-cost 1980) ∷ held (its-bound (number (pos 1980)) 1 2) ∷ []
+    ≡ held no-values ∷ held (its-cost 1980) ∷ held (its-bound (tree-gives (number (pos 1980)) 1 2)) ∷ []
 listing-answers = answers-by listed-are
 
 pub listing-held : docket-after lodge-of fresh-docket listed-texts .held

@@ -14,7 +14,7 @@ use Rattle.model.specs.Ranges.{midnight-ordered, ordered}
 use Rattle.model.specs.Rules.{output, capacity}
 use Rattle.model.specs.Cost.{cost, row-cost}
 use Rattle.model.specs.Breach.{first-breach}
-use Rattle.model.specs.Tree.{short}
+use Rattle.model.specs.Tree.{short, leaf}
 use Rattle.refusal.specs.Refusals.{refusal-of, carries-line, carries-unit, carries-period}
 use Rattle.text.specs.Lines.{missing, ended, kind-of, kind-problem, kind-schedule, kind-tree}
 use Rattle.text.specs.Forms.{malformed, wrong-count, outside-range}
@@ -41,7 +41,7 @@ pub listed-rendered : (listed-problem ≡ problems.render example) × (listed-sc
 unfolding problem-of schedule-text tree-text schedules.render trees.render trees.node-lines digits digits-by
 listed-rendered = (sym example-rendered, refl, refl)
 
-leaves-rendered : (lone-leaf ≡ trees.render 4 lone-price) × (lone-short ≡ trees.render 3 (short 1))
+leaves-rendered : (lone-leaf ≡ trees.render 4 lone-price) × (lone-short ≡ trees.render 3 (leaf (short 1)))
 unfolding tree-text trees.render trees.node-lines digits digits-by
 leaves-rendered = (refl, refl)
 

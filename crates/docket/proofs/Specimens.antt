@@ -10,8 +10,11 @@ use Rattle.model.specs.Instance.{Instance, Schedule}
 use Rattle.model.specs.Rules.{output, capacity}
 use Rattle.model.specs.Cost.{cost, row-cost}
 use Rattle.model.specs.Breach.{first-breach}
-use Rattle.model.specs.Leaf.{available, is-stuck}
-use Rattle.model.specs.Tree.{Tree, short, stuck, Limits, Holds, Bound, number, splits, leaves}
+use Rattle.model.specs.Leaf.{units-available, available, is-stuck}
+use Rattle.model.specs.declared.figures.Bound.{Bound}
+use Rattle.model.specs.declared.figures.Bound.the-variants.{Number as number}
+use Rattle.model.specs.Figures.{tree-gives}
+use Rattle.model.specs.Tree.{short, stuck, Tree, leaf, GoodLeaf, LeafHolds, Limits, Holds, splits, leaves, tree-figures}
 use Rattle.model.proofs.BoundExamples.{example-tree, lone-leaf, example-limits, example-holds, example-bound, lone-bound}
 use Rattle.refusal.specs.Refusals.{refusal-of, carries-line, carries-unit, carries-period}
 use Rattle.text.specs.Lines.{kind-of, kind-problem}
@@ -23,9 +26,9 @@ use Rattle.schedule.specs.Rendering as schedules
 use Rattle.schedule.specs.Course as schedule-course
 use Rattle.schedule.specs.ReadAnswers.{schedule-outcome}
 use Rattle.tree.specs.Rendering as trees
-use Rattle.tree.specs.NodeLines.{line-kind-of, split-again, too-deep, not-short, not-stuck}
+use Rattle.tree.specs.NodeLines.{line-kind-of, kind-tests}
 use Rattle.tree.specs.Course as tree-course
-use Rattle.tree.specs.Acceptance.{bounded-of, Bounded}
+use Rattle.tree.specs.Acceptance.{Bounded, bounded}
 use Rattle.docket.specs.Verdicts.{Verdict, problem, schedule, tree}
 use Rattle.docket.specs.Texts.{Short, Begins, refused-line, Is, second-problem, a-problem, a-tree}
 use Rattle.docket.specs.Lodging.{admit, text-judged}
@@ -85,9 +88,9 @@ abbrev pub lone-price : Tree
 lone-price = lone-leaf
 
 abbrev pub figures : ℕ → ℕ → ℕ → ℕ → Bounded
-figures w b m n = record { writer = w; bound = number (pos b); splits = m; leaves = n }
+figures w b m n = bounded w (tree-gives (number (pos b)) m n)
 
-pub is-one-split : Is (some example) (trees.render 3 one-split) (tree (bounded-of example 3 one-split))
+pub is-one-split : Is (some example) (trees.render 3 one-split) (tree (bounded 3 (tree-figures example one-split)))
 unfolding trees.render trees.node-lines digits digits-by
 is-one-split = a-tree 3 one-split (lit≤ tt) refl (lit≤ tt, lit≤ tt) example-limits example-holds
 
@@ -95,11 +98,11 @@ is-one-split = a-tree 3 one-split (lit≤ tt) refl (lit≤ tt, lit≤ tt) exampl
 pub is-tree : Is (some example) (trees.render 3 one-split) (tree (figures 3 1980 1 2))
 unfolding splits leaves
 is-tree =
-    subst (λ (b : Bound). Is (some example) (trees.render 3 one-split) (tree (record { writer = 3; bound = b; splits = 1; leaves = 2 }))) example-bound
+    subst (λ (b : Bound). Is (some example) (trees.render 3 one-split) (tree (bounded 3 (tree-gives b 1 2)))) example-bound
     is-one-split
 
-is-lone : Is (some example) (trees.render 4 lone-price) (tree (bounded-of example 4 lone-price))
-unfolding trees.render trees.node-lines digits digits-by Limits Holds is-stuck
+is-lone : Is (some example) (trees.render 4 lone-price) (tree (bounded 4 (tree-figures example lone-price)))
+unfolding trees.render trees.node-lines digits digits-by Limits GoodLeaf Holds LeafHolds is-stuck
 is-lone =
     a-tree 4 lone-price (lit≤ tt) refl (lit≤ tt, lit≤ tt)
     ((refl, ((lit≤ tt, lit≤ tt), ((lit≤ tt, lit≤ tt), tt))), (refl, ((lit≤ tt, lit≤ tt), ((lit≤ tt, lit≤ tt), tt)))) tt
@@ -108,16 +111,16 @@ is-lone =
 pub is-lone-price : Is (some example) (trees.render 4 lone-price) (tree (figures 4 1940 0 1))
 unfolding splits leaves
 is-lone-price =
-    subst (λ (b : Bound). Is (some example) (trees.render 4 lone-price) (tree (record { writer = 4; bound = b; splits = 0; leaves = 1 }))) lone-bound
+    subst (λ (b : Bound). Is (some example) (trees.render 4 lone-price) (tree (bounded 4 (tree-gives b 0 1)))) lone-bound
     is-lone
 
 -- a lone short=2: 33, line 3; a lone stuck=1: 34, line 3
-leaves-judged : (verdict-of (some example) (trees.render 3 (short 1)) ≡ refused-line 33 3) × (verdict-of (some example) (trees.render 3 (stuck 0)) ≡ refused-line 34 3)
-unfolding text-judged admit kind-of tree-course.tree-judged judged-from tree-course.judge tree-course.tests tree-course.next-due tree-course.after-node line-kind-of malformed wrong-count outside-range split-again too-deep not-short not-stuck available is-stuck refusal-of carries-line carries-unit carries-period trees.render trees.node-lines digits digits-by
+leaves-judged : (verdict-of (some example) (trees.render 3 (leaf (short 1))) ≡ refused-line 33 3) × (verdict-of (some example) (trees.render 3 (leaf (stuck 0))) ≡ refused-line 34 3)
+unfolding text-judged admit kind-of tree-course.tree-judged judged-from tree-course.judge tree-course.tests tree-course.next-due tree-course.after-node line-kind-of malformed wrong-count outside-range kind-tests available units-available is-stuck refusal-of carries-line carries-unit carries-period trees.render trees.node-lines digits digits-by
 leaves-judged = (refl, refl)
 
-pub is-not-short : Is (some example) (trees.render 3 (short 1)) (refused-line 33 3)
+pub is-not-short : Is (some example) (trees.render 3 (leaf (short 1))) (refused-line 33 3)
 is-not-short = judged-as (some example) example-formed _ _ (leaves-judged .0)
 
-pub is-not-stuck : Is (some example) (trees.render 3 (stuck 0)) (refused-line 34 3)
+pub is-not-stuck : Is (some example) (trees.render 3 (leaf (stuck 0))) (refused-line 34 3)
 is-not-stuck = judged-as (some example) example-formed _ _ (leaves-judged .1)

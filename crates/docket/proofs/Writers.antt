@@ -5,7 +5,8 @@ use mathlib.Core.Option.{Option, none, some}
 use Prim.Native.Nat.{ℕ}
 use Rattle.model.specs.Instance.{Instance}
 use Rattle.model.specs.Ranges.{GoodWriter, All}
-use Rattle.model.specs.Tree.{Bound, never, number}
+use Rattle.model.specs.declared.figures.Bound.{Bound}
+use Rattle.model.specs.declared.figures.Bound.the-variants.{Never as never, Number as number}
 use Rattle.model.proofs.Lists.{IsFirst, held-least, held-highest}
 use Rattle.tree.specs.Acceptance.{Bounded}
 use Rattle.docket.specs.declared.Docket.{Docket}
@@ -47,13 +48,13 @@ module _ (P : Instance) where
 
   bound-writer : (b : Option Bounded) (l : List Bounded) → IsFirst by-bound b l → All (GoodTree P) l → BoundWriter (bound-kept b)
   bound-writer none l f g = tt
-  bound-writer (some h) l f g = by-writer (h .bound) (h .writer) (all-mem (GoodTree P) l g h (first-mem by-bound h l f) .writer-in)
+  bound-writer (some h) l f g = by-writer (h .figures .bound) (h .writer) (all-mem (GoodTree P) l g h (first-mem by-bound h l f) .writer-in)
 
 docket-writers : (o : Option Instance) (past : List Verdict) → Proper o past → Writers (docket-of o past .held)
 docket-writers none past p = (tt, tt)
 docket-writers (some P) past p = (
   cost-writer P (least past) (schedules past) (held-least (λ (s : Costed). s .cost) (schedules past)) (p .1 .0),
-  bound-writer P (highest past) (trees past) (held-highest (λ (F : Bounded). F .bound) (trees past)) (p .1 .1),
+  bound-writer P (highest past) (trees past) (held-highest (λ (F : Bounded). F .figures .bound) (trees past)) (p .1 .1),
 )
 
 -- so they are in every docket that lodging reaches from a fresh one

@@ -14,7 +14,8 @@ use Rattle.model.specs.Rules.{Meets}
 use Rattle.model.specs.Cost as model
 use Rattle.model.specs.Held as arrays
 use Rattle.model.specs.Held.{pad}
-use Rattle.model.specs.Tree.{Bound, never, number}
+use Rattle.model.specs.declared.figures.Bound.{Bound}
+use Rattle.model.specs.declared.figures.Bound.the-variants.{Never as never, Number as number}
 use Rattle.model.specs.Best.{higher, FirstLeast, FirstHighest}
 use Rattle.tree.specs.Acceptance.{Bounded}
 use Rattle.docket.specs.declared.Docket.{Docket}
@@ -73,7 +74,7 @@ abbrev pub answer-due : List Verdict → Verdict → Stated
 answer-due past (refused r) = answers.refused (r .number) (r .line) (r .unit) (r .period)
 answer-due past (problem P) = answers.held no-values
 answer-due past (schedule s) = held-if (every (λ x. ltb (s .cost) (x .cost)) (schedules past)) (its-cost (s .cost))
-answer-due past (tree F) = held-if (every (λ G. higher (F .bound) (G .bound)) (trees past)) (its-bound (F .bound) (F .splits) (F .leaves))
+answer-due past (tree F) = held-if (every (λ G. higher (F .figures .bound) (G .figures .bound)) (trees past)) (its-bound (F .figures))
 
 abbrev pub answers-due : List Verdict → List Verdict → List Stated
 answers-due past [] = []
@@ -100,8 +101,8 @@ CostHeld P accepted (cost.Number by) rows = HoldsSchedule P accepted by rows
 -- the bound b of the writer w is held: of the accepted trees the first with the highest bound gave it
 pub record HoldsBound (accepted : List Bounded) (b : Bound) (w : ℕ) : Type 0 where
   pub best : Bounded
-  pub first : FirstHighest (λ F. F .bound) best accepted
-  pub held-bound : b ≡ best .bound
+  pub first : FirstHighest (λ F. F .figures .bound) best accepted
+  pub held-bound : b ≡ best .figures .bound
   pub held-writer : w ≡ best .writer
 
 -- no bound is held, and no tree was accepted; or one is. No schedule of whole outputs that meets the rules costs less than a held

@@ -5,12 +5,12 @@ use Prim.Native.Nat.{ℕ}
 use Rattle.problem.specs.declared.ProblemAnswer.{ProblemAnswer}
 use Rattle.problem.specs.declared.ProblemAnswer.the-variants as problem-answer
 use Rattle.model.specs.declared.arrays.Problem.{Problem}
+use Rattle.model.specs.declared.figures.TreeFigures.{TreeFigures}
 use Rattle.schedule.specs.declared.ScheduleAnswer.{ScheduleAnswer}
 use Rattle.schedule.specs.declared.ScheduleAnswer.the-variants as schedule-answer
 use Rattle.schedule.specs.declared.Priced.{Priced}
 use Rattle.tree.specs.declared.TreeRead.{TreeRead}
 use Rattle.tree.specs.declared.TreeRead.the-variants as tree-answer
-use Rattle.tree.specs.Coded.{bound-of}
 use Rattle.docket.specs.declared.Docket.{Docket}
 use Rattle.docket.specs.declared.Lodged.{Lodged}
 use Rattle.docket.specs.declared.held.HeldCost.the-variants as cost
@@ -19,7 +19,6 @@ use Rattle.docket.specs.declared.admission.Admission.the-variants as adm
 use Rattle.docket.specs.declared.admission.Screened.{Screened}
 use Rattle.docket.specs.declared.admission.Screened.the-variants as screened
 use Rattle.answer.specs.declared.Answer.the-variants.{Refused, TextHeld, ScheduleHeld, SchedulePassed, TreeHeld, TreePassed}
-use Rattle.answer.specs.declared.TreeFigures.{TreeFigures}
 use Rattle.docket.specs.Lodging.{lodged, with-held, with-problem, is-less, is-higher, bound-by}
 
 -- a text refused before its lines leaves a docket as it is; any other is lodged, whatever its kind
@@ -48,10 +47,10 @@ hold-schedule d (schedule-answer.Accepted s) rows = hold-rows d s rows
 -- a tree's, with its figures
 abbrev pub hold-figures : Docket → ℕ → TreeFigures → Lodged
 hold-figures d w f =
-    cond (is-higher (bound-of (f .bound)) (d .held .bound))
-    (lodged (with-held d (record { cost = d .held .cost; bound = bound-by (bound-of (f .bound)) w }) (d .rows)) (TreeHeld f))
+    cond (is-higher (f .bound) (d .held .bound))
+    (lodged (with-held d (record { cost = d .held .cost; bound = bound-by (f .bound) w }) (d .rows)) (TreeHeld f))
     (lodged d (TreePassed f))
 
 abbrev pub hold-tree : Docket → TreeRead → Lodged
 hold-tree d (tree-answer.Refused r) = lodged d (Refused r)
-hold-tree d (tree-answer.Accepted w b m n) = hold-figures d w (record { bound = b; splits = m; leaves = n })
+hold-tree d (tree-answer.Accepted w f) = hold-figures d w f

@@ -9,7 +9,8 @@ use Rattle.model.specs.declared.arrays.Problem.{Problem}
 use Rattle.model.specs.Instance.{Instance, Schedule}
 use Rattle.model.specs.Held as arrays
 use Rattle.model.specs.Held.{view, pad}
-use Rattle.model.specs.Tree.{Bound, never, number}
+use Rattle.model.specs.declared.figures.Bound.{Bound}
+use Rattle.model.specs.declared.figures.Bound.the-variants.{Never as never, Number as number}
 use Rattle.refusal.specs.Refusals.{refusal-of}
 use Rattle.text.specs.Lines.{line-at, kind-of}
 use Rattle.text.specs.Course.{Judged, refused-at, accepted}
@@ -19,7 +20,6 @@ use Rattle.problem.specs.Course.{problem-judged}
 use Rattle.schedule.specs.ReadAnswers.{Outcome, refused-by, accepted-as, schedule-outcome}
 use Rattle.tree.specs.Course as trees
 use Rattle.tree.specs.Acceptance.{Bounded}
-use Rattle.tree.specs.ReadAnswers.{coded}
 use Rattle.docket.specs.declared.Docket.{Docket}
 use Rattle.docket.specs.declared.Lodged.{Lodged}
 use Rattle.docket.specs.declared.held.Held.{Held}
@@ -31,7 +31,6 @@ use Rattle.docket.specs.declared.admission.Admission.{Admission}
 use Rattle.docket.specs.declared.admission.Admission.the-variants as admission
 use Rattle.answer.specs.declared.Answer.{Answer}
 use Rattle.answer.specs.declared.Answer.the-variants.{Refused, TextHeld, ScheduleHeld, SchedulePassed, TreeHeld, TreePassed}
-use Rattle.answer.specs.declared.TreeFigures.{TreeFigures}
 use Rattle.docket.specs.Docket.{nothing-held, fresh-docket, sound}
 use Rattle.docket.specs.Verdicts.{Costed, Verdict, refused, problem, schedule, tree}
 
@@ -111,11 +110,7 @@ bound-by never w = bound.Never (record { writer = w })
 bound-by (number z) w = bound.Number (record { value = z; writer = w })
 
 abbrev pub with-bound : Docket → Bounded → Docket
-with-bound d F = with-held d (record { cost = d .held .cost; bound = bound-by (F .bound) (F .writer) }) (d .rows)
-
--- what the answer to a tree carries
-abbrev pub given-figures : Bounded → TreeFigures
-given-figures F = record { bound = coded (F .bound); splits = F .splits; leaves = F .leaves }
+with-bound d F = with-held d (record { cost = d .held .cost; bound = bound-by (F .figures .bound) (F .writer) }) (d .rows)
 
 -- what was given stays where the text is refused or passed; an accepted text is held over d
 abbrev pub hold : Docket → Docket → Verdict → Lodged
@@ -124,7 +119,7 @@ hold was d (problem P) = lodged (with-problem (arrays.held P)) TextHeld
 hold was d (schedule s) =
     cond (is-less (s .cost) (d .held .cost)) (lodged (with-schedule d s) (ScheduleHeld (s .cost))) (lodged was (SchedulePassed (s .cost)))
 hold was d (tree F) =
-    cond (is-higher (F .bound) (d .held .bound)) (lodged (with-bound d F) (TreeHeld (given-figures F))) (lodged was (TreePassed (given-figures F)))
+    cond (is-higher (F .figures .bound) (d .held .bound)) (lodged (with-bound d F) (TreeHeld (F .figures))) (lodged was (TreePassed (F .figures)))
 
 -- a value that is not sound is taken for a fresh docket
 abbrev pub trusted : Docket → Docket

@@ -12,8 +12,7 @@ use Rattle.model.specs.Rules.{Meets}
 use Rattle.model.specs.Cost as model
 use Rattle.model.specs.Held.{view, Valid}
 use Rattle.model.specs.Above.{root}
-use Rattle.model.specs.Tree.{Tree, Limits, Holds, splits, leaves}
-use Rattle.model.specs.Tree as tree
+use Rattle.model.specs.Tree.{Tree, Limits, Holds, tree-figures}
 use Rattle.problem.specs.Rendering as problem-text
 use Rattle.schedule.specs.Rendering as schedule-text
 use Rattle.tree.specs.Rendering as tree-text
@@ -62,7 +61,7 @@ OfSchedule P text x = Short text × ((w : ℕ) × (s : Schedule) × ScheduleText
 
 -- a short text of a tree within the limits whose leaves meet their rules, with its bound and counts
 abbrev pub OfTree : Instance → List ℕ → AnswerValues → Type 0
-OfTree P text x = Short text × ((w : ℕ) × (t : Tree) × TreeText P text w t × Holds P root t × (x ≡ its-bound (tree.bound P root t) (splits t) (leaves t)))
+OfTree P text x = Short text × ((w : ℕ) × (t : Tree) × TreeText P text w t × Holds P root t × (x ≡ its-bound (tree-figures P t)))
 
 -- ---- any value of the struct
 

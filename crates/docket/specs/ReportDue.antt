@@ -7,7 +7,8 @@ use mathlib.Core.Option.{Option, none, some}
 use Prim.Native.Nat.{ℕ, _+_, _≤_, _<_}
 use lib.IntN.{pos, _-ℤ_}
 use lib.ListN.{length, take, drop}
-use Rattle.model.specs.Tree.{Bound, never, number}
+use Rattle.model.specs.declared.figures.Bound.{Bound}
+use Rattle.model.specs.declared.figures.Bound.the-variants.{Never as never, Number as number}
 use Rattle.model.specs.Best.{FirstLeast, FirstHighest}
 use Rattle.writer.specs.Written.{figure-of}
 use Rattle.writer.specs.declared.Figure.{Figure}
@@ -33,7 +34,7 @@ cost-writer-due (some s) = Number (s .writer)
 
 abbrev pub bound-due : Option Bounded → Figure
 bound-due none = Missing
-bound-due (some F) = bound-figure (F .bound)
+bound-due (some F) = bound-figure (F .figures .bound)
 
 abbrev pub bound-writer-due : Option Bounded → Figure
 bound-writer-due none = Missing
@@ -47,7 +48,7 @@ gap-between c (number z) = figure-of (pos c -ℤ z)
 abbrev pub gap-due : Option Costed → Option Bounded → Figure
 gap-due none b = Missing
 gap-due (some s) none = Missing
-gap-due (some s) (some F) = gap-between (s .cost) (F .bound)
+gap-due (some s) (some F) = gap-between (s .cost) (F .figures .bound)
 
 abbrev pub figures-due : Option Costed → Option Bounded → shown.Figures
 figures-due s F = record {
@@ -68,7 +69,7 @@ IsCheapest (some s) accepted = FirstLeast (λ x. x .cost) s accepted
 -- of the accepted trees the first with the highest bound, none where none was accepted
 abbrev pub IsHighest : Option Bounded → List Bounded → Type 0
 IsHighest none accepted = accepted ≡ []
-IsHighest (some F) accepted = FirstHighest (λ x. x .bound) F accepted
+IsHighest (some F) accepted = FirstHighest (λ x. x .figures .bound) F accepted
 
 -- the seven lines that show them
 pub record ReportDue (vs : List Verdict) (lines : List ℕ) : Type 0 where

@@ -6,7 +6,8 @@ use mathlib.Core.Option.{Option, none, some}
 use Prim.Native.Nat.{ℕ}
 use Prim.Native.String.{String}
 use lib.IntN.{pos}
-use Rattle.model.specs.Tree.{number}
+use Rattle.model.specs.declared.figures.Bound.the-variants.{Number as number}
+use Rattle.model.specs.Figures.{tree-gives}
 use Rattle.text.specs.Strings.{lines}
 use Rattle.docket.specs.declared.Docket.{Docket}
 use Rattle.docket.specs.declared.Lodged.{Lodged}
@@ -93,10 +94,10 @@ specimens =
     -- an output below pL: 21, unit 2, period 2
     ∷ (listed-problem ∷ schedule-text ("run=60,80" ∷ "run=0,9" ∷ []) ∷ [], refused 21 0 2 2)
     -- the tree: 1980, one split line, two leaves
-    ∷ (listed-problem ∷ listed-tree ∷ [], held (its-bound (number (pos 1980)) 1 2))
+    ∷ (listed-problem ∷ listed-tree ∷ [], held (its-bound (tree-gives (number (pos 1980)) 1 2)))
     -- the lone price leaf: 1940, and passed after the tree
-    ∷ (listed-problem ∷ lone-leaf ∷ [], held (its-bound (number (pos 1940)) 0 1))
-    ∷ (listed-problem ∷ listed-tree ∷ lone-leaf ∷ [], passed (its-bound (number (pos 1940)) 0 1))
+    ∷ (listed-problem ∷ lone-leaf ∷ [], held (its-bound (tree-gives (number (pos 1940)) 0 1)))
+    ∷ (listed-problem ∷ listed-tree ∷ lone-leaf ∷ [], passed (its-bound (tree-gives (number (pos 1940)) 0 1)))
     -- a lone short=2: 33, line 3
     ∷ (listed-problem ∷ lone-short ∷ [], refused 33 3 0 0)
     -- TD + Tcold is 2: a start after two periods off costs Hsc, one after three Csc

@@ -9,7 +9,7 @@ use Rattle.model.specs.Ranges.{WellFormed, GoodWriter, GoodRows}
 use Rattle.model.specs.Rules.{Meets}
 use Rattle.model.specs.Cost.{cost}
 use Rattle.model.specs.Above.{root}
-use Rattle.model.specs.Tree.{Tree, Limits, Holds}
+use Rattle.model.specs.Tree.{Tree, Limits, Holds, tree-figures}
 use Rattle.refusal.specs.declared.Refusal.{Refusal}
 use Rattle.refusal.specs.Refusals.{line-refusal}
 use Rattle.text.specs.Lines.{ended, line-at, kind-problem, kind-schedule, kind-tree}
@@ -18,7 +18,7 @@ use Rattle.problem.specs.Refusals as of-problem
 use Rattle.schedule.specs.Rendering as schedules
 use Rattle.schedule.specs.Acceptance.{RefusedFor}
 use Rattle.tree.specs.Rendering as trees
-use Rattle.tree.specs.Acceptance.{bounded-of}
+use Rattle.tree.specs.Acceptance.{bounded}
 use Rattle.tree.specs.Refusals as of-tree
 use Rattle.docket.specs.Verdicts.{Verdict, refused, problem, schedule, tree, known-after}
 
@@ -60,7 +60,7 @@ pub data Is : Option Instance → List ℕ → Verdict → Type 0 where
   tree-refused : {P : Instance} {text : List ℕ} (n l : ℕ) → Short text → Begins text kind-tree → of-tree.RefusedAt P text n l → Is (some P) text (refused-line n l)
   a-tree : {P : Instance} {text : List ℕ} (w : ℕ) (t : Tree) → Short text → text ≡ trees.render w t
       → GoodWriter w → Limits P root 0 t → Holds P root t
-      → Is (some P) text (tree (bounded-of P w t))
+      → Is (some P) text (tree (bounded w (tree-figures P t)))
 
 -- a text that is accepted: it is something, and that is no refusal
 pub record Accepted (o : Option Instance) (text : List ℕ) : Type 0 where

@@ -1,6 +1,5 @@
 // What is held of the readers' answers.
 ghost use mathlib.Core.Path.{_≡_};
-ghost use Rattle.tree.specs.Coded.{bound-of};
 ghost use Rattle.docket.specs.Lodging.{is-less, is-higher, bound-by};
 ghost use Rattle.docket.specs.HoldingAnswers.{hold-problem, hold-rows, hold-schedule, hold-figures, hold-tree};
 use crate::Docket;
@@ -12,13 +11,13 @@ use crate::held::HeldBound;
 use crate::held::HeldCost;
 use crate::held::NeverBy;
 use answer::Answer;
-use answer::TreeFigures;
 use model::arrays::Problem;
+use model::figures::Bound;
+use model::figures::TreeFigures;
 use problem::ProblemAnswer;
 use schedule::Priced;
 use schedule::ScheduleAnswer;
 use tree::TreeRead;
-use tree::figures::Bound;
 
 // Whether no cost is held or this one is less.
 fn is_less(cost: u64, held: HeldCost) -> bool
@@ -32,7 +31,7 @@ fn is_less(cost: u64, held: HeldCost) -> bool
 
 // Whether no bound is held or this one is higher, never being above every number.
 fn is_higher(bound: Bound, held: HeldBound) -> bool
-    ensures { λ r. ⌜ r ≡ is-higher (bound-of bound) held ⌝ }
+    ensures { λ r. ⌜ r ≡ is-higher bound held ⌝ }
 {
     match held {
         HeldBound::Nothing => true,
@@ -46,7 +45,7 @@ fn is_higher(bound: Bound, held: HeldBound) -> bool
 
 // The bound with its writer, as it is held.
 fn bound_by(bound: Bound, writer: u64) -> HeldBound
-    ensures { λ r. ⌜ r ≡ bound-by (bound-of bound) writer ⌝ }
+    ensures { λ r. ⌜ r ≡ bound-by bound writer ⌝ }
 {
     match bound {
         Bound::Number(value) => HeldBound::Number(BoundBy { value, writer }),
@@ -161,18 +160,6 @@ pub fn hold_tree(d: Docket, read: TreeRead) -> Lodged
             docket: d,
             answer: Answer::Refused(refusal),
         },
-        TreeRead::Accepted {
-            writer,
-            bound,
-            splits,
-            leaves,
-        } => {
-            let figures = TreeFigures {
-                bound,
-                splits,
-                leaves,
-            };
-            hold_figures(d, writer, figures)
-        }
+        TreeRead::Accepted { writer, figures } => hold_figures(d, writer, figures),
     }
 }

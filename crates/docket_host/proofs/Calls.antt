@@ -9,7 +9,7 @@ use lib.Dec.{ltb, leb}
 use lib.ListN.{length}
 use lib.Seq.{paste}
 use borrow.Author.Tests.{ltb-false, leb-true, le-ltb, le-leb}
-use Rattle.numbers.proofs.Fronts.{front-more}
+use Rattle.layout.proofs.Fronts.{front-more}
 use Rattle.writer.specs.Written.{over}
 use Rattle.answer.specs.StatedAnswers.{stated}
 use Rattle.answer.specs.AnswerLines.{answer-line}

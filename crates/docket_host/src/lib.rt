@@ -90,7 +90,7 @@ pub extern "C" fn docket_lodge(
             let answer = lodged.answer;
             state::keep_held(lodged, numbers, rows);
             let figures = answer::values::answer_numbers(answer);
-            numbers::copies::store(values, 0, &figures);
+            layout::copies::store(values, 0, &figures);
             return answer::write_answer(line, answer);
         }
         return NO_DOCKET;

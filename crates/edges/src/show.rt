@@ -3,16 +3,16 @@ ghost use mathlib.Core.Path.{_≡_};
 ghost use Prim.Native.Nat.{_≤_};
 ghost use Rattle.docket.specs.Lodging.{lodge-of};
 use answer::Answer;
-use answer::TreeFigures;
 use docket::Docket;
 use docket::Lodged;
 use docket::held::HeldBound;
 use docket::held::HeldCost;
 use libc::STDOUT_FILENO;
 use model::arrays::Problem;
+use model::figures::Bound;
+use model::figures::TreeFigures;
 use refusal::Refusal;
 use report::ReportAnswer;
-use tree::figures::Bound;
 use writer::Figure;
 
 // Prints bytes as they are.

@@ -3,8 +3,5 @@ pub mod Outputs
 pub mod Costs
 pub mod Signed
 pub mod UnitAnswers
-pub mod Units
-pub mod Requirements
-pub mod LeafAnswers
+pub mod UnitParts
 pub mod StuckUnits
-pub mod Shorts

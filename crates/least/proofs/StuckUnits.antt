@@ -12,12 +12,12 @@ use Rattle.model.specs.Leaf.{is-stuck, stuck-at}
 use Rattle.model.specs.Walk.{walk}
 use Rattle.model.proofs.Stuck.{is-stuck-is}
 use Rattle.model.proofs.Extents.{is-stuck-ext}
-use Rattle.walk.specs.Marks.{marks-of, all-marks}
+use Rattle.walk.specs.Marks.{marks-of, marks-in}
 use Rattle.walk.specs.Limits.{GoodCosts}
 use Rattle.walk.specs.GoingBack.{costs-of}
 use Rattle.walk.proofs.Fronts.{front-length, front-at}
 use Rattle.least.proofs.Costs.{all-of}
-use Rattle.least.proofs.Units.{part-marks}
+use Rattle.least.proofs.UnitParts.{part-marks}
 
 -- the front of an array of zeros
 abbrev free : ℕ → List ℕ
@@ -39,9 +39,9 @@ stuck-at-is n u [] d m h = absurd (omega arith)
 stuck-at-is n zero (g ∷ l) d m h = refl
 stuck-at-is n (suc u) (g ∷ l) d m h = stuck-at-is n u l d (rest m) (omega arith)
 
-pub part-stuck : (n u : ℕ) (l : List Generator) (d : Generator) (fixed : List ℕ) → u < length l → (N long : ℕ) → N ≡ n → long ≡ n
-    → is-stuck N (getD l u d) (marks-of (take long (drop (u * n) fixed))) ≡ stuck-at n l (all-marks n fixed) u
-part-stuck n u l d fixed h N long e f =
+pub part-stuck : (n u : ℕ) (l : List Generator) (d : Generator) (above : List ℕ) → u < length l → (N long : ℕ) → N ≡ n → long ≡ n
+    → is-stuck N (getD l u d) (marks-of (take long (drop (u * n) above))) ≡ stuck-at n l (marks-in (length l) n above) u
+part-stuck n u l d above h N long e f =
     rw (e, f)
-    (is-stuck-ext n (getD l u d) (marks-of (take n (drop (u * n) fixed))) (all-marks n fixed u) (part-marks n u fixed)
-    ∙ stuck-at-is n u l d (all-marks n fixed) h)
+    (is-stuck-ext n (getD l u d) (marks-of (take n (drop (u * n) above))) (marks-in (length l) n above u) (part-marks (length l) n u above h)
+    ∙ stuck-at-is n u l d (marks-in (length l) n above) h)

@@ -10,7 +10,7 @@ use Rattle.model.specs.Above.{Mark}
 use Rattle.model.specs.Prices.{price-walk, offset}
 use Rattle.model.proofs.PriceWalks.{unit-least-is, price-walk-stuck}
 use Rattle.least.specs.declared.unit.Least.the-variants.{Stuck, Value}
-use Rattle.least.specs.LeafLeasts.{least-of}
+use Rattle.least.specs.UnitLeasts.{least-of}
 
 module _ (n : ℕ) (q s : ℕ → ℕ) (g : Generator) (m : ℕ → Mark) where
   pub answer-stuck : price-walk n q s g m ≡ 0 → Stuck ≡ least-of n q s g m

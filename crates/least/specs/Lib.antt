@@ -1,4 +1,4 @@
--- What the contracts of a price leaf cite, over the model's definitions.
-pub mod LeafLeasts
+-- What the contracts of one unit's least value cite, over the model's definitions.
+pub mod UnitLeasts
 pub mod Limits
 pub mod Priced

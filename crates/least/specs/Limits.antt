@@ -2,10 +2,8 @@
 -- prices need.
 use mathlib.Core.Path.{_≡_}
 use mathlib.Core.List.{List}
-use Prim.Native.Nat.{ℕ, _<_, _^_}
+use Prim.Native.Nat.{ℕ}
 use lib.ListN.{length}
-use lib.IntN.{ℤ}
-use lib.Signed.{mag}
 use Rattle.model.specs.Ranges.{Between, All, GoodPrice}
 
 -- price multipliers q and reserve multipliers s of n periods
@@ -20,7 +18,3 @@ pub record GoodPrices (n : ℕ) (q s : List ℕ) : Type 0 where
 pub record GoodSlopes (x y : ℕ) : Type 0 where
   pub x-in : Between 0 x 10_000_000_000
   pub y-in : Between 0 y 10_000_000_000
-
--- a signed value that leaves room for a sum
-abbrev pub Small : ℤ → Type 0
-Small z = mag z < 2 ^ 61

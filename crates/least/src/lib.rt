@@ -1,6 +1,4 @@
-// What a tree's leaves come to: one unit's least value at given prices, the value of a price leaf, stuck and short.
-pub mod leaf;
-mod output;
-pub mod short;
+// One unit under fixed statuses: its best outputs and least value at given prices, and whether it is stuck.
+pub mod output;
 pub mod stuck;
 pub mod unit;

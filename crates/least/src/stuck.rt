@@ -4,11 +4,11 @@ ghost use Prim.Native.Nat.{_*_, _≤_, _<_};
 ghost use lib.ListN.{length};
 ghost use Rattle.model.specs.Ranges.{Between, GoodUnit};
 ghost use Rattle.model.specs.Leaf.{is-stuck, stuck-at};
-ghost use Rattle.numbers.specs.Numbers.{instance-in, Laid};
-ghost use Rattle.walk.specs.Marks.{marks-of, all-marks};
+ghost use Rattle.layout.specs.Numbers.{instance-in, Laid};
+ghost use Rattle.walk.specs.Marks.{marks-of, above-of};
+use layout::generator_at;
+use layout::periods_in;
 use model::generator::Generator;
-use numbers::generator_at;
-use numbers::periods_in;
 use walk::walk_value;
 
 // Whether no run of the unit obeys (5) to (10) and agrees with the fixed statuses.
@@ -24,15 +24,15 @@ fn is_stuck(g: Generator, fixed: &[u8]) -> bool
 }
 
 // Whether unit u is stuck.
-pub fn is_unit_stuck(numbers: &[u64], u: usize, fixed: &[u8]) -> bool
+pub fn is_unit_stuck(numbers: &[u64], u: usize, above: &[u8]) -> bool
     requires { ⌜ Laid (now numbers) ⌝ }
     requires { ⌜ u < length (instance-in (now numbers) .units) ⌝ }
-    requires { ⌜ length (instance-in (now numbers) .units) * instance-in (now numbers) .periods ≤ length (now fixed) ⌝ }
-    ensures { λ r. ⌜ r ≡ stuck-at (instance-in (now (numbers .entry)) .periods) (instance-in (now (numbers .entry)) .units) (all-marks (instance-in (now (numbers .entry)) .periods) (now (fixed .entry))) u ⌝ }
+    requires { ⌜ length (instance-in (now numbers) .units) * instance-in (now numbers) .periods ≤ length (now above) ⌝ }
+    ensures { λ r. ⌜ r ≡ stuck-at (instance-in (now (numbers .entry)) .periods) (instance-in (now (numbers .entry)) .units) (above-of (instance-in (now (numbers .entry))) (now (above .entry)) .marks) u ⌝ }
 {
     let n = periods_in(numbers);
     let g = generator_at(numbers, u);
     let begin = u * n;
     let end = begin + n;
-    is_stuck(g, &fixed[begin..end])
+    is_stuck(g, &above[begin..end])
 }

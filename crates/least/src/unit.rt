@@ -6,7 +6,7 @@ ghost use Rattle.model.specs.Instance.{_at_};
 ghost use Rattle.model.specs.Ranges.{GoodUnit};
 ghost use Rattle.model.specs.Prices.{price-walk, offset};
 ghost use Rattle.walk.specs.Marks.{marks-of};
-ghost use Rattle.least.specs.LeafLeasts.{least-of};
+ghost use Rattle.least.specs.UnitLeasts.{least-of};
 ghost use Rattle.least.specs.Limits.{GoodPrices};
 ghost use Rattle.least.specs.Priced.{Priced};
 use crate::output::least_on;
@@ -20,7 +20,7 @@ pub enum Least {
 }
 
 // Writes what each period costs on and off, with (q + s)·pU added.
-fn fill_costs(g: Generator, q: &[u64], s: &[u64], on: &mut [u64], off: &mut [u64])
+pub fn fill_costs(g: Generator, q: &[u64], s: &[u64], on: &mut [u64], off: &mut [u64])
     requires { ⌜ GoodUnit g ⌝ }
     requires { ⌜ GoodPrices (length (now q)) (now q) (now s) ⌝ }
     requires { ⌜ (length (now on) ≡ length (now q)) × (length (now off) ≡ length (now q)) ⌝ }
@@ -51,7 +51,7 @@ fn price_value(g: Generator, q: &[u64], s: &[u64], fixed: &[u8]) -> u64
 }
 
 // What was added in all periods.
-fn sum_offset(g: Generator, q: &[u64], s: &[u64]) -> u64
+pub fn sum_offset(g: Generator, q: &[u64], s: &[u64]) -> u64
     requires { ⌜ GoodUnit g ⌝ }
     requires { ⌜ GoodPrices (length (now q)) (now q) (now s) ⌝ }
     ensures { λ r. ⌜ r ≡ offset (length (now (q .entry))) (λ t. (now (q .entry)) at t) (λ t. (now (s .entry)) at t) g ⌝ }

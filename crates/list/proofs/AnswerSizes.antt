@@ -19,7 +19,7 @@ use Rattle.model.specs.Above.{root}
 use Rattle.model.specs.Held.{view, blank-problem}
 use Rattle.model.proofs.Valid.{valid-is}
 use Rattle.model.proofs.CostSizes.{meets-small, cost-fits}
-use Rattle.model.proofs.LeafSizes.{bound-fits}
+use Rattle.model.proofs.TreeSizes.{bound-fits}
 use Rattle.refusal.specs.declared.Refusal.{Refusal}
 use Rattle.refusal.specs.Refusals.{refusal-of, line-refusal}
 use Rattle.refusal.proofs.Places.{nothing-high}
@@ -29,8 +29,6 @@ use Rattle.schedule.proofs.LinesRefused as schedules
 use Rattle.text.specs.Lines.{Line, later, lines-of, line-at, kind-of}
 use Rattle.text.specs.declared.Kind.{Kind}
 use Rattle.text.specs.declared.Kind.the-variants as kind
-use Rattle.tree.specs.Coded.{bound-of}
-use Rattle.tree.specs.ReadAnswers.{coded}
 use Rattle.tree.specs.Rendering as trees
 use Rattle.tree.proofs.ReadAnswers as trees-read
 use Rattle.answer.specs.declared.Answer.the-variants.{ScheduleHeld, SchedulePassed, TreeHeld, TreePassed}
@@ -42,9 +40,8 @@ use Rattle.docket.specs.declared.Docket.{Docket}
 use Rattle.docket.specs.Docket.{fresh-docket, sound}
 use Rattle.docket.specs.Verdicts.{Verdict, refused, problem, schedule, tree}
 use Rattle.docket.specs.Texts.{Is, too-long, no-kind, second-problem, schedule-early, tree-early, problem-refused, a-problem, schedule-refused, a-schedule, tree-refused, a-tree}
-use Rattle.docket.specs.Lodging.{refuse-whole, admit-kind, admit, verdict-by, text-judged, lodged, with-schedule, with-bound, is-less, is-higher, given-figures, hold, lodge-of}
+use Rattle.docket.specs.Lodging.{refuse-whole, admit-kind, admit, verdict-by, text-judged, lodged, with-schedule, with-bound, is-less, is-higher, hold, lodge-of}
 use Rattle.docket.proofs.OneVerdict.{Fine, verdict-of, verdict-is}
-use Rattle.docket.proofs.OneLodging.{given-is}
 use Rattle.docket.proofs.HoldingAnswers.{sound-valid, lodge-sound, lodge-unsound}
 use Rattle.list.proofs.LineCounts.{before-count, tree-count}
 
@@ -54,7 +51,7 @@ abbrev pub SmallVerdict : Verdict → Type 0
 SmallVerdict (refused r) = Small (answers.refused (r .number) (r .line) (r .unit) (r .period))
 SmallVerdict (problem P) = Unit {0}
 SmallVerdict (schedule s) = SmallValues (its-cost (s .cost))
-SmallVerdict (tree F) = SmallValues (its-bound (F .bound) (F .splits) (F .leaves))
+SmallVerdict (tree F) = SmallValues (its-bound (F .figures))
 
 -- a number that carries its line is one of 11 to 35
 number-small : (n l : ℕ) → refusal-of n (suc l) 0 0 ≡ line-refusal n (suc l) → n < 100
@@ -141,14 +138,11 @@ answer-small was d (schedule x) s = go (is-less (x .cost) (d .held .cost))
     go : (t : Bool) → Small (stated (cond t (lodged (with-schedule d x) (ScheduleHeld (x .cost))) (lodged was (SchedulePassed (x .cost))) .answer))
     go true = s
     go false = s
-answer-small was d (tree F) s = go (is-higher (F .bound) (d .held .bound))
+answer-small was d (tree F) s = go (is-higher (F .figures .bound) (d .held .bound))
   where
-    b : SmallValues (its-bound (bound-of (coded (F .bound))) (F .splits) (F .leaves))
-    b = rw (given-is (F .bound)) s
-
-    go : (t : Bool) → Small (stated (cond t (lodged (with-bound d F) (TreeHeld (given-figures F))) (lodged was (TreePassed (given-figures F))) .answer))
-    go true = b
-    go false = b
+    go : (t : Bool) → Small (stated (cond t (lodged (with-bound d F) (TreeHeld (F .figures))) (lodged was (TreePassed (F .figures))) .answer))
+    go true = s
+    go false = s
 
 -- where o is the problem that is known
 pub verdict-fits : (o : Option Instance) → Fine o → (text : List ℕ) (was d : Docket)

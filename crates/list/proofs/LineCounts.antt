@@ -6,10 +6,11 @@ use Prim.Native.Nat.{ℕ, suc, _+_, _≤_}
 use native.Mathlib.Omega.{arith}
 use lib.Dec.{eqb}
 use lib.ListN.{length, length-append}
-use Rattle.model.specs.Tree.{Tree, split, short, stuck, price, splits, leaves}
+use Rattle.model.specs.Tree.{Tree, leaf, fork, splits, leaves}
 use Rattle.text.specs.Lines.{Line, later, cut-at, lines-of, end-tree}
 use Rattle.text.specs.Rendering.{text-of}
 use Rattle.tree.specs.Rendering.{node-lines, tree-lines, render}
+use Rattle.tree.proofs.LinePlaces.{leaf-line}
 
 -- ---- the lines that a text is cut into
 
@@ -38,13 +39,11 @@ ended-count : (ls : List (List ℕ)) → length ls ≤ length (text-of ls)
 ended-count [] = omega arith
 ended-count (l ∷ ls) = omega (arith, length-append l (10 ∷ text-of ls), ended-count ls)
 
--- a line for each split and one or two for each leaf
+-- a line for each split, and those of each leaf
 node-count : (t : Tree) → splits t + leaves t ≤ length (node-lines t)
 unfolding splits leaves node-lines
-node-count (split U t x y) = omega (arith, node-count x, node-count y, length-append (node-lines x) (node-lines y))
-node-count (short t) = omega arith
-node-count (stuck U) = omega arith
-node-count (price q s) = omega arith
+node-count (leaf l) = omega (arith, leaf-line l)
+node-count (fork f x y) = omega (arith, node-count x, node-count y, length-append (node-lines x) (node-lines y))
 
 pub tree-count : (w : ℕ) (t : Tree) → splits t + leaves t ≤ length (render w t)
 unfolding render

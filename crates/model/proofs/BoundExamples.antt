@@ -9,9 +9,10 @@ use lib.IntN.{ℤ, pos}
 use Rattle.model.specs.declared.generator.Generator.{Generator}
 use Rattle.model.specs.Instance.{Instance, _at_, sum}
 use Rattle.model.specs.Ranges.{GoodUnit, WellFormed, in-range, costs-in-range, outputs-in-range, times-in-range, midnight-ordered, ordered}
-use Rattle.model.specs.Above.{root, fix}
-use Rattle.model.specs.Leaf.{available, is-stuck, minℤ, requirement}
-use Rattle.model.specs.Tree.{Tree, split, short, price, Limits, Holds, number, bound, splits, leaves}
+use Rattle.model.specs.Above.{root, status, side}
+use Rattle.model.specs.Leaf.{units-available, available, is-stuck, minℤ, requirement}
+use Rattle.model.specs.declared.figures.Bound.the-variants.{Number as number}
+use Rattle.model.specs.Tree.{short, price, Tree, leaf, fork, GoodLeaf, LeafHolds, leaf-bound, Limits, Holds, bound, splits, leaves}
 use Rattle.model.specs.Walk.{plus, lesser, back, walk}
 use Rattle.model.specs.Prices.{on-value, best-at, price-walk, offset, price-walks, offsets}
 use Rattle.model.proofs.RangeTests.{good-unit}
@@ -50,25 +51,23 @@ example-well-formed = record {
 -- ---- its tree, and a lone price leaf
 
 abbrev pub example-tree : Tree
-example-tree = split 1 1 (short 1) (price (10 ∷ (14 ∷ [])) (0 ∷ (0 ∷ [])))
+example-tree = fork (status 1 1) (leaf (short 1)) (leaf (price (10 ∷ (14 ∷ [])) (0 ∷ (0 ∷ []))))
 
 abbrev pub lone-leaf : Tree
-lone-leaf = price (10 ∷ (14 ∷ [])) (0 ∷ (2 ∷ []))
+lone-leaf = leaf (price (10 ∷ (14 ∷ [])) (0 ∷ (2 ∷ [])))
 
 -- its nodes are within the limits, its leaves hold, and it has one split line and two leaves
 pub example-limits : Limits example root 0 example-tree
-unfolding Limits
+unfolding Limits GoodLeaf
 example-limits = (
-  lit< tt,
-  lit< tt,
-  refl,
+  (lit< tt, lit< tt, refl),
   lit≤ tt,
   lit< tt,
   ((refl, ((lit≤ tt, lit≤ tt), ((lit≤ tt, lit≤ tt), tt))), (refl, ((lit≤ tt, lit≤ tt), ((lit≤ tt, lit≤ tt), tt)))),
 )
 
 pub example-holds : Holds example root example-tree
-unfolding Holds available is-stuck
+unfolding Holds LeafHolds available units-available is-stuck
 example-holds = ((lit< tt, lit< tt), tt)
 
 pub example-counts : (splits example-tree ≡ 1) × (leaves example-tree ≡ 2)
@@ -76,28 +75,28 @@ unfolding splits leaves
 example-counts = (refl, refl)
 
 pub example-bound : bound example root example-tree ≡ number (pos 1980)
-unfolding bound requirement is-stuck price-walks offsets price-walk offset walk back plus lesser on-value best-at
+unfolding bound leaf-bound requirement is-stuck price-walks offsets price-walk offset walk back plus lesser on-value best-at
 example-bound =
-    ap number (leaf-is example (example-well-formed .units-good) (fix 1 1 true root .marks) (λ t. (10 ∷ (14 ∷ [])) at t) (λ t. (0 ∷ (0 ∷ [])) at t) tt)
+    ap number (leaf-is example (example-well-formed .units-good) (side (status 1 1) true root .marks) (λ t. (10 ∷ (14 ∷ [])) at t) (λ t. (0 ∷ (0 ∷ [])) at t) tt)
 
 pub lone-bound : bound example root lone-leaf ≡ number (pos 1940)
-unfolding bound requirement is-stuck price-walks offsets price-walk offset walk back plus lesser on-value best-at
+unfolding bound leaf-bound requirement is-stuck price-walks offsets price-walk offset walk back plus lesser on-value best-at
 lone-bound =
     ap number (leaf-is example (example-well-formed .units-good) (root .marks) (λ t. (10 ∷ (14 ∷ [])) at t) (λ t. (0 ∷ (2 ∷ [])) at t) tt)
 
 -- ---- wrong turns
 
 -- the smallest price leaf, not the last: the first gives 1940, the last 1980
-pub smallest-bound : bound example root (split 1 1 lone-leaf (price (10 ∷ (14 ∷ [])) (0 ∷ (0 ∷ [])))) ≡ number (pos 1940)
-unfolding bound requirement is-stuck price-walks offsets price-walk offset walk back plus lesser on-value best-at
+pub smallest-bound : bound example root (fork (status 1 1) lone-leaf (leaf (price (10 ∷ (14 ∷ [])) (0 ∷ (0 ∷ []))))) ≡ number (pos 1940)
+unfolding bound leaf-bound requirement is-stuck price-walks offsets price-walk offset walk back plus lesser on-value best-at
 smallest-bound =
     ap₂ (λ (x y : ℤ). number (minℤ x y))
-    (leaf-is example (example-well-formed .units-good) (fix 1 1 false root .marks) (λ t. (10 ∷ (14 ∷ [])) at t) (λ t. (0 ∷ (2 ∷ [])) at t) tt)
-    (leaf-is example (example-well-formed .units-good) (fix 1 1 true root .marks) (λ t. (10 ∷ (14 ∷ [])) at t) (λ t. (0 ∷ (0 ∷ [])) at t) tt)
+    (leaf-is example (example-well-formed .units-good) (side (status 1 1) false root .marks) (λ t. (10 ∷ (14 ∷ [])) at t) (λ t. (0 ∷ (2 ∷ [])) at t) tt)
+    (leaf-is example (example-well-formed .units-good) (side (status 1 1) true root .marks) (λ t. (10 ∷ (14 ∷ [])) at t) (λ t. (0 ∷ (0 ∷ [])) at t) tt)
 
 -- free units are not off: a lone `short=2` does not hold, 130 being no less than 110
-pub lone-short : Holds example root (short 1) → ⊥
-unfolding Holds available
+pub lone-short : Holds example root (leaf (short 1)) → ⊥
+unfolding Holds LeafHolds available units-available
 lone-short h = omega (arith, h .1)
 
 -- s·R counts: without it the lone leaf's requirement would be 20 less

@@ -12,8 +12,8 @@ use Rattle.model.specs.Instance.{Instance, Schedule, _at_, sum-units, Ea
 use Rattle.model.specs.Ranges.{All, GoodUnit, GoodOutput, WellFormed, GoodRows}
 use Rattle.model.specs.Rules.{on, if-on, statuses, spent, Within, output, capacity, Row, MeetsPrinted}
 use Rattle.model.specs.Cost.{switch-costs, fuel-cost, row-cost, cost}
-use Rattle.model.specs.Above.{Mark, free, fixed, Marks, rest}
-use Rattle.model.specs.Leaf.{unless-off, available}
+use Rattle.model.specs.Above.{Mark, free, fixed, Marks, Above, rest}
+use Rattle.model.specs.Leaf.{unless-off, units-available, available}
 use Rattle.model.proofs.PeriodSums.{sum-most}
 use Rattle.model.proofs.WalkSizes.{switch-cost-fits}
 use Rattle.model.proofs.LeafSizes.{all-at}
@@ -120,17 +120,17 @@ module _ (P : Instance) (W : WellFormed P) where
         at-most false g G = omega arith
 
   -- the pU of the units not fixed off
-  pub available-fits : (m : Marks) (t : ℕ) → available (P .units) m t ≤ 320_000
-  unfolding available
-  available-fits m t =
+  pub available-fits : (A : Above) (t : ℕ) → available P A t ≤ 320_000
+  unfolding available units-available
+  available-fits A t =
       let k : length (P .units) ≤ 32 = W .units-in .1 in
-      omega (arith, go (P .units) (W .units-good) m)
+      omega (arith, go (P .units) (W .units-good) (A .marks))
     where
       at-most : (x : Mark) (g : Generator) → GoodUnit g → unless-off x (g .pU) ≤ 10_000
       at-most free g G = G .in-range .pU-in .1
       at-most (fixed true) g G = G .in-range .pU-in .1
       at-most (fixed false) g G = omega arith
 
-      go : (gs : List Generator) → All GoodUnit gs → (m : Marks) → available gs m t ≤ length gs * 10_000
+      go : (gs : List Generator) → All GoodUnit gs → (m : Marks) → units-available gs m t ≤ length gs * 10_000
       go [] G m = omega arith
       go (g ∷ gs) G m = omega (arith, at-most (m 0 t) g (G .0), go gs (G .1) (rest m))

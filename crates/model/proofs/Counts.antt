@@ -4,20 +4,18 @@ use mathlib.Core.Bool.{true, false}
 use Prim.Native.Nat.{ℕ, suc, _+_, _≤_}
 use native.Mathlib.Omega.{arith}
 use Rattle.model.specs.Instance.{Instance}
-use Rattle.model.specs.Above.{Above, root, fix}
-use Rattle.model.specs.Tree.{Tree, split, short, stuck, price, Limits, splits, leaves, depth}
+use Rattle.model.specs.Above.{Above, root, side}
+use Rattle.model.specs.Tree.{Tree, leaf, fork, Limits, splits, leaves, depth}
 
 pub depth-from : (P : Instance) (A : Above) (d : ℕ) (t : Tree) → d ≤ 64 → Limits P A d t → d + depth t ≤ 64
 unfolding Limits depth
-depth-from P A d (split U t x y) l h =
+depth-from P A d (leaf l) i h = omega arith
+depth-from P A d (fork f x y) i h =
     omega (
       arith,
-      depth-from P (fix U t false A) (suc d) x (omega (arith, h .3)) (h .4),
-      depth-from P (fix U t true A) (suc d) y (omega (arith, h .3)) (h .5),
+      depth-from P (side f false A) (suc d) x (omega (arith, h .1)) (h .2),
+      depth-from P (side f true A) (suc d) y (omega (arith, h .1)) (h .3),
     )
-depth-from P A d (short t) l h = omega arith
-depth-from P A d (stuck U) l h = omega arith
-depth-from P A d (price q s) l h = omega arith
 
 -- the deepest split has depth 63 at most, so the deepest leaf 64
 pub depth-within : (P : Instance) (t : Tree) → Limits P root 0 t → depth t ≤ 64
@@ -26,7 +24,5 @@ depth-within P t h = omega (arith, depth-from P root 0 t (omega arith) h)
 -- a tree has one leaf more than splits
 pub leaves-are : (t : Tree) → leaves t ≡ suc (splits t)
 unfolding leaves splits
-leaves-are (split U t x y) = omega (arith, leaves-are x, leaves-are y)
-leaves-are (short t) = refl
-leaves-are (stuck U) = refl
-leaves-are (price q s) = refl
+leaves-are (leaf l) = refl
+leaves-are (fork f x y) = omega (arith, leaves-are x, leaves-are y)

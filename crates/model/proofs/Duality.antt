@@ -15,7 +15,7 @@ use Rattle.model.specs.Instance.{Instance, Schedule, _at_, sum-units, Ea
 use Rattle.model.specs.Rules.{on, if-on, statuses, Within, output, capacity, keeps, Row, MeetsPrinted}
 use Rattle.model.specs.Cost.{row-cost, cost}
 use Rattle.model.specs.Above.{Mark, free, fixed, Marks, Above, rest, allows, agrees, obeys}
-use Rattle.model.specs.Leaf.{unless-off, available, words, outputs, runs, rows-of, is-stuck, stuck-at, revenue, value, unit-least, units-least, requirement, leaf-value}
+use Rattle.model.specs.Leaf.{unless-off, units-available, available, words, outputs, runs, rows-of, is-stuck, stuck-at, revenue, value, unit-least, units-least, requirement, leaf-value}
 use Rattle.model.proofs.Integers.{up, down, le→nat, nat→le, +ℤ-nat, -ℤ-nat, least-le}
 use Rattle.model.proofs.Tests.{T-and}
 use Rattle.model.proofs.Sums.{sum-le, exchange}
@@ -83,8 +83,8 @@ units-below n q s (g ∷ gs) m (r ∷ rs) e h =
     )
 
 pub capacity-below : (gs : List Generator) (m : Marks) (rs : Schedule) (t : ℕ) → Follows m rs
-    → sum-units (λ g r. if-on (on (r at t)) (g .pU)) gs rs ≤ available gs m t
-unfolding available
+    → sum-units (λ g r. if-on (on (r at t)) (g .pU)) gs rs ≤ units-available gs m t
+unfolding units-available
 capacity-below [] m rs t h = omega arith
 capacity-below (g ∷ gs) m [] t h = omega arith
 capacity-below (g ∷ gs) m (r ∷ rs) t h =
@@ -149,8 +149,8 @@ module _ (P : Instance) (sch : Schedule) (M : MeetsPrinted P sch) (A : Above) (h
       ))
 
   -- no short leaf holds: the capacity is there
-  pub short-excludes : (t : ℕ) → t < P .periods → available (P .units) (A .marks) t < P .demand at t + P .spare at t → ⊥
-  unfolding capacity
+  pub short-excludes : (t : ℕ) → t < P .periods → available P A t < P .demand at t + P .spare at t → ⊥
+  unfolding capacity available
   short-excludes t l k = omega (arith, M .meets-spare t l, capacity-below (P .units) (A .marks) sch t h)
 
   -- no stuck leaf holds: the unit's statuses are a run that obeys and agrees

@@ -8,30 +8,28 @@ use lib.Dec.{T, not-T}
 use lib.IntN.{ℤ}
 use lib.Signed.{leZ, ltZ, _≤ℤ_}
 use Rattle.model.specs.Instance.{Instance}
-use Rattle.model.specs.Above.{Above, fix}
+use Rattle.model.specs.Above.{Above, side}
 use Rattle.model.specs.Leaf.{minℤ}
-use Rattle.model.specs.Tree.{Tree, split, short, stuck, price, Holds, Bound, never, number, lower, bound}
+use Rattle.model.specs.declared.figures.Bound.{Bound}
+use Rattle.model.specs.declared.figures.Bound.the-variants.{Never as never, Number as number}
+use Rattle.model.specs.Figures.{lower}
+use Rattle.model.specs.Tree.{Tree, leaf, fork, LeafHolds, leaf-bound, Holds, bound}
 use Rattle.model.specs.Best.{higher}
 use Rattle.model.proofs.Integers.{le→nat, min-left, min-right, ltZ→nat, nltZ→nat}
 use Rattle.model.specs.Agreement.{LeafOf, above, leaf-at}
 
 -- ---- the rules
 
-pub holds-every : (P : Instance) (A : Above) (t : Tree) → Holds P A t → (l : LeafOf t) → Holds P (above A t l) (leaf-at t l)
+pub holds-every : (P : Instance) (A : Above) (t : Tree) → Holds P A t → (i : LeafOf t) → LeafHolds P (above A t i) (leaf-at t i)
 unfolding Holds
-holds-every P A (split U t x y) h (inl l) = holds-every P (fix U t false A) x (h .0) l
-holds-every P A (split U t x y) h (inr l) = holds-every P (fix U t true A) y (h .1) l
-holds-every P A (short t) h l = h
-holds-every P A (stuck U) h l = h
-holds-every P A (price q s) h l = h
+holds-every P A (leaf l) h i = h
+holds-every P A (fork f x y) h (inl i) = holds-every P (side f false A) x (h .0) i
+holds-every P A (fork f x y) h (inr i) = holds-every P (side f true A) y (h .1) i
 
-pub every-holds : (P : Instance) (A : Above) (t : Tree) → ((l : LeafOf t) → Holds P (above A t l) (leaf-at t l)) → Holds P A t
+pub every-holds : (P : Instance) (A : Above) (t : Tree) → ((i : LeafOf t) → LeafHolds P (above A t i) (leaf-at t i)) → Holds P A t
 unfolding Holds
-every-holds P A (split U t x y) h =
-    (every-holds P (fix U t false A) x (λ l. h (inl l)), every-holds P (fix U t true A) y (λ l. h (inr l)))
-every-holds P A (short t) h = h tt
-every-holds P A (stuck U) h = h tt
-every-holds P A (price q s) h = h tt
+every-holds P A (leaf l) h = h tt
+every-holds P A (fork f x y) h = (every-holds P (side f false A) x (λ i. h (inl i)), every-holds P (side f true A) y (λ i. h (inr i)))
 
 -- ---- the smaller of two bounds, `never` being above every number
 
@@ -71,35 +69,28 @@ not-above-self (number v) = not-T (ltZ v v) (λ k. omega (arith, ltZ→nat v v k
 -- ---- the bound
 
 -- some leaf has it
-pub bound-attained : (P : Instance) (A : Above) (t : Tree)
-    → (l : LeafOf t) × (bound P A t ≡ bound P (above A t l) (leaf-at t l))
+pub bound-attained : (P : Instance) (A : Above) (t : Tree) → (i : LeafOf t) × (bound P A t ≡ leaf-bound P (above A t i) (leaf-at t i))
 unfolding bound
-bound-attained P A (split U t x y) =
-    go (lower-cases X Y) (bound-attained P (fix U t false A) x) (bound-attained P (fix U t true A) y)
+bound-attained P A (leaf l) = (tt, refl)
+bound-attained P A (fork f x y) = go (lower-cases X Y) (bound-attained P (side f false A) x) (bound-attained P (side f true A) y)
   where
     X : Bound
-    X = bound P (fix U t false A) x
+    X = bound P (side f false A) x
 
     Y : Bound
-    Y = bound P (fix U t true A) y
+    Y = bound P (side f true A) y
 
-    go : (lower X Y ≡ X) ⊎ (lower X Y ≡ Y) → ((l : LeafOf x) × (X ≡ bound P (above (fix U t false A) x l) (leaf-at x l)))
-        → ((l : LeafOf y) × (Y ≡ bound P (above (fix U t true A) y l) (leaf-at y l)))
-        → (l : LeafOf (split U t x y)) × (lower X Y ≡ bound P (above A (split U t x y) l) (leaf-at (split U t x y) l))
+    go : (lower X Y ≡ X) ⊎ (lower X Y ≡ Y) → ((i : LeafOf x) × (X ≡ leaf-bound P (above (side f false A) x i) (leaf-at x i)))
+        → ((i : LeafOf y) × (Y ≡ leaf-bound P (above (side f true A) y i) (leaf-at y i)))
+        → (i : LeafOf (fork f x y)) × (lower X Y ≡ leaf-bound P (above A (fork f x y) i) (leaf-at (fork f x y) i))
     go (inl e) a b = (inl (a .0), e ∙ a .1)
     go (inr e) a b = (inr (b .0), e ∙ b .1)
-bound-attained P A (short t) = (tt, refl)
-bound-attained P A (stuck U) = (tt, refl)
-bound-attained P A (price q s) = (tt, refl)
 
 -- and it is above no leaf's
-pub bound-lowest : (P : Instance) (A : Above) (t : Tree) (l : LeafOf t)
-    → T (not (higher (bound P A t) (bound P (above A t l) (leaf-at t l))))
+pub bound-lowest : (P : Instance) (A : Above) (t : Tree) (i : LeafOf t) → T (not (higher (bound P A t) (leaf-bound P (above A t i) (leaf-at t i))))
 unfolding bound
-bound-lowest P A (split U t x y) (inl l) =
-    lower-not-left (bound P (fix U t false A) x) (bound P (fix U t true A) y) _ (bound-lowest P (fix U t false A) x l)
-bound-lowest P A (split U t x y) (inr l) =
-    lower-not-right (bound P (fix U t false A) x) (bound P (fix U t true A) y) _ (bound-lowest P (fix U t true A) y l)
-bound-lowest P A (short t) l = tt
-bound-lowest P A (stuck U) l = tt
-bound-lowest P A (price q s) l = not-above-self (bound P A (price q s))
+bound-lowest P A (leaf l) i = not-above-self (leaf-bound P A l)
+bound-lowest P A (fork f x y) (inl i) =
+    lower-not-left (bound P (side f false A) x) (bound P (side f true A) y) _ (bound-lowest P (side f false A) x i)
+bound-lowest P A (fork f x y) (inr i) =
+    lower-not-right (bound P (side f false A) x) (bound P (side f true A) y) _ (bound-lowest P (side f true A) y i)

@@ -1,7 +1,7 @@
 -- Marks matter only at the problem's units and periods, so that an array of them will do: what a leaf says is a function of walks
 -- and sums, and these look no further.
 use mathlib.Core.Path.{_≡_, refl, sym, _∙_, ap, ap₂}
-use mathlib.Core.Bool.{Bool, true, false, cond, _&&_, _||_}
+use mathlib.Core.Bool.{Bool, true, false, cond, _||_}
 use mathlib.Core.Option.{none, some}
 use mathlib.Core.List.{List, [], _∷_}
 use Prim.Native.Nat.{ℕ, zero, suc, _+_, _*_, _<_}
@@ -12,9 +12,10 @@ use lib.IntN.{ℤ, pos, _+ℤ_}
 use Rattle.model.specs.declared.generator.Generator.{Generator}
 use Rattle.model.specs.Instance.{Instance, _at_}
 use Rattle.model.specs.Ranges.{All, GoodUnit}
-use Rattle.model.specs.Above.{Mark, fixed, Marks, rest, Above, fix}
-use Rattle.model.specs.Leaf.{unless-off, available, is-stuck, stuck-at, any-stuck, unit-least, units-least, requirement, leaf-value}
-use Rattle.model.specs.Tree.{Tree, split, short, stuck, price, Holds, number, lower, bound}
+use Rattle.model.specs.Above.{Mark, Marks, rest, Above}
+use Rattle.model.specs.Leaf.{unless-off, units-available, available, is-stuck, stuck-at, any-stuck, unit-least, units-least, requirement, leaf-value}
+use Rattle.model.specs.declared.figures.Bound.the-variants.{Number as number}
+use Rattle.model.specs.Tree.{Leaf, short, stuck, price, LeafHolds, leaf-bound}
 use Rattle.model.specs.Prices.{offset, decoded}
 use Rattle.model.proofs.PeriodSums.{sum-eq}
 use Rattle.model.proofs.Stuck.{is-stuck-is}
@@ -78,11 +79,13 @@ module _ (n : ℕ) where
   any-stuck-ext (g ∷ gs) m m′ h =
       ap₂ _||_ (is-stuck-ext n g (m 0) (m′ 0) (h 0 (omega arith))) (any-stuck-ext gs (rest m) (rest m′) (λ u l. h (suc u) (omega arith)))
 
-  pub available-ext : (gs : List Generator) (m m′ : Marks) → SameMarks (length gs) n m m′ → (t : ℕ) → t < n → available gs m t ≡ available gs m′ t
-  unfolding available
-  available-ext [] m m′ h t l = refl
-  available-ext (g ∷ gs) m m′ h t l =
-      ap₂ _+_ (ap (λ (x : Mark). unless-off x (g .pU)) (h 0 (omega arith) t l)) (available-ext gs (rest m) (rest m′) (λ u i. h (suc u) (omega arith)) t l)
+  pub units-available-ext : (gs : List Generator) (m m′ : Marks) → SameMarks (length gs) n m m′ → (t : ℕ) → t < n
+      → units-available gs m t ≡ units-available gs m′ t
+  unfolding units-available
+  units-available-ext [] m m′ h t l = refl
+  units-available-ext (g ∷ gs) m m′ h t l =
+      ap₂ _+_ (ap (λ (x : Mark). unless-off x (g .pU)) (h 0 (omega arith) t l))
+      (units-available-ext gs (rest m) (rest m′) (λ u i. h (suc u) (omega arith)) t l)
 
   pub units-least-ext : (gs : List Generator) → All GoodUnit gs → (m m′ : Marks) → SameMarks (length gs) n m m′ → (q q′ s s′ : ℕ → ℕ) → Same n q q′ → Same n s s′
       → units-least n q s gs m ≡ units-least n q′ s′ gs m′
@@ -92,7 +95,15 @@ module _ (n : ℕ) where
       ap₂ _+ℤ_ (unit-least-ext n g (m 0) (m′ 0) (h 0 (omega arith)) (G .0) q q′ s s′ hq hs)
       (units-least-ext gs (G .1) (rest m) (rest m′) (λ u l. h (suc u) (omega arith)) q q′ s s′ hq hs)
 
--- ---- a leaf, and a tree
+-- ---- a leaf
+
+-- the same above a node, as far as the problem goes
+abbrev pub SameAbove : Instance → Above → Above → Type 0
+SameAbove P A A′ = SameMarks (length (P .units)) (P .periods) (A .marks) (A′ .marks)
+
+pub available-ext : (P : Instance) (A A′ : Above) → SameAbove P A A′ → (t : ℕ) → t < P .periods → available P A t ≡ available P A′ t
+unfolding available
+available-ext P A A′ h t l = units-available-ext (P .periods) (P .units) (A .marks) (A′ .marks) h t l
 
 module _ (P : Instance) (G : All GoodUnit (P .units)) where
   pub leaf-value-ext : (m m′ : Marks) → SameMarks (length (P .units)) (P .periods) m m′ → (q q′ s s′ : ℕ → ℕ) → Same (P .periods) q q′ → Same (P .periods) s s′
@@ -102,23 +113,15 @@ module _ (P : Instance) (G : All GoodUnit (P .units)) where
       ap₂ _+ℤ_ (units-least-ext (P .periods) (P .units) G m m′ h q q′ s s′ hq hs)
       (ap pos (sum-eq (P .periods) _ _ (λ t l. ap₂ (λ (x y : ℕ). x * P .demand at t + y * (P .demand at t + P .spare at t)) (hq t l) (hs t l))))
 
-  -- a split marks alike
-  pub same-fix : (U t : ℕ) (b : Bool) (A A′ : Above) → SameMarks (length (P .units)) (P .periods) (A .marks) (A′ .marks)
-      → SameMarks (length (P .units)) (P .periods) (fix U t b A .marks) (fix U t b A′ .marks)
-  same-fix U t b A A′ h u l t′ i = ap (cond (eqb U u && eqb t t′) (fixed b)) (h u l t′ i)
+  pub leaf-bound-ext : (A A′ : Above) → SameAbove P A A′ → (l : Leaf) → leaf-bound P A l ≡ leaf-bound P A′ l
+  unfolding leaf-bound
+  leaf-bound-ext A A′ h (short t) = refl
+  leaf-bound-ext A A′ h (stuck U) = refl
+  leaf-bound-ext A A′ h (price q s) =
+      ap number (leaf-value-ext (A .marks) (A′ .marks) h (λ t. q at t) (λ t. q at t) (λ t. s at t) (λ t. s at t) (λ t l. refl) (λ t l. refl))
 
-  pub bound-ext : (A A′ : Above) → SameMarks (length (P .units)) (P .periods) (A .marks) (A′ .marks) → (x : Tree) → bound P A x ≡ bound P A′ x
-  unfolding bound
-  bound-ext A A′ h (split U t x y) =
-      ap₂ lower (bound-ext (fix U t false A) (fix U t false A′) (same-fix U t false A A′ h) x) (bound-ext (fix U t true A) (fix U t true A′) (same-fix U t true A A′ h) y)
-  bound-ext A A′ h (short t) = refl
-  bound-ext A A′ h (stuck U) = refl
-  bound-ext A A′ h (price q s) = ap number (leaf-value-ext (A .marks) (A′ .marks) h (λ t. q at t) (λ t. q at t) (λ t. s at t) (λ t. s at t) (λ t l. refl) (λ t l. refl))
-
-  pub holds-ext : (A A′ : Above) → SameMarks (length (P .units)) (P .periods) (A .marks) (A′ .marks) → (x : Tree) → Holds P A x → Holds P A′ x
-  unfolding Holds
-  holds-ext A A′ h (split U t x y) k =
-      (holds-ext (fix U t false A) (fix U t false A′) (same-fix U t false A A′ h) x (k .0), holds-ext (fix U t true A) (fix U t true A′) (same-fix U t true A A′ h) y (k .1))
-  holds-ext A A′ h (short t) k = (k .0, omega (arith, available-ext (P .periods) (P .units) (A .marks) (A′ .marks) h t (k .0), k .1))
-  holds-ext A A′ h (stuck U) k = rw (stuck-at-ext (P .periods) (P .units) (A .marks) (A′ .marks) h U) at k
-  holds-ext A A′ h (price q s) k = rw (any-stuck-ext (P .periods) (P .units) (A .marks) (A′ .marks) h) at k
+  pub leaf-holds-ext : (A A′ : Above) → SameAbove P A A′ → (l : Leaf) → LeafHolds P A l → LeafHolds P A′ l
+  unfolding LeafHolds
+  leaf-holds-ext A A′ h (short t) k = (k .0, omega (arith, available-ext P A A′ h t (k .0), k .1))
+  leaf-holds-ext A A′ h (stuck U) k = rw (stuck-at-ext (P .periods) (P .units) (A .marks) (A′ .marks) h U) at k
+  leaf-holds-ext A A′ h (price q s) k = rw (any-stuck-ext (P .periods) (P .units) (A .marks) (A′ .marks) h) at k

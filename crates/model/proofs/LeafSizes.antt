@@ -1,20 +1,20 @@
--- No sum overflows (document 01, Texts, after the ranges), for a price leaf and a tree's bound: at most 32 times what a unit adds
+-- No sum overflows (document 01, Texts, after the ranges), for a price leaf: at most 32 times what a unit adds
 -- and 48 times what a period adds, all of it below 10^17.
 use mathlib.Core.Path.{_≡_}
-use mathlib.Core.Bool.{Bool, true, false, cond}
 use mathlib.Core.List.{List, [], _∷_}
 use Prim.Native.Nat.{ℕ, zero, suc, _+_, _*_, _≤_, _<_}
 use native.Mathlib.Nat.{mul-le-mul}
 use native.Mathlib.Omega.{arith}
 use lib.ListN.{length}
 use lib.IntN.{ℤ, pos, negsuc, _+ℤ_}
-use lib.Signed.{leZ}
 use Rattle.model.specs.declared.generator.Generator.{Generator}
 use Rattle.model.specs.Instance.{Instance, _at_}
 use Rattle.model.specs.Ranges.{Between, All, GoodUnit, GoodPrice, WellFormed}
-use Rattle.model.specs.Above.{Marks, rest, Above, fix}
+use Rattle.model.specs.Above.{Marks, rest, Above}
 use Rattle.model.specs.Leaf.{unit-least, units-least, requirement, leaf-value}
-use Rattle.model.specs.Tree.{Tree, split, short, stuck, price, Limits, Bound, never, number, lower, bound}
+use Rattle.model.specs.declared.figures.Bound.{Bound}
+use Rattle.model.specs.declared.figures.Bound.the-variants.{Never as never, Number as number}
+use Rattle.model.specs.Tree.{Leaf, short, stuck, price, GoodLeaf, leaf-bound}
 use Rattle.model.specs.Prices.{price-walks, offsets}
 use Rattle.model.proofs.Integers.{up, down, +ℤ-nat}
 use Rattle.model.proofs.PeriodSums.{sum-most}
@@ -89,29 +89,20 @@ module _ (P : Instance) (W : WellFormed P) (q s : ℕ → ℕ) (hq : (t : ℕ) �
         requirement-fits,
       )
 
--- ---- a bound
+-- ---- a leaf's bound
 
--- a number from -32·10^15 to 80·10^15, or never
+-- a number between -10^18 and 10^18, or never
 abbrev pub Fits : Bound → Type 0
 Fits never = Unit {0}
-Fits (number z) = (up z ≤ 80_000_000_000_000_000) × (down z ≤ 32_000_000_000_000_000)
+Fits (number z) = (up z < 1_000_000_000_000_000_000) × (down z < 1_000_000_000_000_000_000)
 
-lower-fits : (x y : Bound) → Fits x → Fits y → Fits (lower x y)
-lower-fits never y h k = k
-lower-fits (number x) never h k = h
-lower-fits (number x) (number y) h k = go (leZ x y)
-  where
-    go : (c : Bool) → Fits (number (cond c x y))
-    go true = h
-    go false = k
-
-pub bound-fits : (P : Instance) → WellFormed P → (A : Above) (d : ℕ) (x : Tree) → Limits P A d x → Fits (bound P A x)
-unfolding bound Limits
-bound-fits P W A d (split U t x y) l =
-    lower-fits (bound P (fix U t false A) x) (bound P (fix U t true A) y)
-    (bound-fits P W (fix U t false A) (suc d) x (l .4)) (bound-fits P W (fix U t true A) (suc d) y (l .5))
-bound-fits P W A d (short t) l = tt
-bound-fits P W A d (stuck U) l = tt
-bound-fits P W A d (price q s) l =
+pub leaf-bound-fits : (P : Instance) → WellFormed P → (A : Above) (l : Leaf) → GoodLeaf P l → Fits (leaf-bound P A l)
+unfolding leaf-bound GoodLeaf
+leaf-bound-fits P W A (short t) h = tt
+leaf-bound-fits P W A (stuck U) h = tt
+leaf-bound-fits P W A (price q s) h =
+    let fits =
     leaf-value-fits P W (λ t. q at t) (λ t. s at t)
-    (λ t i. all-at 1000000000 q (l .0 .1) t) (λ t i. all-at 1000000000 s (l .1 .1) t) (A .marks)
+    (λ t i. all-at 1000000000 q (h .0 .1) t) (λ t i. all-at 1000000000 s (h .1 .1) t) (A .marks)
+    in
+    omega (arith, fits)

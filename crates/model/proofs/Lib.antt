@@ -9,6 +9,8 @@ pub mod Held
 pub mod Valid
 pub mod Lists
 pub mod Duality
+pub mod Sides
+pub mod LeafSound
 pub mod Soundness
 pub mod Leaves
 pub mod EveryLeaf
@@ -36,11 +38,13 @@ pub mod BoundExamples
 pub mod UnitLeasts
 pub mod WalkSizes
 pub mod LeafSizes
+pub mod TreeSizes
 pub mod CostSizes
 pub mod WalkPeriods
 pub mod Tables
 pub mod WrongOutputs
 pub mod WrongRamps
 pub mod Extents
+pub mod TreeExtents
 pub mod Unread
 pub mod Zeros

@@ -9,7 +9,8 @@ use Prim.Native.Nat.{ℕ}
 use native.Mathlib.Omega.{arith}
 use lib.Dec.{T, ltb, ltb→lt, lt→ltb, nltb→le}
 use Rattle.model.specs.Best.{First, higher}
-use Rattle.model.specs.Tree.{Bound, never, number}
+use Rattle.model.specs.declared.figures.Bound.{Bound}
+use Rattle.model.specs.declared.figures.Bound.the-variants.{Never as never, Number as number}
 use Rattle.model.proofs.Integers.{ltZ→nat, nat→ltZ, nltZ→nat}
 
 module _ {A : Type 0} (better : A → A → Bool) where

@@ -12,9 +12,11 @@ use Rattle.model.specs.declared.generator.Generator.{Generator}
 use Rattle.model.specs.Instance.{Instance, Schedule, _at_, sum, sum-units, Each}
 use Rattle.model.specs.Rules.{on, if-on, statuses, output, capacity, permits, spent, keeps, Row, MeetsPrinted}
 use Rattle.model.specs.Cost.{switch-cost, switch-costs, fuel-cost, row-cost, cost}
-use Rattle.model.specs.Above.{free, Mark, Marks, rest, Above, fix, agrees}
-use Rattle.model.specs.Leaf.{unless-off, available, words, those, none-of, outputs, runs, rows-of, is-stuck, stuck-at, any-stuck, least, revenue, value, unit-least, units-least, requirement, leaf-value}
-use Rattle.model.specs.Tree.{Tree, split, short, stuck, price, Limits, Holds, number, lower, bound}
+use Rattle.model.specs.Above.{free, Mark, Marks, rest, Above, Fork, status, side, agrees}
+use Rattle.model.specs.Leaf.{unless-off, units-available, available, words, those, none-of, outputs, runs, rows-of, is-stuck, stuck-at, any-stuck, least, revenue, value, unit-least, units-least, requirement, leaf-value}
+use Rattle.model.specs.declared.figures.Bound.the-variants.{Number as number}
+use Rattle.model.specs.Figures.{lower}
+use Rattle.model.specs.Tree.{Leaf, short, stuck, price, Tree, leaf, fork, GoodFork, GoodLeaf, LeafHolds, leaf-bound, Limits, Holds, bound}
 use Rattle.model.specs.Examples.{unit1, unit2, example}
 use Rattle.model.specs.Unread.{with-p0, AlikeUnits, AlikeButMidnight}
 
@@ -93,10 +95,10 @@ pub count-without : (gs : List Generator) → length (map (with-p0 0) gs) ≡ le
 count-without [] = refl
 count-without (g ∷ gs) = ap suc (count-without gs)
 
-pub available-without : (gs : List Generator) (m : Marks) (t : ℕ) → available (map (with-p0 0) gs) m t ≡ available gs m t
-unfolding available
-available-without [] m t = refl
-available-without (g ∷ gs) m t = ap (λ (x : ℕ). unless-off (m 0 t) (g .pU) + x) (available-without gs (rest m) t)
+units-available-without : (gs : List Generator) (m : Marks) (t : ℕ) → units-available (map (with-p0 0) gs) m t ≡ units-available gs m t
+unfolding units-available
+units-available-without [] m t = refl
+units-available-without (g ∷ gs) m t = ap (λ (x : ℕ). unless-off (m 0 t) (g .pU) + x) (units-available-without gs (rest m) t)
 
 pub stuck-at-without : (n : ℕ) (gs : List Generator) (m : Marks) (U : ℕ) → stuck-at n (map (with-p0 0) gs) m U ≡ stuck-at n gs m U
 stuck-at-without n [] m U = refl
@@ -122,32 +124,50 @@ module _ (P : Instance) where
   unfolding cost
   cost-without s = sum-without (row-cost (P .periods)) (λ g r. row-cost-unread 0 g (P .periods) r) (P .units) s
 
-  pub leaf-value-without : (m : Marks) (q s : ℕ → ℕ) → leaf-value (without-p0 P) m q s ≡ leaf-value P m q s
+  leaf-value-without : (m : Marks) (q s : ℕ → ℕ) → leaf-value (without-p0 P) m q s ≡ leaf-value P m q s
   unfolding leaf-value requirement
   leaf-value-without m q s = ap (λ (x : ℤ). x +ℤ pos (requirement P q s)) (units-least-without (P .periods) q s (P .units) m)
 
+  pub leaf-bound-without : (A : Above) (l : Leaf) → leaf-bound (without-p0 P) A l ≡ leaf-bound P A l
+  unfolding leaf-bound
+  leaf-bound-without A (short t) = refl
+  leaf-bound-without A (stuck U) = refl
+  leaf-bound-without A (price q s) = ap number (leaf-value-without (A .marks) (λ t. q at t) (λ t. s at t))
+
   bound-without : (A : Above) (t : Tree) → bound (without-p0 P) A t ≡ bound P A t
   unfolding bound
-  bound-without A (split U t x y) = ap₂ lower (bound-without (fix U t false A) x) (bound-without (fix U t true A) y)
-  bound-without A (short t) = refl
-  bound-without A (stuck U) = refl
-  bound-without A (price q s) = ap number (leaf-value-without (A .marks) (λ t. q at t) (λ t. s at t))
+  bound-without A (leaf l) = leaf-bound-without A l
+  bound-without A (fork f x y) = ap₂ lower (bound-without (side f false A) x) (bound-without (side f true A) y)
+
+  good-fork-without : (A : Above) (f : Fork) → GoodFork (without-p0 P) A f ≡ GoodFork P A f
+  good-fork-without A (status U t) = λ i. (U < count-without (P .units) i) × (t < P .periods) × (A .marks U t ≡ free)
+
+  good-leaf-without : (l : Leaf) → GoodLeaf (without-p0 P) l ≡ GoodLeaf P l
+  unfolding GoodLeaf
+  good-leaf-without (short t) = refl
+  good-leaf-without (stuck U) = λ i. U < count-without (P .units) i
+  good-leaf-without (price q s) = refl
 
   limits-without : (A : Above) (d : ℕ) (t : Tree) → Limits (without-p0 P) A d t ≡ Limits P A d t
   unfolding Limits
-  limits-without A d (split U t x y) =
-      λ i. (U < count-without (P .units) i) × (t < P .periods) × (A .marks U t ≡ free) × (d ≤ 63) × limits-without (fix U t false A) (suc d) x i
-      × limits-without (fix U t true A) (suc d) y i
-  limits-without A d (short t) = refl
-  limits-without A d (stuck U) = λ i. U < count-without (P .units) i
-  limits-without A d (price q s) = refl
+  limits-without A d (leaf l) = good-leaf-without l
+  limits-without A d (fork f x y) =
+      λ i. good-fork-without A f i × (d ≤ 63) × limits-without (side f false A) (suc d) x i × limits-without (side f true A) (suc d) y i
+
+  pub available-without : (A : Above) (t : ℕ) → available (without-p0 P) A t ≡ available P A t
+  unfolding available
+  available-without A t = units-available-without (P .units) (A .marks) t
+
+  leaf-holds-without : (A : Above) (l : Leaf) → LeafHolds (without-p0 P) A l ≡ LeafHolds P A l
+  unfolding LeafHolds
+  leaf-holds-without A (short t) = λ i. (t < P .periods) × (available-without A t i < P .demand at t + P .spare at t)
+  leaf-holds-without A (stuck U) = λ i. T (stuck-at-without (P .periods) (P .units) (A .marks) U i)
+  leaf-holds-without A (price q s) = λ i. T (not (any-stuck-without (P .periods) (P .units) (A .marks) i))
 
   holds-without : (A : Above) (t : Tree) → Holds (without-p0 P) A t ≡ Holds P A t
   unfolding Holds
-  holds-without A (split U t x y) = λ i. holds-without (fix U t false A) x i × holds-without (fix U t true A) y i
-  holds-without A (short t) = λ i. (t < P .periods) × (available-without (P .units) (A .marks) t i < P .demand at t + P .spare at t)
-  holds-without A (stuck U) = λ i. T (stuck-at-without (P .periods) (P .units) (A .marks) U i)
-  holds-without A (price q s) = λ i. T (not (any-stuck-without (P .periods) (P .units) (A .marks) i))
+  holds-without A (leaf l) = leaf-holds-without A l
+  holds-without A (fork f x y) = λ i. holds-without (side f false A) x i × holds-without (side f true A) y i
 
   output-without : (s : Schedule) (t : ℕ) → output (without-p0 P) s t ≡ output P s t
   unfolding output

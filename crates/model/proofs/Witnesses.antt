@@ -10,10 +10,11 @@ use Rattle.model.specs.declared.generator.Generator.{Generator}
 use Rattle.model.specs.Instance.{Instance, Schedule}
 use Rattle.model.specs.Rules.{output, capacity, MeetsPrinted, Meets}
 use Rattle.model.specs.Cost.{row-cost, cost}
-use Rattle.model.specs.Above.{root}
+use Rattle.model.specs.Above.{root, status}
 use Rattle.model.specs.Breach.{Breach, first-breach}
-use Rattle.model.specs.Leaf.{available, rows-of, is-stuck, revenue, value, unit-least, units-least, requirement, leaf-value}
-use Rattle.model.specs.Tree.{Tree, split, short, stuck, price, Limits, Holds, never, number, bound}
+use Rattle.model.specs.Leaf.{units-available, available, rows-of, is-stuck, revenue, value, unit-least, units-least, requirement, leaf-value}
+use Rattle.model.specs.declared.figures.Bound.the-variants.{Never as never, Number as number}
+use Rattle.model.specs.Tree.{short, stuck, price, Tree, leaf, fork, GoodLeaf, LeafHolds, leaf-bound, Limits, Holds, bound}
 use Rattle.model.specs.Broken.{Broken, Lower}
 use Rattle.model.specs.Agreement.{OneLeaf}
 use Rattle.model.proofs.Soundness.{number-sound, never-sound}
@@ -57,27 +58,27 @@ too-much = problem 2 1
 
 -- the price meets the slope, so that the bound is the cost; the reserve's multiplier counts R in
 abbrev priced : Tree
-priced = price (2 ∷ []) (1 ∷ [])
+priced = leaf (price (2 ∷ []) (1 ∷ []))
 
 abbrev output-two : Schedule
 output-two = (2 ∷ []) ∷ []
 
 -- ---- a number: a short leaf, a stuck leaf, a price leaf
 
-priced-limits : Limits free-to-stop root 0 (split 0 0 (short 0) priced)
-unfolding Limits
-priced-limits = (lit< tt, lit< tt, refl, lit≤ tt, lit< tt, ((refl, ((lit≤ tt, lit≤ tt), tt)), (refl, ((lit≤ tt, lit≤ tt), tt))))
+priced-limits : Limits free-to-stop root 0 (fork (status 0 0) (leaf (short 0)) priced)
+unfolding Limits GoodLeaf
+priced-limits = ((lit< tt, lit< tt, refl), lit≤ tt, lit< tt, ((refl, ((lit≤ tt, lit≤ tt), tt)), (refl, ((lit≤ tt, lit≤ tt), tt))))
 
-priced-holds : Holds free-to-stop root (split 0 0 (short 0) priced)
-unfolding Holds available is-stuck
+priced-holds : Holds free-to-stop root (fork (status 0 0) (leaf (short 0)) priced)
+unfolding Holds LeafHolds available units-available is-stuck
 priced-holds = ((lit< tt, lit< tt), tt)
 
-priced-bound : bound free-to-stop root (split 0 0 (short 0) priced) ≡ number (pos 5)
-unfolding bound leaf-value units-least unit-least rows-of value revenue requirement row-cost
+priced-bound : bound free-to-stop root (fork (status 0 0) (leaf (short 0)) priced) ≡ number (pos 5)
+unfolding bound leaf-bound leaf-value units-least unit-least rows-of value revenue requirement row-cost
 priced-bound = refl
 
-stuck-holds : Holds bound-to-run root (split 0 0 (stuck 0) priced)
-unfolding Holds is-stuck
+stuck-holds : Holds bound-to-run root (fork (status 0 0) (leaf (stuck 0)) priced)
+unfolding Holds LeafHolds is-stuck
 stuck-holds = (tt, tt)
 
 -- and a schedule that meets the rules, at that cost
@@ -90,23 +91,23 @@ unfolding cost row-cost
 two-costs = refl
 
 two-at-least : (s : Schedule) → MeetsPrinted free-to-stop s → pos 5 ≤ℤ pos (cost free-to-stop s)
-two-at-least = number-sound free-to-stop (split 0 0 (short 0) priced) priced-holds (pos 5) priced-bound
+two-at-least = number-sound free-to-stop (fork (status 0 0) (leaf (short 0)) priced) priced-holds (pos 5) priced-bound
 
-two-leaf : OneLeaf root (split 0 0 (short 0) priced) output-two
-two-leaf = one-leaf free-to-stop (split 0 0 (short 0) priced) priced-limits output-two
+two-leaf : OneLeaf root (fork (status 0 0) (leaf (short 0)) priced) output-two
+two-leaf = one-leaf free-to-stop (fork (status 0 0) (leaf (short 0)) priced) priced-limits output-two
 
 -- ---- never
 
-short-holds : Holds too-much root (short 0)
-unfolding Holds available
+short-holds : Holds too-much root (leaf (short 0))
+unfolding Holds LeafHolds available units-available
 short-holds = (lit< tt, lit< tt)
 
-short-bound : bound too-much root (short 0) ≡ never
-unfolding bound
+short-bound : bound too-much root (leaf (short 0)) ≡ never
+unfolding bound leaf-bound
 short-bound = refl
 
 none-meets : (s : Schedule) → MeetsPrinted too-much s → ⊥
-none-meets = never-sound too-much (short 0) short-holds short-bound
+none-meets = never-sound too-much (leaf (short 0)) short-holds short-bound
 
 -- ---- a first breach: output 1 is under D
 

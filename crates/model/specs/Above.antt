@@ -1,4 +1,4 @@
--- Document 01, Rules for a leaf: what the splits above a node fix.
+-- Document 01, Rules for a leaf: forks, and what the forks above a node fix.
 use mathlib.Core.Bool.{Bool, true, cond, _&&_, Bool·beq}
 use mathlib.Core.List.{List, [], _∷_}
 use Prim.Native.Nat.{ℕ, suc}
@@ -26,9 +26,13 @@ root = record { marks = λ u t. free }
 abbrev pub mark : ℕ → ℕ → Bool → Marks → Marks
 mark U P b m u t = cond (eqb U u && eqb P t) (fixed b) (m u t)
 
--- above the first tree under a split U is off in P, above the second on
-abbrev pub fix : ℕ → ℕ → Bool → Above → Above
-fix U P b A = record { marks = mark U P b (A .marks) }
+-- what a node with two trees below it splits on: the status of a unit in a period
+pub data Fork : Type 0 where
+  status : ℕ → ℕ → Fork
+
+-- above its first tree (false) U is off in P, above its second on
+abbrev pub side : Fork → Bool → Above → Above
+side (status U P) b A = record { marks = mark U P b (A .marks) }
 
 -- the marks of the units after the first
 abbrev pub rest : Marks → Marks

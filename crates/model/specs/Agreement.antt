@@ -1,6 +1,6 @@
 -- When a schedule agrees with the statuses fixed above a node, when a row does, and what the leaves of a tree are.
 use mathlib.Core.Path.{_≡_}
-use mathlib.Core.Bool.{true, false}
+use mathlib.Core.Bool.{Bool, true, false}
 use mathlib.Core.List.{List, []}
 use mathlib.Core.Logic.{_⊎_, inl, inr}
 use Prim.Native.Nat.{ℕ, _<_}
@@ -9,8 +9,8 @@ use lib.ListN.{length, getD}
 use Rattle.model.specs.declared.generator.Generator.{Generator}
 use Rattle.model.specs.Instance.{Schedule, _at_}
 use Rattle.model.specs.Rules.{on, statuses, Within}
-use Rattle.model.specs.Above.{Mark, Marks, Above, fix, allows, obeys}
-use Rattle.model.specs.Tree.{Tree, split, short, stuck, price}
+use Rattle.model.specs.Above.{Mark, Marks, Above, Fork, status, side, allows, obeys}
+use Rattle.model.specs.Tree.{Leaf, Tree, leaf, fork}
 
 -- unit u's output in period t, both counted from 0; 0 where there is none
 abbrev pub out : Schedule → ℕ → ℕ → ℕ
@@ -30,31 +30,29 @@ pub record Candidate (n : ℕ) (g : Generator) (m : ℕ → Mark) (r : List ℕ)
   pub limits : (t : ℕ) → t < n → Within g (r at t)
   pub run : T (obeys g m (statuses r))
 
--- the leaves of a tree: those of a split's first tree and those of its second
+-- the side of a fork on which a schedule lies: whether it is above the second tree
+abbrev pub takes : Fork → Schedule → Bool
+takes (status U t) s = on (out s U t)
+
+-- the leaves of a tree: those of a fork's first tree and those of its second
 abbrev pub LeafOf : Tree → Type 0
-LeafOf (split U t x y) = LeafOf x ⊎ LeafOf y
-LeafOf (short t) = Unit {0}
-LeafOf (stuck U) = Unit {0}
-LeafOf (price q s) = Unit {0}
+LeafOf (leaf l) = Unit {0}
+LeafOf (fork f x y) = LeafOf x ⊎ LeafOf y
 
 -- what stands above a leaf, when A stands above the tree
 abbrev pub above : Above → (t : Tree) → LeafOf t → Above
-above A (split U t x y) (inl l) = above (fix U t false A) x l
-above A (split U t x y) (inr l) = above (fix U t true A) y l
-above A (short t) l = A
-above A (stuck U) l = A
-above A (price q s) l = A
+above A (leaf l) i = A
+above A (fork f x y) (inl i) = above (side f false A) x i
+above A (fork f x y) (inr i) = above (side f true A) y i
 
 -- the leaf itself
-abbrev pub leaf-at : (t : Tree) → LeafOf t → Tree
-leaf-at (split U t x y) (inl l) = leaf-at x l
-leaf-at (split U t x y) (inr l) = leaf-at y l
-leaf-at (short t) l = short t
-leaf-at (stuck U) l = stuck U
-leaf-at (price q s) l = price q s
+abbrev pub leaf-at : (t : Tree) → LeafOf t → Leaf
+leaf-at (leaf l) i = l
+leaf-at (fork f x y) (inl i) = leaf-at x i
+leaf-at (fork f x y) (inr i) = leaf-at y i
 
 -- of the leaves of a tree, the schedule agrees with one and with no other
 pub record OneLeaf (A : Above) (t : Tree) (s : Schedule) : Type 0 where
-  pub leaf : LeafOf t
-  pub agrees : Agrees (above A t leaf) s
-  pub only : (l : LeafOf t) → Agrees (above A t l) s → l ≡ leaf
+  pub which : LeafOf t
+  pub agrees : Agrees (above A t which) s
+  pub only : (i : LeafOf t) → Agrees (above A t i) s → i ≡ which

@@ -5,7 +5,8 @@ use mathlib.Core.List.{List, _∷_, _++_, List·Memᴰ}
 use Prim.Native.Nat.{ℕ}
 use lib.Dec.{T, ltb}
 use lib.Signed.{ltZ}
-use Rattle.model.specs.Tree.{Bound, never, number}
+use Rattle.model.specs.declared.figures.Bound.{Bound}
+use Rattle.model.specs.declared.figures.Bound.the-variants.{Never as never, Number as number}
 
 -- h is the first of the best of l: it is better than all before it, and none after it is better
 pub record First {A : Type 0} (better : A → A → Bool) (h : A) (l : List A) : Type 0 where

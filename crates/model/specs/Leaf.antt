@@ -8,7 +8,7 @@ use Rattle.model.specs.declared.generator.Generator.{Generator}
 use Rattle.model.specs.Instance.{Instance, _at_, sum}
 use Rattle.model.specs.Rules.{on, if-on, statuses}
 use Rattle.model.specs.Cost.{row-cost}
-use Rattle.model.specs.Above.{Mark, free, fixed, Marks, rest, obeys}
+use Rattle.model.specs.Above.{Mark, free, fixed, Marks, Above, rest, obeys}
 
 -- ---- short
 
@@ -18,9 +18,13 @@ unless-off (fixed true) x = x
 unless-off (fixed false) x = 0
 
 -- the sum of the pU of all units that are free or fixed on in period t
-unfoldable pub available : List Generator → Marks → ℕ → ℕ
-available [] m t = 0
-available (g ∷ gs) m t = unless-off (m 0 t) (g .pU) + available gs (rest m) t
+unfoldable pub units-available : List Generator → Marks → ℕ → ℕ
+units-available [] m t = 0
+units-available (g ∷ gs) m t = unless-off (m 0 t) (g .pU) + units-available gs (rest m) t
+
+-- what may be on in period t, with A above
+unfoldable pub available : Instance → Above → ℕ → ℕ
+available P A t = units-available (P .units) (A .marks) t
 
 -- ---- all runs of statuses, all rows of outputs
 

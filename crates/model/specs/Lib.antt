@@ -11,6 +11,7 @@ pub mod Leaf
 pub mod Walk
 pub mod Prices
 pub mod Table
+pub mod Figures
 pub mod Tree
 pub mod Agreement
 pub mod Best

@@ -4,74 +4,86 @@ use mathlib.Core.Bool.{true, false, not}
 use mathlib.Core.List.{List}
 use Prim.Native.Nat.{ℕ, suc, _+_, _≤_, _<_, max}
 use lib.Dec.{T}
-use lib.IntN.{ℤ}
 use lib.ListN.{length}
 use Rattle.model.specs.Instance.{Instance, _at_}
 use Rattle.model.specs.Ranges.{All, GoodPrice}
-use Rattle.model.specs.Above.{free, Above, fix}
-use Rattle.model.specs.Leaf.{available, stuck-at, any-stuck, minℤ, leaf-value}
+use Rattle.model.specs.Above.{free, Above, root, Fork, status, side}
+use Rattle.model.specs.Leaf.{available, stuck-at, any-stuck, leaf-value}
+use Rattle.model.specs.declared.figures.Bound.{Bound}
+use Rattle.model.specs.declared.figures.Bound.the-variants.{Never as never, Number as number}
+use Rattle.model.specs.declared.figures.TreeFigures.{TreeFigures}
+use Rattle.model.specs.Figures.{lower, tree-gives}
 
--- a leaf or a split; a split's first tree has the unit off, its second on. Units and periods count from 0
+-- units and periods count from 0; a price leaf has a price multiplier and a reserve multiplier for each period
+pub data Leaf : Type 0 where
+  short : ℕ → Leaf
+  stuck : ℕ → Leaf
+  price : List ℕ → List ℕ → Leaf
+
 pub data Tree : Type 0 where
-  split : ℕ → ℕ → Tree → Tree → Tree
-  short : ℕ → Tree
-  stuck : ℕ → Tree
-  price : List ℕ → List ℕ → Tree
+  leaf : Leaf → Tree
+  fork : Fork → Tree → Tree → Tree
+
+-- ---- a fork, and a leaf, with A above it
+
+-- the unit and the period in range, and the status not split above (31)
+abbrev pub GoodFork : Instance → Above → Fork → Type 0
+GoodFork P A (status U t) = (U < length (P .units)) × (t < P .periods) × (A .marks U t ≡ free)
 
 -- T multipliers in range
 abbrev pub Multipliers : Instance → List ℕ → Type 0
 Multipliers P l = (length l ≡ P .periods) × All GoodPrice l
 
--- a node at depth d: units and periods in range, no status split twice (31), no split deeper than 63 (32)
+-- the period, the unit or the multipliers in range
+unfoldable pub GoodLeaf : Instance → Leaf → Type 0
+GoodLeaf P (short t) = t < P .periods
+GoodLeaf P (stuck U) = U < length (P .units)
+GoodLeaf P (price q s) = Multipliers P q × Multipliers P s
+
+-- the leaf's rule (33, 34, 35)
+unfoldable pub LeafHolds : Instance → Above → Leaf → Type 0
+LeafHolds P A (short t) = (t < P .periods) × (available P A t < P .demand at t + P .spare at t)
+LeafHolds P A (stuck U) = T (stuck-at (P .periods) (P .units) (A .marks) U)
+LeafHolds P A (price q s) = T (not (any-stuck (P .periods) (P .units) (A .marks)))
+
+-- a price leaf's value; never, of any other
+unfoldable pub leaf-bound : Instance → Above → Leaf → Bound
+leaf-bound P A (short t) = never
+leaf-bound P A (stuck U) = never
+leaf-bound P A (price q s) = number (leaf-value P (A .marks) (λ t. q at t) (λ t. s at t))
+
+-- ---- a tree
+
+-- at depth d: forks and leaves good, no split deeper than 63 (32)
 unfoldable pub Limits : Instance → Above → ℕ → Tree → Type 0
-Limits P A d (split U t x y) =
-    (U < length (P .units)) × (t < P .periods) × (A .marks U t ≡ free) × (d ≤ 63) × Limits P (fix U t false A) (suc d) x
-    × Limits P (fix U t true A) (suc d) y
-Limits P A d (short t) = t < P .periods
-Limits P A d (stuck U) = U < length (P .units)
-Limits P A d (price q s) = Multipliers P q × Multipliers P s
+Limits P A d (leaf l) = GoodLeaf P l
+Limits P A d (fork f x y) = GoodFork P A f × (d ≤ 63) × Limits P (side f false A) (suc d) x × Limits P (side f true A) (suc d) y
 
--- the rule of every leaf (33, 34, 35)
+-- the rule of every leaf
 unfoldable pub Holds : Instance → Above → Tree → Type 0
-Holds P A (split U t x y) = Holds P (fix U t false A) x × Holds P (fix U t true A) y
-Holds P A (short t) = (t < P .periods) × (available (P .units) (A .marks) t < P .demand at t + P .spare at t)
-Holds P A (stuck U) = T (stuck-at (P .periods) (P .units) (A .marks) U)
-Holds P A (price q s) = T (not (any-stuck (P .periods) (P .units) (A .marks)))
-
-pub data Bound : Type 0 where
-  never : Bound
-  number : ℤ → Bound
-
--- the smaller of two bounds, never being above every number
-abbrev pub lower : Bound → Bound → Bound
-lower never y = y
-lower (number x) never = number x
-lower (number x) (number y) = number (minℤ x y)
+Holds P A (leaf l) = LeafHolds P A l
+Holds P A (fork f x y) = Holds P (side f false A) x × Holds P (side f true A) y
 
 -- the smallest price leaf's value; never, if there is no price leaf
 unfoldable pub bound : Instance → Above → Tree → Bound
-bound P A (split U t x y) = lower (bound P (fix U t false A) x) (bound P (fix U t true A) y)
-bound P A (short t) = never
-bound P A (stuck U) = never
-bound P A (price q s) = number (leaf-value P (A .marks) (λ t. q at t) (λ t. s at t))
+bound P A (leaf l) = leaf-bound P A l
+bound P A (fork f x y) = lower (bound P (side f false A) x) (bound P (side f true A) y)
 
 -- split lines
 unfoldable pub splits : Tree → ℕ
-splits (split U t x y) = suc (splits x + splits y)
-splits (short t) = 0
-splits (stuck U) = 0
-splits (price q s) = 0
+splits (leaf l) = 0
+splits (fork f x y) = suc (splits x + splits y)
 
 -- leaves
 unfoldable pub leaves : Tree → ℕ
-leaves (split U t x y) = leaves x + leaves y
-leaves (short t) = 1
-leaves (stuck U) = 1
-leaves (price q s) = 1
+leaves (leaf l) = 1
+leaves (fork f x y) = leaves x + leaves y
 
 -- the depth of the deepest node, the root having 0
 unfoldable pub depth : Tree → ℕ
-depth (split U t x y) = suc (max (depth x) (depth y))
-depth (short t) = 0
-depth (stuck U) = 0
-depth (price q s) = 0
+depth (leaf l) = 0
+depth (fork f x y) = suc (max (depth x) (depth y))
+
+-- what the tree gives
+abbrev pub tree-figures : Instance → Tree → TreeFigures
+tree-figures P t = tree-gives (bound P root t) (splits t) (leaves t)

@@ -9,23 +9,24 @@ use lib.IntN.{pos, negℤ}
 use lib.ListN.{getD, replicate}
 use Rattle.model.specs.Instance.{Instance, _at_}
 use Rattle.model.specs.Cost.{row-cost}
-use Rattle.model.specs.Above.{Mark, free, fixed, root, fix}
-use Rattle.model.specs.Leaf.{available, rows-of, is-stuck, revenue, value, unit-least, units-least, requirement, leaf-value}
-use Rattle.model.specs.Tree.{Tree, split, short, stuck, price, Limits, Holds, never, number, bound, splits, leaves, depth}
+use Rattle.model.specs.Above.{Mark, free, fixed, root, status, side}
+use Rattle.model.specs.Leaf.{units-available, available, rows-of, is-stuck, revenue, value, unit-least, units-least, requirement, leaf-value}
+use Rattle.model.specs.declared.figures.Bound.the-variants.{Never as never, Number as number}
+use Rattle.model.specs.Tree.{short, stuck, price, Tree, leaf, fork, GoodLeaf, LeafHolds, leaf-bound, Limits, Holds, bound, splits, leaves, depth}
 use Rattle.model.specs.Best.{higher, FirstLeast}
 use Rattle.model.specs.Examples.{line, with-spare, example, timed, square, three}
 
 -- ---- Above and Leaf
 
 -- in period 2, nothing fixed, unit 2 fixed off, fixed on; and in period 1 with unit 2 off in period 2: a free unit counts
-short-sums : (map (λ A. available (example .units) (A .marks) 1) (root ∷ fix 1 1 false root ∷ fix 1 1 true root ∷ []) ≡ 130 ∷ 80 ∷ 130 ∷ [])
-    × (available (example .units) (fix 1 1 false root .marks) 0 ≡ 130)
-unfolding available
+short-sums : (map (λ A. available example A 1) (root ∷ side (status 1 1) false root ∷ side (status 1 1) true root ∷ []) ≡ 130 ∷ 80 ∷ 130 ∷ [])
+    × (available example (side (status 1 1) false root) 0 ≡ 130)
+unfolding available units-available
 short-sums = (refl, refl)
 
 -- document 01, Specimens: a lone `short=2` does not hold, nor one with 130 to be had and D + R = 130
-not-short : (Holds example root (short 1) → ⊥) × (Holds (with-spare 30) root (short 1) → ⊥)
-unfolding Holds available
+not-short : (LeafHolds example root (short 1) → ⊥) × (LeafHolds (with-spare 30) root (short 1) → ⊥)
+unfolding LeafHolds available units-available
 not-short = ((λ h. lt→ltb 130 110 (h .1)), (λ h. lt→ltb 130 130 (h .1)))
 
 -- TD 3 and Tini -1: nothing fixed, on in period 2, on in period 3, off in all
@@ -117,27 +118,27 @@ starts-by-hand = (refl, refl)
 
 -- document 01, Specimens: the tree of the listing, and a lone price leaf
 abbrev tree : Tree
-tree = split 1 1 (short 1) (price (10 ∷ 14 ∷ []) (0 ∷ 0 ∷ []))
+tree = fork (status 1 1) (leaf (short 1)) (leaf (price (10 ∷ 14 ∷ []) (0 ∷ 0 ∷ [])))
 
-specimen-bounds : map (bound example root) (tree ∷ price (10 ∷ 14 ∷ []) (0 ∷ 2 ∷ []) ∷ []) ≡ number (pos 1980) ∷ number (pos 1940) ∷ []
-unfolding bound leaf-value units-least unit-least value revenue requirement rows-of row-cost
+specimen-bounds : map (bound example root) (tree ∷ leaf (price (10 ∷ 14 ∷ []) (0 ∷ 2 ∷ [])) ∷ []) ≡ number (pos 1980) ∷ number (pos 1940) ∷ []
+unfolding bound leaf-bound leaf-value units-least unit-least value revenue requirement rows-of row-cost
 specimen-bounds = refl
 
 tree-holds : Holds example root tree
-unfolding Holds available is-stuck
+unfolding Holds LeafHolds available units-available is-stuck
 tree-holds = ((lit< tt, lit< tt), tt)
 
 -- the smallest leaf may be the last or the first, and below 0; without a price leaf the bound is never
 abbrev halves : ℕ → ℕ → Tree
-halves q q′ = split 0 0 (price (q ∷ []) (0 ∷ [])) (price (q′ ∷ []) (0 ∷ []))
+halves q q′ = fork (status 0 0) (leaf (price (q ∷ []) (0 ∷ []))) (leaf (price (q′ ∷ []) (0 ∷ [])))
 
-smallest : (map (bound (tiny 7 0) root) (halves 36 36 ∷ halves 1 36 ∷ short 0 ∷ []) ≡ number (pos 188) ∷ number (pos 7) ∷ never ∷ [])
+smallest : (map (bound (tiny 7 0) root) (halves 36 36 ∷ halves 1 36 ∷ leaf (short 0) ∷ []) ≡ number (pos 188) ∷ number (pos 7) ∷ never ∷ [])
     × (bound (tiny 0 0) root (halves 36 36) ≡ number (negℤ (pos 64)))
-unfolding bound leaf-value units-least unit-least value revenue requirement rows-of row-cost
+unfolding bound leaf-bound leaf-value units-least unit-least value revenue requirement rows-of row-cost
 smallest = (refl, refl)
 
 -- split lines, leaves, depth; a price leaf is one leaf
-counts : (splits tree ≡ 1) × (leaves tree ≡ 2) × (depth tree ≡ 1) × (leaves (price [] []) ≡ 1)
+counts : (splits tree ≡ 1) × (leaves tree ≡ 2) × (depth tree ≡ 1) × (leaves (leaf (price [] [])) ≡ 1)
 unfolding splits leaves depth
 counts = (refl, refl, refl, refl)
 
@@ -145,36 +146,36 @@ counts = (refl, refl, refl, refl)
 abbrev late : Instance
 late = three 0 0 (timed 1 1 0 false 1 ∷ timed 1 3 0 false 1 ∷ [])
 
-stuck-there : Holds late (fix 1 1 true root) (stuck 1) × (Holds late (fix 1 1 true root) (stuck 0) → ⊥) × (Holds late (fix 1 1 true root) (price [] []) → ⊥)
-unfolding Holds is-stuck
+stuck-there : LeafHolds late (side (status 1 1) true root) (stuck 1) × (LeafHolds late (side (status 1 1) true root) (stuck 0) → ⊥) × (LeafHolds late (side (status 1 1) true root) (price [] []) → ⊥)
+unfolding LeafHolds is-stuck
 stuck-there = (tt, (λ h. h), (λ h. h))
 
 -- with nothing fixed, or the first on in period 2, no unit is stuck
-stuck-nowhere : Holds late root (price [] []) × Holds late (fix 0 1 true root) (price [] []) × (Holds late root (stuck 1) → ⊥)
-unfolding Holds is-stuck
+stuck-nowhere : LeafHolds late root (price [] []) × LeafHolds late (side (status 0 1) true root) (price [] []) × (LeafHolds late root (stuck 1) → ⊥)
+unfolding LeafHolds is-stuck
 stuck-nowhere = (tt, tt, (λ h. h))
 
 -- 32: a split may stand at depth 63; not at 64, in either tree of one at 63
-depth-63 : Limits example root 63 (split 0 0 (short 0) (short 1))
-unfolding Limits
-depth-63 = (lit< tt, lit< tt, refl, lit≤ tt, lit< tt, lit< tt)
+depth-63 : Limits example root 63 (fork (status 0 0) (leaf (short 0)) (leaf (short 1)))
+unfolding Limits GoodLeaf
+depth-63 = ((lit< tt, lit< tt, refl), lit≤ tt, lit< tt, lit< tt)
 
-depth-64 : (x y z : Tree) → (Limits example root 63 (split 0 0 (split 0 1 x y) z) → ⊥) × (Limits example root 63 (split 0 0 z (split 0 1 x y)) → ⊥)
+depth-64 : (x y z : Tree) → (Limits example root 63 (fork (status 0 0) (fork (status 0 1) x y) z) → ⊥) × (Limits example root 63 (fork (status 0 0) z (fork (status 0 1) x y)) → ⊥)
 unfolding Limits
-depth-64 x y z = ((λ h. le→leb 64 63 (h .4 .3)), (λ h. le→leb 64 63 (h .5 .3)))
+depth-64 x y z = ((λ h. le→leb 64 63 (h .2 .1)), (λ h. le→leb 64 63 (h .3 .1)))
 
 -- 31: no status is split twice, in either tree; the same unit may be split in another period
 abbrev Fixed : Mark → Type 0
 Fixed free = ⊥
 Fixed (fixed b) = Unit {0}
 
-twice : (x y z : Tree) → (Limits example root 0 (split 1 1 (split 1 1 x y) z) → ⊥) × (Limits example root 0 (split 1 1 z (split 1 1 x y)) → ⊥)
+twice : (x y z : Tree) → (Limits example root 0 (fork (status 1 1) (fork (status 1 1) x y) z) → ⊥) × (Limits example root 0 (fork (status 1 1) z (fork (status 1 1) x y)) → ⊥)
 unfolding Limits
-twice x y z = ((λ h. subst Fixed (h .4 .2) tt), (λ h. subst Fixed (h .5 .2) tt))
+twice x y z = ((λ h. subst Fixed (h .2 .0 .2) tt), (λ h. subst Fixed (h .3 .0 .2) tt))
 
-other-period : Limits example (fix 1 1 false root) 1 (split 1 0 (short 0) (stuck 1))
-unfolding Limits
-other-period = (lit< tt, lit< tt, refl, lit≤ tt, lit< tt, lit< tt)
+other-period : Limits example (side (status 1 1) false root) 1 (fork (status 1 0) (leaf (short 0)) (leaf (stuck 1)))
+unfolding Limits GoodLeaf
+other-period = ((lit< tt, lit< tt, refl), lit≤ tt, lit< tt, lit< tt)
 
 -- ---- Best
 

@@ -19,3 +19,4 @@ pub mod ReadAnswers
 pub mod Sizes
 pub mod Examples
 pub mod WrongTests
+pub mod InOrder

@@ -15,3 +15,4 @@ pub mod WellFormed
 pub mod Outcomes
 pub mod ReadAnswers
 pub mod Specimens
+pub mod InOrder

@@ -10,7 +10,8 @@ use Rattle.model.specs.Ranges.{WellFormed}
 use Rattle.model.specs.Rules.{MeetsPrinted}
 use Rattle.model.specs.Cost.{cost}
 use Rattle.model.specs.Above.{root}
-use Rattle.model.specs.Tree.{Tree, Holds, never, number, bound}
+use Rattle.model.specs.declared.figures.Bound.the-variants.{Never as never, Number as number}
+use Rattle.model.specs.Tree.{Tree, Holds, bound}
 use Rattle.model.proofs.Integers.{nat→le, ≤ℤ-trans}
 use Rattle.model.proofs.Soundness.{number-sound, never-sound}
 use Rattle.source.specs.Source.{Source, Printed15, Repaired15, Sentence15, Costs, objective}

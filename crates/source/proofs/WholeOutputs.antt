@@ -14,7 +14,8 @@ use Rattle.model.specs.Rules.{Within, output, capacity, Row, MeetsPrinted, Meet
 use Rattle.model.specs.Cost.{row-cost, cost}
 use Rattle.model.specs.Above.{root}
 use Rattle.model.specs.Leaf.{rows-of, is-stuck, revenue, value, unit-least, units-least, requirement, leaf-value}
-use Rattle.model.specs.Tree.{price, Holds, number, bound}
+use Rattle.model.specs.declared.figures.Bound.the-variants.{Number as number}
+use Rattle.model.specs.Tree.{price, leaf, LeafHolds, leaf-bound, Holds, bound}
 use Rattle.source.specs.Least.{LeastCost}
 
 abbrev square : Generator
@@ -88,12 +89,12 @@ pub whole-least : LeastCost (Meets squares) (cost squares) 5
 whole-least = record { s = best; meets = best-meets; value = cost-of 1 2; least = λ s M. whole-below s (M .printed .rows) (M .printed) }
 
 -- a tree's bound says so, too: a price leaf of 3
-pub whole-holds : Holds squares root (price (3 ∷ []) (0 ∷ []))
-unfolding Holds is-stuck
+pub whole-holds : Holds squares root (leaf (price (3 ∷ []) (0 ∷ [])))
+unfolding Holds LeafHolds is-stuck
 whole-holds = tt
 
-pub whole-bound : bound squares root (price (3 ∷ []) (0 ∷ [])) ≡ number (pos 5)
-unfolding bound leaf-value units-least unit-least rows-of value revenue requirement row-cost
+pub whole-bound : bound squares root (leaf (price (3 ∷ []) (0 ∷ []))) ≡ number (pos 5)
+unfolding bound leaf-bound leaf-value units-least unit-least rows-of value revenue requirement row-cost
 whole-bound = refl
 
 -- ---- in halves, 3 and 3 are within 2 and 6, meet a demand of 6, and cost 18 quarters, less than 5

@@ -10,9 +10,9 @@ use lib.Seq.{take-at, drop-at}
 use mathlib.Core.List.{List, _∷_, _++_, append-assoc}
 use borrow.Author.Tests.{lt-ltb}
 use Rattle.model.specs.Instance.{_at_}
-use Rattle.numbers.specs.Numbers.{laid-out, problem-in}
+use Rattle.layout.specs.Numbers.{laid-out, problem-in}
 use Rattle.writer.specs.Written.{figure-of}
-use Rattle.numbers.proofs.Again.{problem-again}
+use Rattle.layout.proofs.Again.{problem-again}
 use Rattle.docket.specs.declared.Docket.{Docket}
 use Rattle.docket.specs.declared.held.HeldCost.{HeldCost}
 use Rattle.docket.specs.declared.held.HeldCost.the-variants as cost

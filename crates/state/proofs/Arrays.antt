@@ -5,8 +5,8 @@ use Prim.Native.Nat.{ℕ, _≤_}
 use native.Mathlib.Omega.{arith}
 use lib.ListN.{length, drop, length-drop}
 use lib.Seq.{length-take-le}
-use Rattle.numbers.proofs.Readings.{generators-long}
-use Rattle.numbers.specs.Numbers.{problem-in}
+use Rattle.layout.proofs.Readings.{generators-long}
+use Rattle.layout.specs.Numbers.{problem-in}
 use Rattle.state.specs.Layout.{docket-in}
 
 module _ (v w : List ℕ) (room : 618 ≤ length v) where

@@ -9,7 +9,7 @@ use Rattle.model.specs.declared.generator.Generator.{Generator}
 use Rattle.model.specs.Instance.{Instance}
 use Rattle.model.specs.Ranges.{costs-in-range, outputs-in-range, times-in-range, in-range, midnight-ordered, ordered}
 use Rattle.model.specs.Held.{pad, held, valid-problem}
-use Rattle.numbers.specs.Numbers.{laid-out, problem-in}
+use Rattle.layout.specs.Numbers.{laid-out, problem-in}
 use Rattle.writer.specs.Written.{figure-of}
 use Rattle.docket.specs.declared.Docket.{Docket}
 use Rattle.docket.specs.declared.held.HeldCost.the-variants as cost

@@ -5,11 +5,11 @@ use Prim.Native.Nat.{ℕ, _+_}
 use native.Mathlib.Omega.{arith}
 use lib.ListN.{length, length-append}
 use lib.Seq.{paste}
-use Rattle.numbers.specs.Numbers.{laid-out}
+use Rattle.layout.specs.Numbers.{laid-out}
 use Rattle.writer.specs.Written.{figure-of}
 use Rattle.writer.specs.declared.Figure.{Figure}
 use Rattle.writer.specs.declared.Figure.the-variants.{Missing, Never, Number, Minus}
-use Rattle.numbers.proofs.Fronts.{front, front-more}
+use Rattle.layout.proofs.Fronts.{front, front-more}
 use Rattle.docket.specs.declared.Docket.{Docket}
 use Rattle.docket.specs.declared.held.HeldCost.{HeldCost}
 use Rattle.docket.specs.declared.held.HeldCost.the-variants as cost

@@ -6,8 +6,8 @@ use Prim.Native.Nat.{ℕ, _≤_}
 use native.Mathlib.Omega.{arith}
 use lib.ListN.{length, drop, length-append, length-drop}
 use Rattle.model.specs.Instance.{_at_}
-use Rattle.numbers.specs.Numbers.{laid-out}
-use Rattle.numbers.proofs.Places.{laid-long}
+use Rattle.layout.specs.Numbers.{laid-out}
+use Rattle.layout.proofs.Places.{laid-long}
 use Rattle.writer.specs.Written.{over}
 use Rattle.answer.specs.declared.Answer.{Answer}
 use Rattle.answer.specs.declared.Answer.the-variants as answer

@@ -7,7 +7,7 @@ use lib.Dec.{eqb, ltb}
 use lib.IntN.{ℤ, pos, _-ℤ_}
 use lib.ListN.{take, drop}
 use Rattle.model.specs.Instance.{_at_}
-use Rattle.numbers.specs.Numbers.{laid-out, problem-in}
+use Rattle.layout.specs.Numbers.{laid-out, problem-in}
 use Rattle.writer.specs.Written.{figure-of}
 use Rattle.writer.specs.declared.Figure.{Figure}
 use Rattle.writer.specs.declared.Figure.the-variants.{Missing, Never, Number, Minus}

@@ -41,11 +41,11 @@ fn docket_in(numbers: &[u64], rows: &[u16]) -> Docket
     requires { ⌜ 1536 ≤ length (now rows) ⌝ }
     ensures { λ r. ⌜ r ≡ docket-in (now (numbers .entry)) (now (rows .entry)) ⌝ }
 {
-    let problem = numbers::reading::problem_in(&numbers[8..]);
+    let problem = layout::reading::problem_in(&numbers[8..]);
     let cost = held::cost_in(numbers[2], numbers[3], numbers[4]);
     let bound = held::bound_in(numbers[5], numbers[6], numbers[7]);
     let held = Held { cost, bound };
-    let kept = numbers::copies::rows_in(rows);
+    let kept = layout::copies::rows_in(rows);
     Docket {
         known: numbers[1] != 0,
         problem,
@@ -93,12 +93,12 @@ pub fn keep(docket: Docket, numbers: &mut [u64], rows: &mut [u16])
     let head = [MARK, known_number(docket.known)];
     let cost = held::cost_numbers(held_cost);
     let bound = held::bound_numbers(held_bound);
-    let laid = numbers::lay_out(problem);
-    numbers::copies::store(numbers, 0, &head);
-    numbers::copies::store(numbers, 2, &cost);
-    numbers::copies::store(numbers, 5, &bound);
-    numbers::copies::store(numbers, 8, &laid);
-    numbers::copies::store_rows(rows, &kept);
+    let laid = layout::lay_out(problem);
+    layout::copies::store(numbers, 0, &head);
+    layout::copies::store(numbers, 2, &cost);
+    layout::copies::store(numbers, 5, &bound);
+    layout::copies::store(numbers, 8, &laid);
+    layout::copies::store_rows(rows, &kept);
 }
 
 // Whether the answer says that the text is held.
@@ -152,6 +152,6 @@ pub fn copy_outputs(docket: Docket, outputs: &mut [u16]) -> usize
 {
     let n = count_outputs(docket);
     let kept = docket.rows;
-    numbers::copies::store_rows(outputs, &kept[0..n]);
+    layout::copies::store_rows(outputs, &kept[0..n]);
     n
 }

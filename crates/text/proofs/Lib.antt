@@ -25,3 +25,4 @@ pub mod LineByLine
 pub mod Texts
 pub mod Ends
 pub mod WellFormed
+pub mod InOrder

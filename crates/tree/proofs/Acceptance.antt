@@ -11,7 +11,10 @@ use Rattle.model.specs.Ranges.{WellFormed}
 use Rattle.model.specs.Rules.{MeetsPrinted}
 use Rattle.model.specs.Cost.{cost}
 use Rattle.model.specs.Above.{root}
-use Rattle.model.specs.Tree.{Tree, bound, never, number}
+use Rattle.model.specs.declared.figures.Bound.the-variants.{Never as never, Number as number}
+use Rattle.model.specs.declared.figures.TreeFigures.{TreeFigures}
+use Rattle.model.specs.Figures.{no-figures}
+use Rattle.model.specs.Tree.{Tree, bound, tree-figures}
 use Rattle.model.proofs.Soundness.{number-sound, never-sound}
 use Rattle.text.specs.Lines.{Line, ended, later, lines-of, line-at, kind-tree, end-tree}
 use Rattle.text.specs.Rendering.{plain-line}
@@ -21,8 +24,8 @@ use Rattle.text.proofs.Courses as courses
 use Rattle.text.proofs.FirstLine.{tree-is}
 use Rattle.text.proofs.Texts.{whole-is}
 use Rattle.tree.specs.Rendering.{node-lines, render}
-use Rattle.tree.specs.Course.{by-writer, pending, writer-due, tests, next-due, judge, end, IsTree, tree-judged}
-use Rattle.tree.specs.Acceptance.{bounded-of, Accepts, Bounded}
+use Rattle.tree.specs.Course.{pending, writer-due, tests, next-due, judge, end, IsTree, tree-judged}
+use Rattle.tree.specs.Acceptance.{Bounded, bounded, Accepts}
 use Rattle.tree.specs.Refusals.{RefusedAt}
 use Rattle.tree.proofs.Bounds.{add-is, figures-same}
 use Rattle.tree.proofs.Written.{lines-one}
@@ -38,12 +41,12 @@ module _ (P : Instance) (text : List ℕ) (first : IsTree text) (F : Bounded) wh
   whole-tree w = go (w .forest .trees) (w .forest .grown) (w .forest .lines) (w .forest .gives)
     where
       go : (ts : List Tree) → Grown P (pending root 0 ∷ []) ts → w .after ≡ map ended (forest-lines ts)
-          → F ≡ with-forest P (by-writer (w .writer)) (pending root 0 ∷ []) ts
+          → F ≡ with-forest P (bounded (w .writer) no-figures) (pending root 0 ∷ []) ts
           → Accepts P text F
       go [] g l e = absurd g
       go (t ∷ u ∷ ts) g l e = absurd (g .1)
       go (t ∷ []) g l e =
-          let f : F ≡ bounded-of P (w .writer) t = e ∙ add-is P root (by-writer (w .writer)) t ∙ figures-same refl refl (omega arith) (omega arith) in
+          let f : F ≡ bounded (w .writer) (tree-figures P t) = e ∙ add-is P root (bounded (w .writer) no-figures) t ∙ figures-same refl refl (omega arith) (omega arith) in
           let a : w .writer ≡ F .writer = ap (λ (x : Bounded). x .writer) (sym f) in
           let s : text ≡ render (w .writer) t =
           whole-is text kind-tree (plain-line writer-key (w .writer ∷ []) ∷ (node-lines t ++ (end-tree ∷ []))) (tree-is (line-at text 0) .0 first) (lines-one (w .writer) t) .0
@@ -54,7 +57,7 @@ module _ (P : Instance) (text : List ℕ) (first : IsTree text) (F : Bounded) wh
             writer-in = rw a at (w .range);
             within = g .0 .0;
             holds = g .0 .1;
-            figures = rw a at f;
+            figures = ap (λ (x : Bounded). x .figures) f;
           }
 
   -- a text is accepted exactly where it is that of a tree within the limits whose leaves hold, and what it gives is the tree's
@@ -67,7 +70,7 @@ module _ (P : Instance) (text : List ℕ) (first : IsTree text) (F : Bounded) wh
     (λ a.
         ap (tree-judged P) (a .written)
         ∙ tree-accepted P (W .periods-in .0) (F .writer) (a .tree) (a .writer-in) (a .within) (a .holds)
-        ∙ ap accepted (sym (a .figures))),
+        ∙ ap (λ (x : TreeFigures). accepted (bounded (F .writer) x)) (sym (a .figures))),
   )
 
 -- ---- refused
@@ -88,13 +91,13 @@ module _ (P : Instance) (W : WellFormed P) (text : List ℕ) (first : IsTree tex
   accepted-tree : Accepts P text F
   accepted-tree = accepted-is P text first F W .0 e
 
-  bound-is : F .bound ≡ bound P root (accepted-tree .tree)
-  bound-is = ap (λ (x : Bounded). x .bound) (accepted-tree .figures)
+  bound-is : F .figures .bound ≡ bound P root (accepted-tree .tree)
+  bound-is = ap (λ (x : TreeFigures). x .bound) (accepted-tree .figures)
 
   -- no schedule that meets the rules costs less than the bound of an accepted tree, whether or not it ramps from midnight
-  pub accepted-sound : (z : ℤ) → F .bound ≡ number z → (s : Schedule) → MeetsPrinted P s → z ≤ℤ pos (cost P s)
+  pub accepted-sound : (z : ℤ) → F .figures .bound ≡ number z → (s : Schedule) → MeetsPrinted P s → z ≤ℤ pos (cost P s)
   accepted-sound z b = number-sound P (accepted-tree .tree) (accepted-tree .holds) z (sym bound-is ∙ b)
 
   -- and where it gives never none meets them
-  pub accepted-never : F .bound ≡ never → (s : Schedule) → MeetsPrinted P s → ⊥
+  pub accepted-never : F .figures .bound ≡ never → (s : Schedule) → MeetsPrinted P s → ⊥
   accepted-never b = never-sound P (accepted-tree .tree) (accepted-tree .holds) (sym bound-is ∙ b)

@@ -4,16 +4,16 @@ use mathlib.Core.Bool.{true, false}
 use Prim.Native.Nat.{ℕ, _+_, min}
 use native.Mathlib.Omega.{arith}
 use lib.IntN.{ℤ}
-use Rattle.model.specs.Instance.{Instance, _at_}
-use Rattle.model.specs.Above.{Above, fix}
-use Rattle.model.specs.Leaf.{minℤ, leaf-value}
-use Rattle.model.specs.Tree.{Tree, split, short, stuck, price, Bound, never, number, lower, bound, splits, leaves}
+use Rattle.model.specs.Instance.{Instance}
+use Rattle.model.specs.Above.{Above, side}
+use Rattle.model.specs.Leaf.{minℤ}
+use Rattle.model.specs.declared.figures.Bound.{Bound}
+use Rattle.model.specs.declared.figures.Bound.the-variants.{Never as never, Number as number}
+use Rattle.model.specs.Figures.{lower, tree-gives}
+use Rattle.model.specs.Tree.{Tree, leaf, fork, leaf-bound, bound, splits, leaves}
 use Rattle.model.proofs.Integers.{up, down, min-shift, nat→eq}
-use Rattle.tree.specs.declared.figures.Bound as code
-use Rattle.tree.specs.declared.figures.Bound.the-variants.{Never, Number}
 use Rattle.tree.specs.Course.{with-split, with-leaf}
-use Rattle.tree.specs.Acceptance.{Bounded}
-use Rattle.tree.specs.Coded.{bound-of, coded}
+use Rattle.tree.specs.Acceptance.{Bounded, bounded}
 
 min-assoc : (x y z : ℤ) → minℤ x (minℤ y z) ≡ minℤ (minℤ x y) z
 min-assoc x y z =
@@ -36,47 +36,26 @@ lower-assoc (number x) never z = refl
 lower-assoc (number x) (number y) never = refl
 lower-assoc (number x) (number y) (number z) = ap number (min-assoc x y z)
 
--- ---- the code's bounds
-
-pub coded-is : (b : code.Bound) → coded (bound-of b) ≡ b
-coded-is Never = refl
-coded-is (Number z) = refl
-
-pub coded-back : (b : Bound) → bound-of (coded b) ≡ b
-coded-back never = refl
-coded-back (number z) = refl
-
 -- ---- the figures of a tree, line by line
 
 unfoldable pub add : Instance → Above → Bounded → Tree → Bounded
-add P A F (split U t x y) = add P (fix U t true A) (add P (fix U t false A) (with-split F) x) y
-add P A F (short t) = with-leaf F never
-add P A F (stuck U) = with-leaf F never
-add P A F (price q s) = with-leaf F (number (leaf-value P (A .marks) (λ t. q at t) (λ t. s at t)))
+add P A F (leaf l) = with-leaf F (leaf-bound P A l)
+add P A F (fork f x y) = add P (side f true A) (add P (side f false A) (with-split F) x) y
 
 -- the figures F with those of a tree under A
 abbrev pub with-tree : Instance → Above → Bounded → Tree → Bounded
-with-tree P A F t = record {
-  writer = F .writer;
-  bound = lower (F .bound) (bound P A t);
-  splits = F .splits + splits t;
-  leaves = F .leaves + leaves t;
-}
+with-tree P A F t =
+    bounded (F .writer) (tree-gives (lower (F .figures .bound) (bound P A t)) (F .figures .splits + splits t) (F .figures .leaves + leaves t))
 
 pub figures-same : {w w′ : ℕ} {b b′ : Bound} {m m′ n n′ : ℕ} → w ≡ w′ → b ≡ b′ → m ≡ m′ → n ≡ n′
-    → _≡_ {A = Bounded} (record { writer = w; bound = b; splits = m; leaves = n }) (record { writer = w′; bound = b′; splits = m′; leaves = n′ })
-figures-same p q r s i = record { writer = p i; bound = q i; splits = r i; leaves = s i }
-
-leaf-same : (P : Instance) (A : Above) (F : Bounded) (b : Bound) → with-leaf F b ≡ record { writer = F .writer; bound = lower (F .bound) b; splits = F .splits + 0; leaves = F .leaves + 1 }
-leaf-same P A F b = figures-same refl refl (omega arith) (omega arith)
+    → bounded w (tree-gives b m n) ≡ bounded w′ (tree-gives b′ m′ n′)
+figures-same p q r s i = bounded (p i) (tree-gives (q i) (r i) (s i))
 
 pub add-is : (P : Instance) (A : Above) (F : Bounded) (t : Tree) → add P A F t ≡ with-tree P A F t
 unfolding add bound splits leaves
-add-is P A F (split U t x y) =
-    let G = with-tree P (fix U t false A) (with-split F) x in
-    ap (λ (f : Bounded). add P (fix U t true A) f y) (add-is P (fix U t false A) (with-split F) x)
-    ∙ add-is P (fix U t true A) G y
-    ∙ figures-same refl (sym (lower-assoc (F .bound) (bound P (fix U t false A) x) (bound P (fix U t true A) y))) (omega arith) (omega arith)
-add-is P A F (short t) = leaf-same P A F never
-add-is P A F (stuck U) = leaf-same P A F never
-add-is P A F (price q s) = leaf-same P A F (number (leaf-value P (A .marks) (λ t. q at t) (λ t. s at t)))
+add-is P A F (leaf l) = figures-same refl refl (omega arith) refl
+add-is P A F (fork f x y) =
+    let G = with-tree P (side f false A) (with-split F) x in
+    ap (λ (g : Bounded). add P (side f true A) g y) (add-is P (side f false A) (with-split F) x)
+    ∙ add-is P (side f true A) G y
+    ∙ figures-same refl (sym (lower-assoc (F .figures .bound) (bound P (side f false A) x) (bound P (side f true A) y))) (omega arith) (omega arith)

@@ -1,19 +1,17 @@
 -- An accepted text is that of a tree: read backwards from its last line, the lines that are left are always those of one tree for
 -- each node that is still to be read, and then the end line.
 use mathlib.Core.Path.{_≡_, refl, sym, ap, subst, _∙_}
-use mathlib.Core.Bool.{true, false, not}
+use mathlib.Core.Bool.{true, false}
 use mathlib.Core.List.{List, [], _∷_, _++_, map, append-assoc}
 use mathlib.Core.Option.{some}
-use Prim.Native.Nat.{ℕ, suc, _≤_, _<_}
+use Prim.Native.Nat.{ℕ, suc, _≤_}
 use native.Mathlib.Omega.{arith}
-use lib.Dec.{T}
-use lib.ListN.{length}
 use borrow.Author.Tests.{not-false}
 use Rattle.model.specs.Instance.{Instance, _at_}
 use Rattle.model.specs.Ranges.{GoodWriter}
-use Rattle.model.specs.Above.{free, Above, root, fix}
-use Rattle.model.specs.Leaf.{any-stuck, leaf-value}
-use Rattle.model.specs.Tree.{Tree, split, short, stuck, price, Limits, Holds, Multipliers, number}
+use Rattle.model.specs.Above.{Above, root, Fork, side}
+use Rattle.model.specs.Figures.{no-figures}
+use Rattle.model.specs.Tree.{Leaf, Tree, leaf, fork, GoodFork, GoodLeaf, LeafHolds, leaf-bound, Limits, Holds}
 use Rattle.text.specs.Lines.{Line, ended, is-line, end-tree}
 use Rattle.text.specs.Course.{good}
 use Rattle.text.specs.Rendering.{plain-line}
@@ -24,11 +22,13 @@ use Rattle.text.proofs.Words.{word-is}
 use Rattle.text.proofs.Plain.{plain-passed, one-value}
 use Rattle.text.proofs.Courses.{passed-line}
 use Rattle.text.proofs.Tests.{good-none}
-use Rattle.tree.specs.Rendering.{split-key, short-key, stuck-key, price-key, reserve-key, node-lines}
-use Rattle.tree.specs.Course.{by-writer, with-split, with-leaf, Pending, pending, Due, writer-due, nodes-due, reserve-due, nothing-due, tests, next-due, judge, end}
-use Rattle.tree.specs.Acceptance.{Bounded}
+use Rattle.tree.specs.Rendering.{fork-line, leaf-lines, node-lines}
+use Rattle.tree.specs.Places.{Part}
+use Rattle.tree.specs.Course.{with-split, with-leaf, Pending, pending, Due, writer-due, nodes-due, part-due, nothing-due, after-fork, tests, next-due, judge, end}
+use Rattle.tree.specs.Acceptance.{Bounded, bounded}
 use Rattle.tree.proofs.Bounds.{add}
-use Rattle.tree.proofs.NodeLines.{NodeWas, split-was, short-was, stuck-was, price-was, node-was, reserve-was}
+use Rattle.tree.proofs.NodeLines.{part-lines, GoodPart, NodeWas, fork-was, leaf-was, part-was, node-was, PartWas, ends-leaf, part-was-line}
+use Rattle.tree.proofs.Written.{map-both}
 
 -- ---- trees for the nodes still to be read
 
@@ -57,14 +57,16 @@ pub record Forest (P : Instance) (F : Bounded) (ps : List Pending) (ls : List Li
   pub lines : ls ≡ map ended (forest-lines trees)
   pub gives : v ≡ with-forest P F ps trees
 
--- a reserve line that holds with A above it, and then such trees
-pub record ForestAfter (P : Instance) (F : Bounded) (A : Above) (q : List ℕ) (ps : List Pending) (ls : List Line) (v : Bounded) : Type 0 where
-  pub s : List ℕ
+-- the rest of a leaf that begins with a part and holds with A above it, and then such trees
+pub record ForestAfter (P : Instance) (F : Bounded) (A : Above) (p : Part) (ps : List Pending) (ls : List Line) (v : Bounded) : Type 0 where
+  pub its : Leaf
+  pub rest : List (List ℕ)
+  pub whole : leaf-lines its ≡ part-lines p ++ rest
   pub after : List Line
-  pub lines : ls ≡ ended (plain-line reserve-key s) ∷ after
-  pub range : Multipliers P s
-  pub none-stuck : T (not (any-stuck (P .periods) (P .units) (A .marks)))
-  pub forest : Forest P (with-leaf F (number (leaf-value P (A .marks) (λ t. q at t) (λ t. s at t)))) ps after v
+  pub lines : ls ≡ map ended rest ++ after
+  pub good : GoodPart P p → GoodLeaf P its
+  pub holds : LeafHolds P A its
+  pub forest : Forest P (with-leaf F (leaf-bound P A its)) ps after v
 
 -- a writer line, and then one tree
 pub record Whole (P : Instance) (ls : List Line) (v : Bounded) : Type 0 where
@@ -72,68 +74,55 @@ pub record Whole (P : Instance) (ls : List Line) (v : Bounded) : Type 0 where
   pub after : List Line
   pub lines : ls ≡ ended (plain-line writer-key (writer ∷ [])) ∷ after
   pub range : GoodWriter writer
-  pub forest : Forest P (by-writer writer) (pending root 0 ∷ []) after v
+  pub forest : Forest P (bounded writer no-figures) (pending root 0 ∷ []) after v
 
 -- what the lines that are left are, by what is due
 abbrev pub Left : Instance → Due → List Line → Bounded → Type 0
 Left P writer-due ls v = Whole P ls v
 Left P (nodes-due F ps) ls v = Forest P F ps ls v
-Left P (reserve-due F A q ps) ls v = ForestAfter P F A q ps ls v
+Left P (part-due F A p ps) ls v = ForestAfter P F A p ps ls v
 Left P (nothing-due F) ls v = (ls ≡ []) × (v ≡ F)
 
 -- ---- one line more in front
 
 module _ (P : Instance) (F : Bounded) (p : Pending) (ps : List Pending) (x : Line) (ls : List Line) (v : Bounded) where
-  -- a leaf of one line
-  leaf-before : (t : Tree) → (l : List ℕ) → node-lines t ≡ l ∷ [] → x ≡ ended l → Limits P (p .above) (p .depth) t → Holds P (p .above) t
-      → Forest P (add P (p .above) F t) ps ls v → Forest P F (p ∷ ps) (x ∷ ls) v
-  leaf-before t l n e lim h f = record {
-    trees = t ∷ f .trees;
-    grown = ((lim, h), f .grown);
-    lines = rw n (λ i. e i ∷ f .lines i);
+  -- a leaf, of which this is the first line
+  leaf-before : (l : Leaf) (b : List ℕ) (rest : List (List ℕ)) (after : List Line) → leaf-lines l ≡ b ∷ rest → x ≡ ended b → ls ≡ map ended rest ++ after
+      → GoodLeaf P l → LeafHolds P (p .above) l → Forest P (with-leaf F (leaf-bound P (p .above) l)) ps after v → Forest P F (p ∷ ps) (x ∷ ls) v
+  unfolding Limits Holds node-lines add
+  leaf-before l b rest after n e k g h f = record {
+    trees = leaf l ∷ f .trees;
+    grown = ((g, h), f .grown);
+    lines = rw n (λ i. e i ∷ (k ∙ ap (λ (ys : List Line). map ended rest ++ ys) (f .lines) ∙ sym (map-both rest (forest-lines (f .trees)))) i);
     gives = f .gives;
   }
 
-  split-before : (U t : ℕ) → x ≡ ended (plain-line split-key (suc U ∷ suc t ∷ [])) → U < length (P .units) → t < P .periods
-      → p .above .marks U t ≡ free → p .depth ≤ 63
-      → Forest P (with-split F) (pending (fix U t false (p .above)) (suc (p .depth)) ∷ pending (fix U t true (p .above)) (suc (p .depth)) ∷ ps) ls v
-      → Forest P F (p ∷ ps) (x ∷ ls) v
+  fork-before : (f : Fork) → x ≡ ended (fork-line f) → GoodFork P (p .above) f → p .depth ≤ 63 → Left P (after-fork F p ps f) ls v → Forest P F (p ∷ ps) (x ∷ ls) v
   unfolding Limits Holds node-lines add
-  split-before U t e h k m d f = go (f .trees) (f .grown) (f .lines) (f .gives)
+  fork-before f e g d w = go (w .trees) (w .grown) (w .lines) (w .gives)
     where
-      A : Above
-      A = fix U t false (p .above)
+      A : Pending
+      A = pending (side f false (p .above)) (suc (p .depth))
 
-      B : Above
-      B = fix U t true (p .above)
+      B : Pending
+      B = pending (side f true (p .above)) (suc (p .depth))
 
-      go : (ts : List Tree) → Grown P (pending A (suc (p .depth)) ∷ pending B (suc (p .depth)) ∷ ps) ts → ls ≡ map ended (forest-lines ts)
-          → v ≡ with-forest P (with-split F) (pending A (suc (p .depth)) ∷ pending B (suc (p .depth)) ∷ ps) ts
+      go : (ts : List Tree) → Grown P (A ∷ B ∷ ps) ts → ls ≡ map ended (forest-lines ts) → v ≡ with-forest P (with-split F) (A ∷ B ∷ ps) ts
           → Forest P F (p ∷ ps) (x ∷ ls) v
-      go [] g l w = absurd g
-      go (a ∷ []) g l w = absurd (g .1)
-      go (a ∷ b ∷ ts) g l w = record {
-        trees = split U t a b ∷ ts;
-        grown = (((h, k, m, d, g .0 .0, g .1 .0 .0), (g .0 .1, g .1 .0 .1)), g .1 .1);
+      go [] r l z = absurd r
+      go (a ∷ []) r l z = absurd (r .1)
+      go (a ∷ b ∷ ts) r l z = record {
+        trees = fork f a b ∷ ts;
+        grown = (((g, d, r .0 .0, r .1 .0 .0), (r .0 .1, r .1 .0 .1)), r .1 .1);
         lines = λ i. e i ∷ (l ∙ ap (map ended) (sym (append-assoc (node-lines a) (node-lines b) (forest-lines ts)))) i;
-        gives = w;
+        gives = z;
       }
 
-  price-before : (q : List ℕ) → x ≡ ended (plain-line price-key q) → Multipliers P q → ForestAfter P F (p .above) q ps ls v → Forest P F (p ∷ ps) (x ∷ ls) v
-  unfolding Limits Holds node-lines add
-  price-before q e m f = record {
-    trees = price q (f .s) ∷ f .forest .trees;
-    grown = (((m, f .range), f .none-stuck), f .forest .grown);
-    lines = λ i. e i ∷ (f .lines ∙ ap (λ (k : List Line). ended (plain-line reserve-key (f .s)) ∷ k) (f .forest .lines)) i;
-    gives = f .forest .gives;
-  }
-
   node-before : (s : Due) → NodeWas P F (p .above) (p .depth) ps x s → Left P s ls v → Forest P F (p ∷ ps) (x ∷ ls) v
-  unfolding Limits Holds node-lines add
-  node-before s (split-was U t e h k m d) f = split-before U t e h k m d f
-  node-before s (short-was t e h k) f = leaf-before (short t) (plain-line short-key (suc t ∷ [])) refl e h (h, k) f
-  node-before s (stuck-was U e h k) f = leaf-before (stuck U) (plain-line stuck-key (suc U ∷ [])) refl e h k f
-  node-before s (price-was q e m) f = price-before q e m f
+  node-before s (fork-was f e g d) w = fork-before f e g d w
+  node-before s (leaf-was l b n e g h) w = leaf-before l b [] ls n e refl g h w
+  node-before s (part-was q b n e g) w =
+      leaf-before (w .its) b (w .rest) (w .after) (w .whole ∙ ap (λ (k : List (List ℕ)). k ++ w .rest) n) e (w .lines) (w .good g) (w .holds) (w .forest)
 
 end-before : (P : Instance) (F : Bounded) (x : Line) (ls : List Line) (v : Bounded) (s : Due) → judge P (nodes-due F []) x ≡ good s → Left P s ls v
     → Forest P F [] (x ∷ ls) v
@@ -148,19 +137,18 @@ end-before P F x ls v s e f =
       gives = r .1;
     }
 
-reserve-before : (P : Instance) (F : Bounded) (A : Above) (q : List ℕ) (ps : List Pending) (x : Line) (ls : List Line) (v : Bounded) (s : Due)
-    → judge P (reserve-due F A q ps) x ≡ good s → Left P s ls v
-    → ForestAfter P F A q ps (x ∷ ls) v
-reserve-before P F A q ps x ls v s e f =
-    let w = reserve-was P F A 0 ps q x s e in
-    record {
-      s = w .s;
-      after = ls;
-      lines = ap (λ (l : Line). l ∷ ls) (w .line);
-      range = w .range;
-      none-stuck = w .none-stuck;
-      forest = subst (λ (y : Due). Left P y ls v) (w .due) f;
-    }
+part-before : (P : Instance) (F : Bounded) (A : Above) (p : Part) (ps : List Pending) (x : Line) (ls : List Line) (v : Bounded) (s : Due)
+    → PartWas P F A 0 ps p x s → Left P s ls v → ForestAfter P F A p ps (x ∷ ls) v
+part-before P F A p ps x ls v s (ends-leaf l b n e g h) f = record {
+  its = l;
+  rest = b ∷ [];
+  whole = n;
+  after = ls;
+  lines = ap (λ (y : Line). y ∷ ls) e;
+  good = g;
+  holds = h;
+  forest = f;
+}
 
 writer-before : (P : Instance) (x : Line) (ls : List Line) (v : Bounded) (s : Due) → judge P writer-due x ≡ good s → Left P s ls v → Whole P (x ∷ ls) v
 unfolding judge tests next-due
@@ -181,7 +169,7 @@ unfolding judge tests
 line-before P writer-due s′ x ls v e f = writer-before P x ls v s′ e f
 line-before P (nodes-due F []) s′ x ls v e f = end-before P F x ls v s′ e f
 line-before P (nodes-due F (p ∷ ps)) s′ x ls v e f = node-before P F p ps x ls v s′ (node-was P F (p .above) (p .depth) ps x s′ e) f
-line-before P (reserve-due F A q ps) s′ x ls v e f = reserve-before P F A q ps x ls v s′ e f
+line-before P (part-due F A p ps) s′ x ls v e f = part-before P F A p ps x ls v s′ (part-was-line P F A 0 ps p x s′ e) f
 line-before P (nothing-due F) s′ x ls v e f = absurd (let z : _≡_ {A = ℕ} 0 1 = cc in omega arith)
 
 -- ---- all lines
@@ -189,7 +177,7 @@ line-before P (nothing-due F) s′ x ls v e f = absurd (let z : _≡_ {A = ℕ} 
 none-left : (P : Instance) (s : Due) (v : Bounded) → end s ≡ some v → Left P s [] v
 none-left P writer-due v e = absurd (let z : _≡_ {A = ℕ} 0 1 = cc in omega arith)
 none-left P (nodes-due F ps) v e = absurd (let z : _≡_ {A = ℕ} 0 1 = cc in omega arith)
-none-left P (reserve-due F A q ps) v e = absurd (let z : _≡_ {A = ℕ} 0 1 = cc in omega arith)
+none-left P (part-due F A p ps) v e = absurd (let z : _≡_ {A = ℕ} 0 1 = cc in omega arith)
 none-left P (nothing-due F) v e = (refl, cc)
 
 pub good-left : (P : Instance) (s last : Due) (ls : List Line) (v : Bounded) → Passed (tests P) (next-due P) s ls last → end last ≡ some v → Left P s ls v

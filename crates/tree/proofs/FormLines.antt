@@ -4,21 +4,20 @@ use mathlib.Core.Path.{_≡_, refl, sym, ap, subst, _∙_}
 use mathlib.Core.Bool.{true, false}
 use mathlib.Core.List.{List, [], _∷_, _++_, map, append-assoc}
 use mathlib.Core.Option.{some}
-use Prim.Native.Nat.{ℕ, suc, _≤_, _<_}
+use Prim.Native.Nat.{ℕ, suc, pred, _≤_}
 use native.Mathlib.Omega.{arith}
 use lib.ListN.{length}
 use borrow.Author.Tests.{ltb-false, not-false}
 use Rattle.model.specs.Instance.{Instance, _at_}
 use Rattle.model.specs.Ranges.{GoodWriter}
-use Rattle.model.specs.Above.{free, Above, root, fix}
-use Rattle.model.specs.Leaf.{leaf-value}
-use Rattle.model.specs.Tree.{Tree, split, short, stuck, price, Limits, Multipliers, number}
+use Rattle.model.specs.Above.{Above, root, Fork, status, side}
+use Rattle.model.specs.Tree.{Leaf, short, stuck, price, Tree, leaf, fork, GoodFork, GoodLeaf, Limits}
 use Rattle.text.specs.Lines.{Line, ended, is-line, end-tree}
 use Rattle.text.specs.Course.{good}
 use Rattle.text.specs.Forms.{numbers-of}
 use Rattle.text.specs.Rendering.{plain-line}
 use Rattle.text.specs.Writer.{writer-key, writer-form}
-use Rattle.text.specs.Tests.{_if_, None, Passed, none-yet, one-more}
+use Rattle.text.specs.Tests.{None, Passed, none-yet, one-more}
 use Rattle.text.proofs.Accepted.{rendered-good, rendered-numbers}
 use Rattle.text.proofs.Courses.{passed-both}
 use Rattle.text.proofs.Plain.{plain-passed, one-value}
@@ -26,15 +25,16 @@ use Rattle.text.proofs.Tests.{good-none}
 use Rattle.text.proofs.Verdicts.{form-passes}
 use Rattle.text.proofs.WellFormed.{form-only, none-of-form}
 use Rattle.text.proofs.Words.{word-is}
-use Rattle.tree.specs.Rendering.{split-key, short-key, stuck-key, price-key, reserve-key, node-lines}
-use Rattle.tree.specs.NodeLines.{line-kind-of, named, split-again, too-deep, node-tests}
-use Rattle.tree.specs.Refusals.{LineKind, split-line, short-line, stuck-line, price-line, node-form, reserve-form}
-use Rattle.tree.specs.Course.{with-split, with-leaf, Pending, pending, Due, writer-due, nodes-due, reserve-due, nothing-due, tests, after-node, next-due, judge, end}
+use Rattle.tree.specs.Rendering.{short-key, stuck-key, price-key, reserve-key, fork-line, leaf-lines, node-lines}
+use Rattle.tree.specs.Places.{Part, priced}
+use Rattle.tree.specs.NodeLines.{line-kind-of, named, kind-tests, node-tests, leaf-tests}
+use Rattle.tree.specs.Refusals.{LineKind, split-line, short-line, stuck-line, price-line, node-form, part-form}
+use Rattle.tree.specs.Course.{with-split, Pending, pending, Due, writer-due, nodes-due, part-due, nothing-due, tests, after-fork, after-leaf, after-node, after-part, next-due, judge, end}
 use Rattle.tree.specs.Acceptance.{Bounded}
 use Rattle.tree.proofs.Bounds.{add}
 use Rattle.tree.proofs.Lines.{multipliers-fit, was-multipliers, one-fits, was-one}
 use Rattle.tree.proofs.Written.{map-both}
-use Rattle.tree.proofs.NodeLines.{free-mark, was-split, split-good, price-good}
+use Rattle.tree.proofs.NodeLines.{free-mark, was-split, part-lines, GoodPart, fork-good, price-good}
 use Rattle.tree.proofs.Correct.{forest-lines}
 
 -- these lines pass the tests of the form, each at its place
@@ -59,11 +59,14 @@ pub record FormForest (P : Instance) (ps : List Pending) (ls : List Line) : Type
   pub limited : Limited P ps trees
   pub lines : ls ≡ map ended (forest-lines trees)
 
-pub record FormForestAfter (P : Instance) (ps : List Pending) (ls : List Line) : Type 0 where
-  pub s : List ℕ
+-- the rest of a leaf that begins with a part, and then such trees
+pub record FormForestAfter (P : Instance) (p : Part) (ps : List Pending) (ls : List Line) : Type 0 where
+  pub its : Leaf
+  pub rest : List (List ℕ)
+  pub whole : leaf-lines its ≡ part-lines p ++ rest
   pub after : List Line
-  pub lines : ls ≡ ended (plain-line reserve-key s) ∷ after
-  pub range : Multipliers P s
+  pub lines : ls ≡ map ended rest ++ after
+  pub good : GoodPart P p → GoodLeaf P its
   pub forest : FormForest P ps after
 
 pub record FormWhole (P : Instance) (ls : List Line) : Type 0 where
@@ -76,51 +79,71 @@ pub record FormWhole (P : Instance) (ls : List Line) : Type 0 where
 abbrev pub FormLeft : Instance → Due → List Line → Type 0
 FormLeft P writer-due ls = FormWhole P ls
 FormLeft P (nodes-due F ps) ls = FormForest P ps ls
-FormLeft P (reserve-due F A q ps) ls = FormForestAfter P ps ls
+FormLeft P (part-due F A p ps) ls = FormForestAfter P p ps ls
 FormLeft P (nothing-due F) ls = ls ≡ []
 
 -- one line more in front
 module _ (P : Instance) (F : Bounded) (p : Pending) (ps : List Pending) (x : Line) (ls : List Line) where
-  split-before : (U t : ℕ) → x ≡ ended (plain-line split-key (suc U ∷ suc t ∷ [])) → U < length (P .units) → t < P .periods
-      → p .above .marks U t ≡ free → p .depth ≤ 63
-      → FormForest P (pending (fix U t false (p .above)) (suc (p .depth)) ∷ pending (fix U t true (p .above)) (suc (p .depth)) ∷ ps) ls
-      → FormForest P (p ∷ ps) (x ∷ ls)
+  -- a leaf, of which this is the first line
+  leaf-before : (l : Leaf) (b : List ℕ) (rest : List (List ℕ)) (after : List Line) → leaf-lines l ≡ b ∷ rest → x ≡ ended b → ls ≡ map ended rest ++ after
+      → GoodLeaf P l → FormForest P ps after → FormForest P (p ∷ ps) (x ∷ ls)
   unfolding Limits node-lines
-  split-before U t e h k m d f = go (f .trees) (f .limited) (f .lines)
+  leaf-before l b rest after n e k g f = record {
+    trees = leaf l ∷ f .trees;
+    limited = (g, f .limited);
+    lines = rw n (λ i. e i ∷ (k ∙ ap (λ (ys : List Line). map ended rest ++ ys) (f .lines) ∙ sym (map-both rest (forest-lines (f .trees)))) i);
+  }
+
+  fork-before : (f : Fork) → x ≡ ended (fork-line f) → GoodFork P (p .above) f → p .depth ≤ 63 → FormLeft P (after-fork F p ps f) ls → FormForest P (p ∷ ps) (x ∷ ls)
+  unfolding Limits node-lines
+  fork-before f e g d w = go (w .trees) (w .limited) (w .lines)
     where
-      go : (ts : List Tree) → Limited P (pending (fix U t false (p .above)) (suc (p .depth)) ∷ pending (fix U t true (p .above)) (suc (p .depth)) ∷ ps) ts
+      go : (ts : List Tree) → Limited P (pending (side f false (p .above)) (suc (p .depth)) ∷ pending (side f true (p .above)) (suc (p .depth)) ∷ ps) ts
           → ls ≡ map ended (forest-lines ts)
           → FormForest P (p ∷ ps) (x ∷ ls)
-      go [] g l = absurd g
-      go (a ∷ []) g l = absurd (g .1)
-      go (a ∷ b ∷ ts) g l = record {
-        trees = split U t a b ∷ ts;
-        limited = ((h, k, m, d, g .0, g .1 .0), g .1 .1);
+      go [] r l = absurd r
+      go (a ∷ []) r l = absurd (r .1)
+      go (a ∷ b ∷ ts) r l = record {
+        trees = fork f a b ∷ ts;
+        limited = ((g, d, r .0, r .1 .0), r .1 .1);
         lines = λ i. e i ∷ (l ∙ ap (map ended) (sym (append-assoc (node-lines a) (node-lines b) (forest-lines ts)))) i;
       }
 
   node-before : (k : LineKind) → None (form-only (node-tests P (p .above) (p .depth) k x)) → FormLeft P (after-node P F p ps k x) ls → FormForest P (p ∷ ps) (x ∷ ls)
-  unfolding Limits node-lines after-node split-again too-deep
-  node-before split-line n f =
-      let g = form-passes (node-form P split-line) x (31 if split-again P (p .above) split-line x ∷ 32 if too-deep (p .depth) split-line ∷ []) .0 n in
-      let w = was-split P x (g .0) in
-      split-before (named (node-form P split-line) x 0) (named (node-form P split-line) x 1) (w .line) (w .unit) (w .period) (free-mark _ (g .1 .0))
-      (ltb-false 63 (p .depth) (g .1 .1 .0)) f
-  node-before short-line n f =
-      let g = form-passes (node-form P short-line) x (31 if false ∷ 32 if false ∷ []) .0 n in
-      let w = was-one short-key (P .periods) x (g .0) in
-      record { trees = short (named (node-form P short-line) x 0) ∷ f .trees; limited = (w .range, f .limited); lines = λ i. w .line i ∷ f .lines i }
-  node-before stuck-line n f =
-      let g = form-passes (node-form P stuck-line) x (31 if false ∷ 32 if false ∷ []) .0 n in
-      let w = was-one stuck-key (length (P .units)) x (g .0) in
-      record { trees = stuck (named (node-form P stuck-line) x 0) ∷ f .trees; limited = (w .range, f .limited); lines = λ i. w .line i ∷ f .lines i }
-  node-before price-line n f =
-      let w = plain-passed price-key (P .periods) 0 1000000000 x (31 if false ∷ 32 if false ∷ []) n in
-      record {
-        trees = price (numbers-of (node-form P price-line) x) (f .s) ∷ f .forest .trees;
-        limited = ((was-multipliers P price-key x w, f .range), f .forest .limited);
-        lines = λ i. w .line i ∷ (f .lines ∙ ap (λ (k : List Line). ended (plain-line reserve-key (f .s)) ∷ k) (f .forest .lines)) i;
-      }
+  unfolding GoodLeaf after-node kind-tests
+  node-before split-line n w =
+      let g = form-passes (node-form P split-line) x (kind-tests P (p .above) (p .depth) split-line x) .0 n in
+      let r = was-split P x (g .0) in
+      fork-before (status (named (node-form P split-line) x 0) (named (node-form P split-line) x 1)) (r .line) (r .unit, r .period, free-mark _ (g .1 .0))
+      (ltb-false 63 (p .depth) (g .1 .1 .0)) w
+  node-before short-line n w =
+      let r = was-one short-key (P .periods) x (form-passes (node-form P short-line) x [] .0 n .0) in
+      let t = named (node-form P short-line) x 0 in
+      leaf-before (short t) (plain-line short-key (suc t ∷ [])) [] ls refl (r .line) refl (r .range) w
+  node-before stuck-line n w =
+      let r = was-one stuck-key (length (P .units)) x (form-passes (node-form P stuck-line) x [] .0 n .0) in
+      let U = named (node-form P stuck-line) x 0 in
+      leaf-before (stuck U) (plain-line stuck-key (suc U ∷ [])) [] ls refl (r .line) refl (r .range) w
+  node-before price-line n w =
+      let r = plain-passed price-key (P .periods) 0 1000000000 x [] n in
+      leaf-before (w .its) (plain-line price-key (numbers-of (node-form P price-line) x)) (w .rest) (w .after) (w .whole) (r .line) (w .lines)
+      (w .good (was-multipliers P price-key x r)) (w .forest)
+
+part-before : (P : Instance) (F : Bounded) (A : Above) (p : Part) (ps : List Pending) (x : Line) (ls : List Line) → None (form-only (tests P (part-due F A p ps) x))
+    → FormLeft P (after-part P F A p ps x) ls → FormForestAfter P p ps (x ∷ ls)
+unfolding GoodLeaf tests leaf-tests after-part
+part-before P F A (priced q) ps x ls n f =
+    let w = plain-passed reserve-key (P .periods) 0 1000000000 x [] n in
+    let s = numbers-of (part-form P (priced q)) x in
+    record {
+      its = price q s;
+      rest = plain-line reserve-key s ∷ [];
+      whole = refl;
+      after = ls;
+      lines = ap (λ (l : Line). l ∷ ls) (w .line);
+      good = λ m. (m, was-multipliers P reserve-key x w);
+      forest = f;
+    }
 
 line-before : (P : Instance) (s : Due) (x : Line) (ls : List Line) → None (form-only (tests P s x)) → FormLeft P (next-due P s x) ls → FormLeft P s (x ∷ ls)
 unfolding tests next-due
@@ -136,22 +159,14 @@ line-before P writer-due x ls n f =
     }
 line-before P (nodes-due F []) x ls n f = record { trees = []; limited = tt; lines = λ i. word-is end-tree x (not-false (is-line end-tree x) (n .0)) i ∷ f i }
 line-before P (nodes-due F (p ∷ ps)) x ls n f = node-before P F p ps x ls (line-kind-of x) n f
-line-before P (reserve-due F A q ps) x ls n f =
-    let w = plain-passed reserve-key (P .periods) 0 1000000000 x [] n in
-    record {
-      s = numbers-of (reserve-form P) x;
-      after = ls;
-      lines = ap (λ (l : Line). l ∷ ls) (w .line);
-      range = was-multipliers P reserve-key x w;
-      forest = f;
-    }
+line-before P (part-due F A p ps) x ls n f = part-before P F A p ps x ls n f
 line-before P (nothing-due F) x ls n f = absurd (let e = n .0 in let z : _≡_ {A = ℕ} 0 1 = cc in omega arith)
 
 -- all lines
 pub passed-left : (P : Instance) (s last : Due) (ls : List Line) (v : Bounded) → FormPasses P s ls last → end last ≡ some v → FormLeft P s ls
 passed-left P writer-due last [] v none-yet e = absurd (let z : _≡_ {A = ℕ} 0 1 = cc in omega arith)
 passed-left P (nodes-due F ps) last [] v none-yet e = absurd (let z : _≡_ {A = ℕ} 0 1 = cc in omega arith)
-passed-left P (reserve-due F A q ps) last [] v none-yet e = absurd (let z : _≡_ {A = ℕ} 0 1 = cc in omega arith)
+passed-left P (part-due F A p ps) last [] v none-yet e = absurd (let z : _≡_ {A = ℕ} 0 1 = cc in omega arith)
 passed-left P (nothing-due F) last [] v none-yet e = refl
 passed-left P s last (x ∷ ls) v (one-more {s′ = s′} h d g) e =
     line-before P s x ls h (subst (λ (t : Due). FormLeft P t ls) (sym d) (passed-left P s′ last ls v g e))
@@ -167,27 +182,33 @@ module _ (P : Instance) (some : 1 ≤ P .periods) where
   pub both : {s s′ s″ : Due} (a b : List Line) → FormPasses P s a s′ → FormPasses P s′ b s″ → FormPasses P s (a ++ b) s″
   both a b = passed-both (λ u l. form-only (tests P u l)) (next-due P) end a b
 
+  leaf-passes : (A : Above) (d : ℕ) (F : Bounded) (ps : List Pending) (l : Leaf) → GoodLeaf P l
+      → FormPasses P (nodes-due F (pending A d ∷ ps)) (map ended (leaf-lines l)) (after-leaf P F A ps l)
+  unfolding GoodLeaf tests next-due after-node after-part line-kind-of kind-tests leaf-tests
+  leaf-passes A d F ps (short t) g =
+      let f = node-form P short-line in
+      let w = one-fits short-key (P .periods) t g in
+      one-more (form-passes f (ended (plain-line short-key (suc t ∷ []))) [] .1 (rendered-good f false (suc t ∷ []) w, tt))
+      (ap (λ (vs : List ℕ). after-leaf P F A ps (short (pred (vs at 0)))) (rendered-numbers f false (suc t ∷ []) w)) none-yet
+  leaf-passes A d F ps (stuck U) g =
+      let f = node-form P stuck-line in
+      let w = one-fits stuck-key (length (P .units)) U g in
+      one-more (form-passes f (ended (plain-line stuck-key (suc U ∷ []))) [] .1 (rendered-good f false (suc U ∷ []) w, tt))
+      (ap (λ (vs : List ℕ). after-leaf P F A ps (stuck (pred (vs at 0)))) (rendered-numbers f false (suc U ∷ []) w)) none-yet
+  leaf-passes A d F ps (price q s) g =
+      let f = part-form P (priced q) in
+      let w = multipliers-fit P reserve-key some s (g .1) in
+      also (price-good P F A d ps some q (g .0))
+      (one-more (form-passes f (ended (plain-line reserve-key s)) [] .1 (rendered-good f false s w, tt))
+      (ap (λ (vs : List ℕ). after-leaf P F A ps (price q vs)) (rendered-numbers f false s w)) none-yet)
+
   pub node-passes : (A : Above) (d : ℕ) (F : Bounded) (ps : List Pending) (t : Tree) → Limits P A d t
       → FormPasses P (nodes-due F (pending A d ∷ ps)) (map ended (node-lines t)) (nodes-due (add P A F t) ps)
-  unfolding Limits node-lines add tests next-due after-node line-kind-of split-again too-deep
-  node-passes A d F ps (split U t x y) l =
-      also (split-good P F A d ps U t (l .0) (l .1) (l .2) (l .3))
+  unfolding Limits node-lines add
+  node-passes A d F ps (leaf l) g = leaf-passes A d F ps l g
+  node-passes A d F ps (fork f x y) g =
+      also (fork-good P F A d ps f (g .0) (g .1))
       (rw (map-both (node-lines x) (node-lines y))
       (both (map ended (node-lines x)) (map ended (node-lines y))
-      (node-passes (fix U t false A) (suc d) (with-split F) (pending (fix U t true A) (suc d) ∷ ps) x (l .4))
-      (node-passes (fix U t true A) (suc d) (add P (fix U t false A) (with-split F) x) ps y (l .5))))
-  node-passes A d F ps (short t) l =
-      let f = node-form P short-line in
-      let x = ended (plain-line short-key (suc t ∷ [])) in
-      one-more (form-passes f x (31 if false ∷ 32 if false ∷ []) .1 (rendered-good f false (suc t ∷ []) (one-fits short-key (P .periods) t l), (refl, (refl, tt)))) refl none-yet
-  node-passes A d F ps (stuck U) l =
-      let f = node-form P stuck-line in
-      let x = ended (plain-line stuck-key (suc U ∷ [])) in
-      one-more (form-passes f x (31 if false ∷ 32 if false ∷ []) .1 (rendered-good f false (suc U ∷ []) (one-fits stuck-key (length (P .units)) U l), (refl, (refl, tt)))) refl none-yet
-  node-passes A d F ps (price q s) l =
-      let f = reserve-form P in
-      let x = ended (plain-line reserve-key s) in
-      let w = multipliers-fit P reserve-key some s (l .1) in
-      also (price-good P F A d ps some q (l .0))
-      (one-more (form-passes f x [] .1 (rendered-good f false s w, tt))
-      (ap (λ (vs : List ℕ). nodes-due (with-leaf F (number (leaf-value P (A .marks) (λ t. q at t) (λ t. vs at t)))) ps) (rendered-numbers f false s w)) none-yet)
+      (node-passes (side f false A) (suc d) (with-split F) (pending (side f true A) (suc d) ∷ ps) x (g .2))
+      (node-passes (side f true A) (suc d) (add P (side f false A) (with-split F) x) ps y (g .3))))

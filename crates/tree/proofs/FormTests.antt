@@ -7,7 +7,7 @@ use mathlib.Core.Option.{Option, none, some}
 use Prim.Native.Nat.{ℕ}
 use native.Mathlib.Omega.{arith}
 use Rattle.model.specs.Instance.{Instance}
-use Rattle.model.specs.Leaf.{any-stuck}
+use Rattle.model.specs.Above.{Above}
 use Rattle.text.specs.Lines.{Line, end-tree}
 use Rattle.text.specs.Forms.{form-tests, word-tests, nothing-tests}
 use Rattle.text.specs.Writer.{writer-form}
@@ -15,9 +15,10 @@ use Rattle.text.specs.Tests.{Test, _if_, FirstTrue, this, after, tests-of-missi
 use Rattle.text.specs.WellFormed.{of-form}
 use Rattle.text.proofs.Tests.{Every, first-every}
 use Rattle.text.proofs.WellFormed.{form-only}
-use Rattle.tree.specs.NodeLines.{line-kind-of, split-again, too-deep, not-short, not-stuck}
-use Rattle.tree.specs.Refusals.{node-form, reserve-form}
-use Rattle.tree.specs.Course.{Due, writer-due, nodes-due, reserve-due, nothing-due, tests, next-due, end}
+use Rattle.tree.specs.Places.{Part, priced}
+use Rattle.tree.specs.NodeLines.{line-kind-of, kind-tests, node-tests, leaf-tests, part-tests}
+use Rattle.tree.specs.Refusals.{LineKind, split-line, short-line, stuck-line, price-line, node-form, part-form}
+use Rattle.tree.specs.Course.{Due, writer-due, nodes-due, part-due, nothing-due, tests, next-due, end}
 use Rattle.tree.specs.Acceptance.{Bounded}
 
 -- ---- any tests, those of the form before the others
@@ -53,6 +54,18 @@ module _ (bs : List Test) (others : Every (λ n. of-form n ≡ false) bs) where
 
 -- ---- the tests of a tree's lines
 
+module _ (P : Instance) (A : Above) (x : Line) (n : ℕ) where
+  kind-first : (d : ℕ) (k : LineKind) → FirstTrue n (form-only (node-tests P A d k x)) ↔ ((of-form n ≡ true) × FirstTrue n (node-tests P A d k x))
+  unfolding kind-tests
+  kind-first d split-line = first-of-form [] tt (node-tests P A d split-line x) (refl, (refl, (refl, (refl, (refl, tt))))) n
+  kind-first d short-line = first-of-form (kind-tests P A d short-line x) (refl, tt) (form-tests (node-form P short-line) x []) (refl, (refl, (refl, tt))) n
+  kind-first d stuck-line = first-of-form (kind-tests P A d stuck-line x) (refl, tt) (form-tests (node-form P stuck-line) x []) (refl, (refl, (refl, tt))) n
+  kind-first d price-line = first-of-form [] tt (node-tests P A d price-line x) (refl, (refl, (refl, tt))) n
+
+  part-first : (p : Part) → FirstTrue n (form-only (part-tests P A p x)) ↔ ((of-form n ≡ true) × FirstTrue n (part-tests P A p x))
+  unfolding leaf-tests
+  part-first (priced q) = first-of-form (leaf-tests P A (priced q)) (refl, tt) (form-tests (part-form P (priced q)) x []) (refl, (refl, (refl, tt))) n
+
 pub form-first : (P : Instance) (s : Due) (left : List Line) (n : ℕ)
     → FirstTrue n (tests-before (λ u l. form-only (tests P u l)) (next-due P) end s left) ↔ ((of-form n ≡ true) × FirstTrue n (tests-before (tests P) (next-due P) end s left))
 unfolding tests
@@ -63,10 +76,6 @@ form-first P s [] n = go (end s)
     go (some v) = first-of-form [] tt [] tt n
 form-first P writer-due (x ∷ left) n = first-of-form [] tt (form-tests writer-form x []) (refl, (refl, (refl, tt))) n
 form-first P (nodes-due F []) (x ∷ left) n = first-of-form [] tt (word-tests end-tree x) (refl, tt) n
-form-first P (nodes-due F (p ∷ ps)) (x ∷ left) n =
-    let k = line-kind-of x in
-    first-of-form (33 if not-short P (p .above) k x ∷ 34 if not-stuck P (p .above) k x ∷ []) (refl, (refl, tt))
-    (form-tests (node-form P k) x (31 if split-again P (p .above) k x ∷ 32 if too-deep (p .depth) k ∷ [])) (refl, (refl, (refl, (refl, (refl, tt))))) n
-form-first P (reserve-due F A q ps) (x ∷ left) n =
-    first-of-form (35 if any-stuck (P .periods) (P .units) (A .marks) ∷ []) (refl, tt) (form-tests (reserve-form P) x []) (refl, (refl, (refl, tt))) n
+form-first P (nodes-due F (p ∷ ps)) (x ∷ left) n = kind-first P (p .above) x n (p .depth) (line-kind-of x)
+form-first P (part-due F A p ps) (x ∷ left) n = part-first P A x n p
 form-first P (nothing-due F) (x ∷ left) n = first-of-form [] tt nothing-tests (refl, tt) n

@@ -10,8 +10,8 @@ use borrow.Author.Tests.{not-true, ne-eqb}
 use Rattle.text.specs.Lines.{Line, missing, unended, ended, bytes-of, due, longer, cut-at, lines-of, line-at, one-line, begins}
 use Rattle.text.proofs.Cuts.{and-both}
 use Rattle.tree.specs.Rendering.{split-key, short-key, stuck-key}
-use Rattle.tree.specs.NodeLines.{line-kind-of}
-use Rattle.tree.specs.Refusals.{split-line, short-line, stuck-line, price-line}
+use Rattle.tree.specs.NodeLines.{node-keys, kind-among, line-kind-of}
+use Rattle.tree.specs.Refusals.{LineKind, split-line, short-line, stuck-line, price-line}
 
 longer-bytes : (b : ℕ) (l : Line) → bytes-of (longer b l) ≡ b ∷ bytes-of l
 longer-bytes b missing = refl
@@ -32,16 +32,19 @@ begins-due (k ∷ key) (b ∷ t) e =
         rw n refl
     go false u v rec = ap (begins (k ∷ key)) (longer-bytes b (due (lines-of t))) ∙ ap (λ (x : Bool). eqb b k && x) rec
 
+abbrev OneLine : List (List ℕ × LineKind) → Type 0
+OneLine [] = Unit {0}
+OneLine (k ∷ ks) = (one-line (k .0) ≡ true) × OneLine ks
+
+among-due : (ks : List (List ℕ × LineKind)) (t : List ℕ) → OneLine ks → kind-among ks (bytes-of (due (lines-of t))) ≡ kind-among ks t
+among-due [] t o = refl
+among-due (k ∷ ks) t o = λ i. cond (begins-due (k .0) t (o .0) i) (k .1) (among-due ks t (o .1) i)
+
 -- what `find_kind` answers at each return
 module _ (text : List ℕ) (here : ℕ) where
-  by-keys : line-kind-of (line-at text here)
-      ≡ cond (begins split-key (drop here text)) split-line
-      (cond (begins short-key (drop here text)) short-line (cond (begins stuck-key (drop here text)) stuck-line price-line))
+  by-keys : line-kind-of (line-at text here) ≡ kind-among node-keys (drop here text)
   unfolding line-kind-of
-  by-keys =
-      ap (λ (x : Bool). cond x split-line (cond (begins short-key (bytes-of (line-at text here))) short-line (cond (begins stuck-key (bytes-of (line-at text here))) stuck-line price-line))) (begins-due split-key (drop here text) refl)
-      ∙ ap (λ (x : Bool). cond (begins split-key (drop here text)) split-line (cond x short-line (cond (begins stuck-key (bytes-of (line-at text here))) stuck-line price-line))) (begins-due short-key (drop here text) refl)
-      ∙ ap (λ (x : Bool). cond (begins split-key (drop here text)) split-line (cond (begins short-key (drop here text)) short-line (cond x stuck-line price-line))) (begins-due stuck-key (drop here text) refl)
+  by-keys = among-due node-keys (drop here text) (refl, (refl, (refl, tt)))
 
   pub split-there : begins split-key (drop here text) ≡ true → split-line ≡ line-kind-of (line-at text here)
   split-there e = sym (by-keys ∙ rw e refl)

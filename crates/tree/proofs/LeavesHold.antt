@@ -1,91 +1,93 @@
 -- Where lines begin the text of a tree and pass all tests, the leaves that end among them hold: a leaf's rule is tested at its last line.
 use mathlib.Core.Path.{_≡_, refl, sym, ap, subst, _∙_}
-use mathlib.Core.Bool.{true, false}
+use mathlib.Core.Bool.{true, false, not}
 use mathlib.Core.List.{List, [], _∷_, _++_, map, append-assoc}
-use Prim.Native.Nat.{ℕ, suc, pred, _-_, _<_}
+use Prim.Native.Nat.{ℕ, suc, pred, _+_, _-_, _<_}
 use native.Mathlib.Omega.{arith}
-use lib.ListN.{length, length-append}
+use lib.Dec.{ltb}
+use lib.ListN.{length, drop, length-append, length-map}
+use lib.Seq.{drop-append-seam}
 use borrow.Author.Tests.{ltb-true, not-false}
 use Rattle.model.specs.Instance.{Instance, _at_}
 use Rattle.model.specs.Ranges.{GoodWriter}
-use Rattle.model.specs.Above.{Above, root, fix}
-use Rattle.model.specs.Leaf.{stuck-at, any-stuck}
-use Rattle.model.specs.Tree.{Tree, split, short, stuck, price, Limits, Holds, never}
-use Rattle.text.specs.Lines.{Line, ended}
+use Rattle.model.specs.Above.{Above, root, Fork, side}
+use Rattle.model.specs.Leaf.{available, stuck-at}
+use Rattle.model.specs.Figures.{no-figures}
+use Rattle.model.specs.Tree.{Leaf, short, stuck, price, Tree, leaf, fork, GoodLeaf, LeafHolds, Limits, Holds}
+use Rattle.text.specs.Lines.{Line, ended, end-tree}
 use Rattle.text.specs.Course.{good}
 use Rattle.text.specs.Rendering.{plain-line}
 use Rattle.text.specs.Writer.{writer-key}
-use Rattle.text.specs.Tests.{_if_, None, one-more}
+use Rattle.text.specs.Tests.{None, one-more}
 use Rattle.text.proofs.Accepted.{rendered-numbers}
 use Rattle.text.proofs.Tests.{good-none}
 use Rattle.text.proofs.Verdicts.{form-passes}
-use Rattle.tree.specs.Rendering.{split-key, short-key, stuck-key, price-key, node-lines, lines-after}
-use Rattle.tree.specs.NodeLines.{line-kind-of, named, not-short, not-stuck}
-use Rattle.tree.specs.Places.{HoldsAmong}
-use Rattle.tree.specs.Refusals.{WrittenTree, short-line, stuck-line, node-form, reserve-form}
-use Rattle.tree.specs.Course.{by-writer, with-split, with-leaf, Pending, pending, Due, writer-due, nodes-due, reserve-due, tests, after-node, next-due, judge}
-use Rattle.tree.specs.Acceptance.{Bounded}
+use Rattle.tree.specs.Rendering.{short-key, stuck-key, price-key, reserve-key, fork-line, leaf-lines, node-lines, lines-after}
+use Rattle.tree.specs.NodeLines.{line-kind-of, named, kind-tests, leaf-tests}
+use Rattle.tree.specs.Places.{priced, HoldsAmong}
+use Rattle.tree.specs.Refusals.{WrittenTree, short-line, stuck-line, node-form, part-form}
+use Rattle.tree.specs.Course.{with-split, Pending, pending, Due, writer-due, nodes-due, part-due, tests, after-node, after-part, next-due, judge}
+use Rattle.tree.specs.Acceptance.{Bounded, bounded}
 use Rattle.tree.proofs.Lines.{one-fits}
-use Rattle.tree.proofs.NodeLines.{rules, is-T, not-T, split-good}
+use Rattle.tree.proofs.Written.{map-both}
+use Rattle.tree.proofs.NodeLines.{is-T, not-T, fork-good}
 use Rattle.tree.proofs.Complete.{Passes, writer-good}
-use Rattle.tree.proofs.Correct.{forest-lines}
-use Rattle.tree.proofs.FormLines.{Limited}
+use Rattle.tree.proofs.LinePlaces.{leaf-line}
 
 module _ (P : Instance) where
   -- ---- at its last line
 
   module _ (A : Above) (d : ℕ) (F : Bounded) (ps : List Pending) where
-    short-held : (t : ℕ) → t < P .periods → None (tests P (nodes-due F (pending A d ∷ ps)) (ended (plain-line short-key (suc t ∷ [])))) → Holds P A (short t)
-    unfolding tests line-kind-of not-short Holds
+    short-held : (t : ℕ) → GoodLeaf P (short t) → None (tests P (nodes-due F (pending A d ∷ ps)) (ended (plain-line short-key (suc t ∷ [])))) → LeafHolds P A (short t)
+    unfolding tests line-kind-of kind-tests GoodLeaf LeafHolds
     short-held t h n =
         let l = ended (plain-line short-key (suc t ∷ [])) in
         let f = node-form P short-line in
-        let v : named f l 0 ≡ t = ap (λ (vs : List ℕ). pred (vs at 0)) (rendered-numbers f false (suc t ∷ []) (one-fits short-key (P .periods) t h)) ∙ omega arith in
-        let g : not-short P A short-line l ≡ false = form-passes f l (rules P A d short-line l) .0 n .1 .1 .1 .0 in
+        let i = named f l 0 in
+        let v : i ≡ t = ap (λ (vs : List ℕ). pred (vs at 0)) (rendered-numbers f false (suc t ∷ []) (one-fits short-key (P .periods) t h)) ∙ omega arith in
+        let g : not (ltb (available P A i) (P .demand at i + P .spare at i)) ≡ false = form-passes f l (kind-tests P A d short-line l) .0 n .1 .0 in
         (h, ltb-true _ _ (not-false _ (rw v at g)))
 
-    stuck-held : (U : ℕ) → U < length (P .units) → None (tests P (nodes-due F (pending A d ∷ ps)) (ended (plain-line stuck-key (suc U ∷ [])))) → Holds P A (stuck U)
-    unfolding tests line-kind-of not-stuck Holds
+    stuck-held : (U : ℕ) → GoodLeaf P (stuck U) → None (tests P (nodes-due F (pending A d ∷ ps)) (ended (plain-line stuck-key (suc U ∷ [])))) → LeafHolds P A (stuck U)
+    unfolding tests line-kind-of kind-tests GoodLeaf LeafHolds
     stuck-held U h n =
         let l = ended (plain-line stuck-key (suc U ∷ [])) in
         let f = node-form P stuck-line in
         let b = stuck-at (P .periods) (P .units) (A .marks) U in
         let v : named f l 0 ≡ U = ap (λ (vs : List ℕ). pred (vs at 0)) (rendered-numbers f false (suc U ∷ []) (one-fits stuck-key (length (P .units)) U h)) ∙ omega arith in
-        let g : not-stuck P A stuck-line l ≡ false = form-passes f l (rules P A d stuck-line l) .0 n .1 .1 .1 .1 .0 in
+        let g : not (stuck-at (P .periods) (P .units) (A .marks) (named f l 0)) ≡ false = form-passes f l (kind-tests P A d stuck-line l) .0 n .1 .0 in
         is-T b (not-false b (rw v at g))
 
-    price-held : (q s : List ℕ) (x : Line) → None (tests P (reserve-due F A q ps) x) → Holds P A (price q s)
-    unfolding tests Holds
-    price-held q s x n =
-        let b = any-stuck (P .periods) (P .units) (A .marks) in
-        not-T b (form-passes (reserve-form P) x (35 if b ∷ []) .0 n .1 .0)
+    price-held : (q r s : List ℕ) (x : Line) → None (tests P (part-due F A (priced q) ps) x) → LeafHolds P A (price r s)
+    unfolding tests leaf-tests LeafHolds
+    price-held q r s x n = not-T _ (form-passes (part-form P (priced q)) x (leaf-tests P A (priced q)) .0 n .1 .0)
 
-  -- ---- line by line
-
-  -- of trees for nodes that are still to be read, the leaves that end among the first k lines
-  abbrev Among : List Pending → ℕ → List Tree → Type 0
-  Among [] k ts = Unit {0}
-  Among (p ∷ ps) k [] = Unit {0}
-  Among (p ∷ ps) k (t ∷ ts) = HoldsAmong P (p .above) k t × Among ps (k - length (node-lines t)) ts
+  -- ---- among the first lines
 
   -- no leaf ends among no lines
   none-held : (A : Above) (t : Tree) (k : ℕ) → k ≡ 0 → HoldsAmong P A k t
   unfolding HoldsAmong
-  none-held A (split U t x y) k e = (none-held (fix U t false A) x (k - 1) (omega arith), none-held (fix U t true A) y (k - 1 - length (node-lines x)) (omega arith))
-  none-held A (short t) k e = λ h. absurd (omega arith)
-  none-held A (stuck U) k e = λ h. absurd (omega arith)
-  none-held A (price q s) k e = λ h. absurd (omega arith)
+  none-held A (leaf l) k e = λ h. absurd (let m = leaf-line l in omega arith)
+  none-held A (fork f x y) k e = (none-held (side f false A) x (k - 1) (omega arith), none-held (side f true A) y (k - 1 - length (node-lines x)) (omega arith))
 
-  none-among : (ps : List Pending) (ts : List Tree) (k : ℕ) → k ≡ 0 → Among ps k ts
-  none-among [] ts k e = tt
-  none-among (p ∷ ps) [] k e = tt
-  none-among (p ∷ ps) (t ∷ ts) k e = (none-held (p .above) t k e, none-among ps ts (k - length (node-lines t)) (omega arith))
+  -- where all hold, those that end there do
+  all-held : (A : Above) (t : Tree) (k : ℕ) → Holds P A t → HoldsAmong P A k t
+  unfolding Holds HoldsAmong
+  all-held A (leaf l) k h = λ _. h
+  all-held A (fork f x y) k h = (all-held (side f false A) x (k - 1) (h .0), all-held (side f true A) y (k - 1 - length (node-lines x)) (h .1))
 
   held : (A : Above) (t : Tree) {j k : ℕ} → j ≡ k → HoldsAmong P A j t → HoldsAmong P A k t
   held A t e h = subst (λ (i : ℕ). HoldsAmong P A i t) e h
 
-  among : (ps : List Pending) (ts : List Tree) {j k : ℕ} → j ≡ k → Among ps j ts → Among ps k ts
-  among ps ts e h = subst (λ (i : ℕ). Among ps i ts) e h
+  -- ---- lines that pass where a tree is due with A above it, and then these nodes: they end inside it, or they go on behind it
+
+  data Passing (A : Above) (t : Tree) (ps : List Pending) (ls : List Line) (s : Due) : Type 0 where
+    inside : length ls < length (node-lines t) → HoldsAmong P A (length ls) t → Passing A t ps ls s
+    behind : (F : Bounded) (rest : List Line) → ls ≡ map ended (node-lines t) ++ rest → Holds P A t → Passes P (nodes-due F ps) rest s → Passing A t ps ls s
+
+  among : (A : Above) (t : Tree) (ps : List Pending) (ls : List Line) (s : Due) → Passing A t ps ls s → HoldsAmong P A (length ls) t
+  among A t ps ls s (inside m h) = h
+  among A t ps ls s (behind F rest e h p) = all-held A t (length ls) h
 
   -- what is due after a line, by what the line is
   moved : (s : Due) {s′ s″ u : Due} {x y : Line} (ls : List Line) → next-due P s x ≡ s′ → x ≡ y → next-due P s y ≡ s″ → Passes P s′ ls u → Passes P s″ ls u
@@ -95,41 +97,80 @@ module _ (P : Instance) where
   unfolding judge
   after-good s s′ x e = good-none (next-due P s x) s′ (tests P s x) e .1
 
-  -- a reserve line that passes, and the lines behind it
-  past-reserve : (F : Bounded) (A : Above) (q r : List ℕ) (ps : List Pending) (y : Line) (ls : List Line) (s : Due) → Passes P (reserve-due F A q ps) (y ∷ ls) s
-      → Holds P A (price q r) × Passes P (next-due P (reserve-due F A q ps) y) ls s
-  past-reserve F A q r ps y ls s (one-more n d h) = (price-held A 0 F ps q r y n, subst (λ (v : Due). Passes P v ls s) (sym d) h)
+  -- ---- a leaf
 
-  -- lines that pass, and begin those of trees for the nodes that are due
-  passed-among : (ls : List Line) (F : Bounded) (ps : List Pending) (s : Due) (ts : List Tree) → Limited P ps ts → (more : List Line)
-      → ls ++ more ≡ map ended (forest-lines ts) → Passes P (nodes-due F ps) ls s → Among ps (length ls) ts
-  unfolding Limits Holds HoldsAmong node-lines next-due after-node line-kind-of
-  passed-among [] F ps s ts l more e h = none-among ps ts 0 refl
-  passed-among (x ∷ ls) F [] s ts l more e h = tt
-  passed-among (x ∷ ls) F (p ∷ ps) s [] l more e h = absurd l
-  passed-among (x ∷ ls) F (p ∷ ps) s (split U t a b ∷ ts) l more e (one-more n d h) =
-      let y : x ≡ ended (plain-line split-key (suc U ∷ suc t ∷ [])) = cc in
-      let r : ls ++ more ≡ map ended ((node-lines a ++ node-lines b) ++ forest-lines ts) = cc in
-      let g = split-good P F (p .above) (p .depth) ps U t (l .0 .0) (l .0 .1) (l .0 .2) (l .0 .3) in
-      let m = passed-among ls (with-split F) (pending (fix U t false (p .above)) (suc (p .depth)) ∷ pending (fix U t true (p .above)) (suc (p .depth)) ∷ ps) s (a ∷ b ∷ ts)
-      (l .0 .4, (l .0 .5, l .1)) more (r ∙ ap (map ended) (append-assoc (node-lines a) (node-lines b) (forest-lines ts))) (moved (nodes-due F (p ∷ ps)) ls d y (after-good _ _ _ g) h) in (
-        (held (fix U t false (p .above)) a (omega arith) (m .0), held (fix U t true (p .above)) b (omega arith) (m .1 .0)),
-        among ps ts (omega (arith, length-append (node-lines a) (node-lines b))) (m .1 .1),
-      )
-  passed-among (x ∷ ls) F (p ∷ ps) s (short t ∷ ts) l more e (one-more n d h) =
+  -- a reserve line that passes, and the lines behind it
+  past-reserve : (A : Above) (F : Bounded) (q r s : List ℕ) (ps : List Pending) (x : Line) (ls : List Line) (u : Due) → Passes P (part-due F A (priced q) ps) (x ∷ ls) u
+      → LeafHolds P A (price r s) × Passes P (next-due P (part-due F A (priced q) ps) x) ls u
+  past-reserve A F q r s ps x ls u (one-more n d h) = (price-held A 0 F ps q r s x n, subst (λ (v : Due). Passes P v ls u) (sym d) h)
+
+  leaf-passing : (A : Above) (d : ℕ) (F : Bounded) (ps : List Pending) (l : Leaf) → GoodLeaf P l → (ls more after : List Line) (s : Due)
+      → ls ++ more ≡ map ended (leaf-lines l) ++ after → Passes P (nodes-due F (pending A d ∷ ps)) ls s → Passing A (leaf l) ps ls s
+  unfolding Holds HoldsAmong node-lines next-due after-node after-part line-kind-of
+  leaf-passing A d F ps l g [] more after s e h = inside (leaf-line l) (none-held A (leaf l) 0 refl)
+  leaf-passing A d F ps (short t) g (x ∷ ls) more after s e (one-more n k h) =
       let y : x ≡ ended (plain-line short-key (suc t ∷ [])) = cc in
-      let m = passed-among ls (with-leaf F never) ps s ts (l .1) more (cc) (moved (nodes-due F (p ∷ ps)) ls d y refl h) in
-      (λ _. short-held (p .above) (p .depth) F ps t (l .0) (subst (λ (z : Line). None (tests P (nodes-due F (p ∷ ps)) z)) y n), among ps ts (omega arith) m)
-  passed-among (x ∷ ls) F (p ∷ ps) s (stuck U ∷ ts) l more e (one-more n d h) =
+      behind _ ls (ap (λ (z : Line). z ∷ ls) y) (short-held A d F ps t g (subst (λ (z : Line). None (tests P (nodes-due F (pending A d ∷ ps)) z)) y n))
+      (moved (nodes-due F (pending A d ∷ ps)) ls k y refl h)
+  leaf-passing A d F ps (stuck U) g (x ∷ ls) more after s e (one-more n k h) =
       let y : x ≡ ended (plain-line stuck-key (suc U ∷ [])) = cc in
-      let m = passed-among ls (with-leaf F never) ps s ts (l .1) more (cc) (moved (nodes-due F (p ∷ ps)) ls d y refl h) in
-      (λ _. stuck-held (p .above) (p .depth) F ps U (l .0) (subst (λ (z : Line). None (tests P (nodes-due F (p ∷ ps)) z)) y n), among ps ts (omega arith) m)
-  passed-among (x ∷ []) F (p ∷ ps) s (price q r ∷ ts) l more e (one-more n d h) = (λ z. absurd (omega arith), none-among ps ts _ (omega arith))
-  passed-among (x ∷ y ∷ ls) F (p ∷ ps) s (price q r ∷ ts) l more e (one-more n d h) =
+      behind _ ls (ap (λ (z : Line). z ∷ ls) y) (stuck-held A d F ps U g (subst (λ (z : Line). None (tests P (nodes-due F (pending A d ∷ ps)) z)) y n))
+      (moved (nodes-due F (pending A d ∷ ps)) ls k y refl h)
+  leaf-passing A d F ps (price q r) g (x ∷ []) more after s e h = inside (omega arith) (λ m. absurd (omega arith))
+  leaf-passing A d F ps (price q r) g (x ∷ y ∷ ls) more after s e (one-more n k h) =
       let z : x ≡ ended (plain-line price-key q) = cc in
-      let k = past-reserve F (p .above) _ r ps y ls s (moved (nodes-due F (p ∷ ps)) (y ∷ ls) d z refl h) in
-      let m = passed-among ls _ ps s ts (l .1) more (cc) (k .1) in
-      (λ _. k .0, among ps ts (omega arith) m)
+      let p = past-reserve A F _ q r ps y ls s (moved (nodes-due F (pending A d ∷ ps)) (y ∷ ls) k z refl h) in
+      let w : y ≡ ended (plain-line reserve-key r) = cc in
+      behind _ ls (λ i. z i ∷ w i ∷ ls) (p .0) (p .1)
+
+  -- ---- a fork
+
+  module _ (A : Above) (f : Fork) (x y : Tree) (ps : List Pending) (s : Due) (z : Line) (first : z ≡ ended (fork-line f)) (ls : List Line) where
+    -- the lines of its first tree stand behind its own, and then lines that pass where its second is due
+    in-second-tree : (rest : List Line) → ls ≡ map ended (node-lines x) ++ rest → Holds P (side f false A) x → Passing (side f true A) y ps rest s
+        → Passing A (fork f x y) ps (z ∷ ls) s
+    unfolding Holds HoldsAmong node-lines
+    in-second-tree rest e h (inside m k) =
+        let n : length ls ≡ length (node-lines x) + length rest =
+        ap (λ (a : List Line). length a) e ∙ length-append (map ended (node-lines x)) rest ∙ ap (λ (i : ℕ). i + length rest) (length-map (node-lines x) ended) in
+        inside (omega (arith, n, m, length-append (node-lines x) (node-lines y))) (all-held (side f false A) x _ h, held (side f true A) y (omega arith) k)
+    in-second-tree rest e h (behind F more q k p) =
+        let X = map ended (node-lines x) in
+        let Y = map ended (node-lines y) in
+        behind F more
+        (λ i. first i ∷ (e ∙ ap (λ (a : List Line). X ++ a) q ∙ sym (append-assoc X Y more) ∙ ap (λ (a : List Line). a ++ more) (sym (map-both (node-lines x) (node-lines y)))) i)
+        (h, k) p
+
+    in-trees : (more after : List Line) (p : Pending) → ls ++ more ≡ map ended (node-lines x) ++ (map ended (node-lines y) ++ after)
+        → Passing (side f false A) x (p ∷ ps) ls s
+        → ((F : Bounded) (rest : List Line) → rest ++ more ≡ map ended (node-lines y) ++ after → Passes P (nodes-due F (p ∷ ps)) rest s → Passing (side f true A) y ps rest s)
+        → Passing A (fork f x y) ps (z ∷ ls) s
+    unfolding HoldsAmong node-lines
+    in-trees more after p e (inside m k) second =
+        inside (omega (arith, m, length-append (node-lines x) (node-lines y))) (held (side f false A) x (omega arith) k, none-held (side f true A) y _ (omega arith))
+    in-trees more after p e (behind F rest q h k) second =
+        let X = map ended (node-lines x) in
+        let Y = map ended (node-lines y) in
+        let r : X ++ (rest ++ more) ≡ X ++ (Y ++ after) = sym (append-assoc X rest more) ∙ ap (λ (a : List Line). a ++ more) (sym q) ∙ e in
+        in-second-tree rest q h
+        (second F rest (sym (drop-append-seam X (rest ++ more)) ∙ ap (drop (length X)) r ∙ drop-append-seam X (Y ++ after)) k)
+
+  -- ---- any tree
+
+  tree-passing : (A : Above) (d : ℕ) (F : Bounded) (ps : List Pending) (t : Tree) → Limits P A d t → (ls more after : List Line) (s : Due)
+      → ls ++ more ≡ map ended (node-lines t) ++ after → Passes P (nodes-due F (pending A d ∷ ps)) ls s → Passing A t ps ls s
+  unfolding Limits node-lines
+  tree-passing A d F ps (leaf l) g ls more after s e h = leaf-passing A d F ps l g ls more after s e h
+  tree-passing A d F ps (fork f x y) g [] more after s e h = inside (omega arith) (none-held A (fork f x y) 0 refl)
+  tree-passing A d F ps (fork f x y) g (z ∷ ls) more after s e (one-more n k h) =
+      let w : z ≡ ended (fork-line f) = cc in
+      let a : ls ++ more ≡ map ended (node-lines x ++ node-lines y) ++ after = cc in
+      let r = a ∙ ap (λ (b : List Line). b ++ after) (map-both (node-lines x) (node-lines y)) ∙ append-assoc (map ended (node-lines x)) (map ended (node-lines y)) after in
+      let B = pending (side f true A) (suc d) in
+      in-trees A f x y ps s z w ls more after B r
+      (tree-passing (side f false A) (suc d) (with-split F) (B ∷ ps) x (g .2) ls more (map ended (node-lines y) ++ after) s r
+      (moved (nodes-due F (pending A d ∷ ps)) ls k w (after-good _ _ _ (fork-good P F A d ps f (g .0) (g .1))) h))
+      (λ G rest q p. tree-passing (side f true A) (suc d) G ps y (g .3) rest more after s q p)
 
   -- ---- the whole text
 
@@ -138,5 +179,7 @@ module _ (P : Instance) where
   leaves-hold v [] more s e g l h = none-held root (v .tree) (0 - 1) (omega arith)
   leaves-hold v (x ∷ ls) more s e g l (one-more n d h) =
       let y : x ≡ ended (plain-line writer-key (v .writer ∷ [])) = cc in
-      let m = passed-among ls (by-writer (v .writer)) (pending root 0 ∷ []) s (v .tree ∷ []) (l, tt) more (cc) (moved writer-due ls d y (after-good _ _ _ (writer-good P (v .writer) g)) h) in
-      held root (v .tree) (omega arith) (m .0)
+      let a : ls ++ more ≡ map ended (node-lines (v .tree) ++ (end-tree ∷ [])) = cc in
+      let p = tree-passing root 0 (bounded (v .writer) no-figures) [] (v .tree) l ls more (ended end-tree ∷ []) s (a ∙ map-both (node-lines (v .tree)) (end-tree ∷ []))
+      (moved writer-due ls d y (after-good _ _ _ (writer-good P (v .writer) g)) h) in
+      held root (v .tree) (omega arith) (among root (v .tree) [] ls s p)

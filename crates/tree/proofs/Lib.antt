@@ -18,6 +18,7 @@ pub mod Unique
 pub mod Witnesses
 pub mod RangeEnds
 pub mod ReserveLine
+pub mod InOrder
 pub mod Rows
 pub mod ReadLines
 pub mod WaysThrough

@@ -1,17 +1,20 @@
 -- One line of numbers in a tree's text: multipliers, and one number that names a unit or a period. It is good exactly where it is the
 -- rendering of such numbers.
 use mathlib.Core.Path.{_≡_, refl}
-use mathlib.Core.Bool.{Bool, true, false}
+use mathlib.Core.Bool.{Bool, true, false, _&&_}
 use mathlib.Core.List.{List, [], _∷_}
 use Prim.Native.Nat.{ℕ, zero, suc, pred, _≤_, _<_}
 use native.Mathlib.Omega.{arith}
+use lib.Dec.{leb}
+use borrow.Author.Tests.{le-leb, leb-true}
 use lib.ListN.{length}
-use Rattle.model.specs.Instance.{Instance}
+use Rattle.model.specs.Instance.{Instance, _at_}
 use Rattle.model.specs.Ranges.{All, GoodPrice}
 use Rattle.model.specs.Tree.{Multipliers}
 use Rattle.text.specs.Lines.{Line, ended}
-use Rattle.text.specs.Forms.{Form, plain, values-of, numbers-of, any-minus, good-line}
+use Rattle.text.specs.Forms.{Form, form, plain, all-within, values-of, numbers-of, any-minus, good-line}
 use Rattle.text.specs.Rendering.{plain-line}
+use Rattle.text.proofs.Cuts.{and-both}
 use Rattle.text.proofs.Accepted.{Fits, rendered-line, good-rendered}
 use Rattle.text.proofs.Plain.{AllBetween, plain-fits, IsPlain, plain-was, one-between}
 use Rattle.tree.specs.NodeLines.{named}
@@ -68,3 +71,36 @@ was-one key hi l g = let w = plain-was key 1 1 hi l g in go (numbers-of (plain k
         let z : suc (pred v) ≡ v = omega arith in
         record { line = rw (e, z) line; range = rw e (omega arith) }
     go (v ∷ w ∷ vs) e c line r = absurd (omega arith)
+
+-- ---- two numbers, each with its range
+
+module _ (key : List ℕ) (a b c d : ℕ) where
+  pub two-fits : (u v : ℕ) → a ≤ u → u ≤ b → c ≤ v → v ≤ d → Fits (form key 0 (a ∷ c ∷ []) (b ∷ d ∷ [])) false (u ∷ v ∷ [])
+  two-fits u v h i j k = record {
+    some = omega arith;
+    count = refl;
+    range = simp (le-leb a u h, le-leb u b i, le-leb c v j, le-leb v d k);
+    sign = λ z. absurd (let y : _≡_ {A = ℕ} 0 1 = cc in omega arith);
+  }
+
+  pub record WasTwo (l : Line) (u v : ℕ) : Type 0 where
+    pub line : l ≡ ended (plain-line key (u ∷ v ∷ []))
+    pub first : (a ≤ u) × (u ≤ b)
+    pub second : (c ≤ v) × (v ≤ d)
+
+  pub was-two : (l : Line) → good-line (form key 0 (a ∷ c ∷ []) (b ∷ d ∷ [])) l ≡ true
+      → let vs = numbers-of (form key 0 (a ∷ c ∷ []) (b ∷ d ∷ [])) l in WasTwo l (vs at 0) (vs at 1)
+  was-two l p =
+      let w = was-written (form key 0 (a ∷ c ∷ []) (b ∷ d ∷ [])) refl l p in
+      go (numbers-of (form key 0 (a ∷ c ∷ []) (b ∷ d ∷ [])) l) (w .line) (w .fits .count) (w .fits .range)
+    where
+      go : (vs : List ℕ) → l ≡ ended (plain-line key vs) → length vs ≡ 2 → all-within vs (a ∷ c ∷ []) (b ∷ d ∷ []) ≡ true → WasTwo l (vs at 0) (vs at 1)
+      go [] line n r = absurd (omega arith)
+      go (u ∷ []) line n r = absurd (omega arith)
+      go (u ∷ v ∷ []) line n r =
+          let x = and-both (leb a u) (leb u b && (leb c v && (leb v d && true))) r in
+          let y = and-both (leb u b) (leb c v && (leb v d && true)) (x .1) in
+          let z = and-both (leb c v) (leb v d && true) (y .1) in
+          let w = and-both (leb v d) true (z .1) in
+          record { line = line; first = (leb-true a u (x .0), leb-true u b (y .0)); second = (leb-true c v (z .0), leb-true v d (w .0)) }
+      go (u ∷ v ∷ w ∷ vs) line n r = absurd (omega arith)

@@ -7,8 +7,9 @@ use Prim.Native.Nat.{ℕ, _≤_}
 use native.Mathlib.Omega.{arith}
 use lib.ListN.{length, replicate, length-replicate}
 use Rattle.model.specs.Instance.{Instance}
-use Rattle.model.specs.Above.{root}
-use Rattle.model.specs.Tree.{Tree, price, Limits, Multipliers}
+use Rattle.model.specs.Above.{Above, root}
+use Rattle.model.specs.Figures.{no-figures}
+use Rattle.model.specs.Tree.{Tree, price, leaf, GoodLeaf, Limits, Multipliers}
 use Rattle.model.proofs.Zeros.{zeros-in}
 use Rattle.text.specs.Lines.{Line, ended, end-tree}
 use Rattle.text.specs.Course.{good}
@@ -20,9 +21,11 @@ use Rattle.text.proofs.Tests.{good-none}
 use Rattle.text.proofs.Verdicts.{form-passes}
 use Rattle.text.proofs.WellFormed.{form-only, none-of-form}
 use Rattle.tree.specs.Rendering.{reserve-key, node-lines, lines-after}
-use Rattle.tree.specs.Refusals.{WrittenTree, InLimits, reserve-form}
-use Rattle.tree.specs.Course.{by-writer, Pending, pending, Due, writer-due, nodes-due, reserve-due, nothing-due, tests, next-due, judge, end}
-use Rattle.tree.specs.Acceptance.{Bounded}
+use Rattle.tree.specs.Places.{Part, priced}
+use Rattle.tree.specs.NodeLines.{leaf-tests}
+use Rattle.tree.specs.Refusals.{WrittenTree, InLimits, part-form}
+use Rattle.tree.specs.Course.{Pending, pending, Due, writer-due, nodes-due, part-due, nothing-due, tests, after-part, next-due, judge, end}
+use Rattle.tree.specs.Acceptance.{Bounded, bounded}
 use Rattle.tree.proofs.Bounds.{add}
 use Rattle.tree.proofs.Lines.{multipliers-fit}
 use Rattle.tree.proofs.Complete.{writer-good, end-good}
@@ -60,10 +63,10 @@ module _ (P : Instance) (some : 1 ≤ P .periods) where
   nothing-more F = record { lines = []; gives = F; all = record { last = nothing-due F; passed = none-yet; ends = refl } }
 
   from-nodes : (ps : List Pending) (F : Bounded) → Completes (nodes-due F ps)
-  unfolding Limits
+  unfolding GoodLeaf Limits
   from-nodes [] F = good-before (ended end-tree) (end-good P F) (nothing-more F)
   from-nodes (p ∷ ps) F =
-      let t = price zeros zeros in
+      let t = leaf (price zeros zeros) in
       let c = from-nodes ps (add P (p .above) F t) in
       record {
         lines = map ended (node-lines t) ++ c .lines;
@@ -75,14 +78,17 @@ module _ (P : Instance) (some : 1 ≤ P .periods) where
         };
       }
 
-  completes : (s : Due) → Completes s
-  unfolding tests next-due
-  completes writer-due = good-before (ended (plain-line writer-key (1 ∷ []))) (writer-good P 1 (omega arith, omega arith)) (from-nodes (pending root 0 ∷ []) (by-writer 1))
-  completes (nodes-due F ps) = from-nodes ps F
-  completes (reserve-due F A q ps) =
+  from-part : (F : Bounded) (A : Above) (p : Part) (ps : List Pending) → Completes (part-due F A p ps)
+  unfolding tests next-due leaf-tests after-part
+  from-part F A (priced q) ps =
       let l = ended (plain-line reserve-key zeros) in
-      one-before l (form-passes (reserve-form P) l [] .1 (rendered-good (reserve-form P) false zeros (multipliers-fit P reserve-key some zeros zeros-fit), tt)) refl
-      (from-nodes ps _)
+      let f = part-form P (priced q) in
+      one-before l (form-passes f l [] .1 (rendered-good f false zeros (multipliers-fit P reserve-key some zeros zeros-fit), tt)) refl (from-nodes ps _)
+
+  completes : (s : Due) → Completes s
+  completes writer-due = good-before (ended (plain-line writer-key (1 ∷ []))) (writer-good P 1 (omega arith, omega arith)) (from-nodes (pending root 0 ∷ []) (bounded 1 no-figures))
+  completes (nodes-due F ps) = from-nodes ps F
+  completes (part-due F A p ps) = from-part F A p ps
   completes (nothing-due F) = nothing-more F
 
   -- ---- so lines that pass begin one

@@ -11,22 +11,23 @@ use lib.Seq.{take-append-le, take-append-add, take-append-seam}
 use borrow.Author.Tests.{ltb-true, ltb-false}
 use Rattle.model.specs.Instance.{Instance}
 use Rattle.model.specs.Ranges.{GoodWriter}
-use Rattle.model.specs.Above.{Above, root, fix}
-use Rattle.model.specs.Tree.{Tree, split, short, stuck, price, Limits, Holds}
+use Rattle.model.specs.Above.{Above, root, Fork, side}
+use Rattle.model.specs.Figures.{no-figures}
+use Rattle.model.specs.Tree.{Leaf, Tree, leaf, fork, GoodLeaf, Limits, Holds}
 use Rattle.text.specs.Lines.{Line, ended, end-tree}
 use Rattle.text.specs.Course.{good}
 use Rattle.text.specs.Tests.{Test, None, Passed, none-yet, one-more}
 use Rattle.text.proofs.Courses.{passed-both}
 use Rattle.text.proofs.Tests.{good-none}
 use Rattle.text.proofs.WellFormed.{form-only, none-of-form}
-use Rattle.tree.specs.Rendering.{node-lines, lines-after}
-use Rattle.tree.specs.Places.{LinePlace, node-at, reserve-at, LineAt, first-line, reserve-line, in-first, in-second, HoldsAmong}
+use Rattle.tree.specs.Rendering.{leaf-lines, node-lines, lines-after}
+use Rattle.tree.specs.Places.{Part, PartAt, reserve-line, LinePlace, node-at, part-at, LineAt, first-line, later-line, in-first, in-second, HoldsAmong}
 use Rattle.tree.specs.Refusals.{WrittenTree}
-use Rattle.tree.specs.Course.{by-writer, with-split, Pending, pending, Due, writer-due, nodes-due, reserve-due, nothing-due, tests, next-due, judge, end}
-use Rattle.tree.specs.Acceptance.{Bounded}
+use Rattle.tree.specs.Course.{with-split, Pending, pending, Due, writer-due, nodes-due, part-due, nothing-due, tests, next-due, judge, end}
+use Rattle.tree.specs.Acceptance.{Bounded, bounded}
 use Rattle.tree.proofs.Bounds.{add}
 use Rattle.tree.proofs.Written.{map-both}
-use Rattle.tree.proofs.NodeLines.{split-good, price-good}
+use Rattle.tree.proofs.NodeLines.{fork-good, price-good}
 use Rattle.tree.proofs.Complete.{node-good, writer-good, end-good}
 use Rattle.tree.proofs.FormLines.{node-passes}
 use Rattle.tree.proofs.LinePlaces.{line-among, line-placed}
@@ -35,7 +36,7 @@ use Rattle.tree.proofs.LinePlaces.{line-among, line-placed}
 
 pub data DueAt : LinePlace → Due → Type 0 where
   node-due : {A : Above} {d : ℕ} {F : Bounded} {ps : List Pending} → DueAt (node-at A d) (nodes-due F (pending A d ∷ ps))
-  reserve-there : {A : Above} {F : Bounded} {q : List ℕ} {ps : List Pending} → DueAt (reserve-at A q) (reserve-due F A q ps)
+  part-there : {A : Above} {F : Bounded} {p : Part} {ps : List Pending} → DueAt (part-at A p) (part-due F A p ps)
 
 -- s is due where line k of the text is
 pub data Stands (v : WrittenTree) (k : ℕ) : Due → Type 0 where
@@ -52,10 +53,10 @@ module _ (P : Instance) (tests′ : Due → Line → List Test) (Asked : Above �
     pub good-line : (s s′ : Due) (x : Line) → judge P s x ≡ good s′ → None (tests′ s x)
     pub whole : (A : Above) (d : ℕ) (F : Bounded) (ps : List Pending) (t : Tree) → Limits P A d t → Asked A t
         → Passed tests′ (next-due P) (nodes-due F (pending A d ∷ ps)) (map ended (node-lines t)) (nodes-due (add P A F t) ps)
-    -- what is asked of the leaves among all lines is what is asked of the tree; of a split it is asked of its two trees
+    -- what is asked of the leaves among all lines is what is asked of the tree; of a fork it is asked of its two trees
     pub all : (A : Above) (k : ℕ) (t : Tree) → length (node-lines t) ≤ k → AskedAmong A k t → Asked A t
-    pub first : (A : Above) (U t k : ℕ) (x y : Tree) → AskedAmong A (suc k) (split U t x y) → AskedAmong (fix U t false A) k x
-    pub second : (A : Above) (U t k : ℕ) (x y : Tree) → AskedAmong A (suc (length (node-lines x) + k)) (split U t x y) → AskedAmong (fix U t true A) k y
+    pub first : (A : Above) (f : Fork) (k : ℕ) (x y : Tree) → AskedAmong A (suc k) (fork f x y) → AskedAmong (side f false A) k x
+    pub second : (A : Above) (f : Fork) (k : ℕ) (x y : Tree) → AskedAmong A (suc (length (node-lines x) + k)) (fork f x y) → AskedAmong (side f true A) k y
 
   module _ (some : 1 ≤ P .periods) (J : Takes) where
     abbrev Passes : Due → List Line → Due → Type 0
@@ -66,31 +67,37 @@ module _ (P : Instance) (tests′ : Due → Line → List Test) (Asked : Above �
     unfolding judge
     also {s} {s′} {s″} {x} e p = one-more (J .good-line s s′ x e) (good-none (next-due P s x) s′ (tests P s x) e .1) p
 
+    -- the lines of a leaf before a later one
+    to-part : {l : Leaf} {k : ℕ} {p : Part} → PartAt l k p → GoodLeaf P l → (A : Above) (d : ℕ) (F : Bounded) (ps : List Pending)
+        → Passes (nodes-due F (pending A d ∷ ps)) (take k (map ended (leaf-lines l))) (part-due F A p ps)
+    unfolding GoodLeaf
+    to-part (reserve-line {q}) g A d F ps = also (price-good P F A d ps some q (g .0)) none-yet
+
     -- the lines of a node before one of its lines
     to-place : {A : Above} {d : ℕ} {x : Tree} {k : ℕ} {w : LinePlace} → LineAt A d x k w → Limits P A d x → AskedAmong A k x → (F : Bounded) (ps : List Pending)
         → (s : Due) × DueAt w s × Passes (nodes-due F (pending A d ∷ ps)) (take k (map ended (node-lines x))) s
     unfolding Limits node-lines
     to-place {A} {d} first-line l g F ps = (nodes-due F (pending A d ∷ ps), node-due, none-yet)
-    to-place {A} {d} {x = price q s} reserve-line l g F ps = (reserve-due F A q ps, reserve-there, also (price-good P F A d ps some q (l .0)) none-yet)
-    to-place {A} {d} {x = split U t x y} (in-first {k = k} a) l g F ps =
-        let r = to-place a (l .4) (J .first A U t k x y g) (with-split F) (pending (fix U t true A) (suc d) ∷ ps) in
+    to-place {A} {d} (later-line {p = p} a) l g F ps = (part-due F A p ps, part-there, to-part a l A d F ps)
+    to-place {A} {d} {x = fork f x y} (in-first {k = k} a) l g F ps =
+        let r = to-place a (l .2) (J .first A f k x y g) (with-split F) (pending (side f true A) (suc d) ∷ ps) in
         let e : take k (map ended (node-lines x ++ node-lines y)) ≡ take k (map ended (node-lines x)) =
         ap (take k) (map-both (node-lines x) (node-lines y))
         ∙ take-append-le k (map ended (node-lines x)) (map ended (node-lines y)) (omega (arith, length-map (node-lines x) ended, line-among a)) in
-        (r .0, r .1, also (split-good P F A d ps U t (l .0) (l .1) (l .2) (l .3)) (rw e (r .2)))
-    to-place {A} {d} {x = split U t x y} (in-second {k = k} a) l g F ps =
+        (r .0, r .1, also (fork-good P F A d ps f (l .0) (l .1)) (rw e (r .2)))
+    to-place {A} {d} {x = fork f x y} (in-second {k = k} a) l g F ps =
         let n = length (node-lines x) in
-        let h = J .all (fix U t false A) (n + k) x (omega arith) (J .first A U t (n + k) x y g) in
-        let r = to-place a (l .5) (J .second A U t k x y g) (add P (fix U t false A) (with-split F) x) ps in
+        let h = J .all (side f false A) (n + k) x (omega arith) (J .first A f (n + k) x y g) in
+        let r = to-place a (l .3) (J .second A f k x y g) (add P (side f false A) (with-split F) x) ps in
         let e : take (n + k) (map ended (node-lines x ++ node-lines y)) ≡ map ended (node-lines x) ++ take k (map ended (node-lines y)) =
         ap (take (n + k)) (map-both (node-lines x) (node-lines y))
         ∙ ap (λ (m : ℕ). take (m + k) (map ended (node-lines x) ++ map ended (node-lines y))) (sym (length-map (node-lines x) ended))
         ∙ take-append-add (map ended (node-lines x)) (map ended (node-lines y)) k in (
           r .0,
           r .1,
-          also (split-good P F A d ps U t (l .0) (l .1) (l .2) (l .3))
+          also (fork-good P F A d ps f (l .0) (l .1))
               (rw e (passed-both tests′ (next-due P) end (map ended (node-lines x)) (take k (map ended (node-lines y)))
-              (J .whole (fix U t false A) (suc d) (with-split F) (pending (fix U t true A) (suc d) ∷ ps) x (l .4) h) (r .2))),
+              (J .whole (side f false A) (suc d) (with-split F) (pending (side f true A) (suc d) ∷ ps) x (l .2) h) (r .2))),
         )
 
     -- the lines of a text
@@ -114,28 +121,28 @@ module _ (P : Instance) (tests′ : Due → Line → List Test) (Asked : Above �
       before : (i : ℕ) → i < length (node-lines (v .tree)) → AskedAmong root i (v .tree) → Comes (suc i)
       before i h g =
           let w = line-placed root 0 (v .tree) i h in
-          let r = to-place (w .1) within g (by-writer (v .writer)) [] in
+          let r = to-place (w .1) within g (bounded (v .writer) no-figures) [] in
           let e = written i ∙ take-append-le i nodes (ended end-tree ∷ []) (omega (arith, length-map (node-lines (v .tree)) ended)) in
           (r .0, at-place refl (w .1) (r .1), also (writer-good P (v .writer) ok) (rw e (r .2)))
 
       all-nodes : (i : ℕ) → length (node-lines (v .tree)) ≤ i → AskedAmong root i (v .tree)
-          → Passes (nodes-due (by-writer (v .writer)) (pending root 0 ∷ [])) nodes (nodes-due (add P root (by-writer (v .writer)) (v .tree)) [])
-      all-nodes i h g = J .whole root 0 (by-writer (v .writer)) [] (v .tree) within (J .all root i (v .tree) h g)
+          → Passes (nodes-due (bounded (v .writer) no-figures) (pending root 0 ∷ [])) nodes (nodes-due (add P root (bounded (v .writer) no-figures) (v .tree)) [])
+      all-nodes i h g = J .whole root 0 (bounded (v .writer) no-figures) [] (v .tree) within (J .all root i (v .tree) h g)
 
       after : (i : ℕ) → length (node-lines (v .tree)) ≤ i → i < 2 + length (node-lines (v .tree)) → AskedAmong root i (v .tree) → Comes (suc i)
       after i h m g = go (i - length (node-lines (v .tree))) (omega arith)
         where
           go : (j : ℕ) → i ≡ length (node-lines (v .tree)) + j → Comes (suc i)
           go zero e = (
-            nodes-due (add P root (by-writer (v .writer)) (v .tree)) [],
+            nodes-due (add P root (bounded (v .writer) no-figures) (v .tree)) [],
             at-end (omega arith),
             also (writer-good P (v .writer) ok) (rw (behind i 0 e) (passed-both tests′ (next-due P) end nodes [] (all-nodes i h g) none-yet)),
           )
           go (suc zero) e = (
-            nothing-due (add P root (by-writer (v .writer)) (v .tree)),
+            nothing-due (add P root (bounded (v .writer) no-figures) (v .tree)),
             past-end (omega arith),
             also (writer-good P (v .writer) ok)
-                (rw (behind i 1 e) (passed-both tests′ (next-due P) end nodes (ended end-tree ∷ []) (all-nodes i h g) (also (end-good P (add P root (by-writer (v .writer)) (v .tree))) none-yet))),
+                (rw (behind i 1 e) (passed-both tests′ (next-due P) end nodes (ended end-tree ∷ []) (all-nodes i h g) (also (end-good P (add P root (bounded (v .writer) no-figures) (v .tree))) none-yet))),
           )
           go (suc (suc j)) e = absurd (omega arith)
 
@@ -167,22 +174,20 @@ form-takes P some = record {
   good-line = λ s s′ x e. none-of-form (tests P s x) (good-none (next-due P s x) s′ (tests P s x) e .0);
   whole = λ A d F ps t l h. node-passes P some A d F ps t l;
   all = λ A k t m h. tt;
-  first = λ A U t k x y h. tt;
-  second = λ A U t k x y h. tt;
+  first = λ A f k x y h. tt;
+  second = λ A f k x y h. tt;
 }
 
 -- ---- all tests ask that the leaves hold
 
 pub all-hold : (P : Instance) (A : Above) (k : ℕ) (t : Tree) → length (node-lines t) ≤ k → HoldsAmong P A k t → Holds P A t
 unfolding HoldsAmong Holds node-lines
-all-hold P A k (split U t x y) m h =
+all-hold P A k (leaf l) m h = h m
+all-hold P A k (fork f x y) m h =
     let e = length-append (node-lines x) (node-lines y) in (
-      all-hold P (fix U t false A) (k - 1) x (omega arith) (h .0),
-      all-hold P (fix U t true A) (k - 1 - length (node-lines x)) y (omega arith) (h .1),
+      all-hold P (side f false A) (k - 1) x (omega arith) (h .0),
+      all-hold P (side f true A) (k - 1 - length (node-lines x)) y (omega arith) (h .1),
     )
-all-hold P A k (short t) m h = h (omega arith)
-all-hold P A k (stuck U) m h = h (omega arith)
-all-hold P A k (price q s) m h = h (omega arith)
 
 pub all-takes : (P : Instance) → 1 ≤ P .periods → Takes P (tests P) (Holds P) (HoldsAmong P)
 unfolding judge HoldsAmong
@@ -190,6 +195,6 @@ all-takes P some = record {
   good-line = λ s s′ x e. good-none (next-due P s x) s′ (tests P s x) e .0;
   whole = node-good P some;
   all = all-hold P;
-  first = λ A U t k x y h. subst (λ (j : ℕ). HoldsAmong P (fix U t false A) j x) (omega arith) (h .0);
-  second = λ A U t k x y h. subst (λ (j : ℕ). HoldsAmong P (fix U t true A) j y) (omega arith) (h .1);
+  first = λ A f k x y h. subst (λ (j : ℕ). HoldsAmong P (side f false A) j x) (omega arith) (h .0);
+  second = λ A f k x y h. subst (λ (j : ℕ). HoldsAmong P (side f true A) j y) (omega arith) (h .1);
 }

@@ -1,37 +1,39 @@
--- What the tests say where a node's first line or a reserve line is due, by renderings and the rules for splits and leaves: n is the first number whose test holds
--- exactly where n refuses the line there.
+-- What the tests say where a node's first line or a later line of a leaf is due, by renderings and the rules for forks and leaves: n is the first number whose test
+-- holds exactly where n refuses the line there.
 use mathlib.Core.Path.{_≡_, refl, sym, ap, subst, _∙_}
-use mathlib.Core.Bool.{Bool, true, false}
+use mathlib.Core.Bool.{Bool, true, false, not}
 use mathlib.Core.List.{List, [], _∷_}
 use mathlib.Core.Logic.{_↔_, _⊎_, inl, inr}
 use Prim.Native.Nat.{ℕ, suc, pred, _+_, _≤_, _<_}
 use native.Mathlib.Omega.{arith}
-use lib.Dec.{T}
+use lib.Dec.{ltb}
 use lib.ListN.{length}
 use borrow.Author.Tests.{lt-ltb, ltb-true, not-true, not-false}
 use Rattle.model.specs.Instance.{Instance, _at_}
-use Rattle.model.specs.Above.{free, Above}
+use Rattle.model.specs.Above.{free, Above, status}
 use Rattle.model.specs.Leaf.{available, stuck-at, any-stuck}
-use Rattle.model.specs.Tree.{price, Limits, Holds, Multipliers}
+use Rattle.model.specs.Tree.{short, stuck, price, GoodLeaf, LeafHolds, Multipliers}
 use Rattle.text.specs.Lines.{Line, missing, ended, due}
 use Rattle.text.specs.Forms.{Form, malformed, numbers-of, form-tests}
 use Rattle.text.specs.Forms as forms
 use Rattle.text.specs.Rendering.{plain-line}
 use Rattle.text.specs.Tests.{Test, _if_, FirstTrue, this, after, tests-before}
 use Rattle.text.specs.LineRefused.{Renders, Unfit, shows-none, miscounted, out-of-range}
-use Rattle.text.proofs.Accepted.{Fits, rendered-good, rendered-numbers}
+use Rattle.text.proofs.Accepted.{rendered-good, rendered-numbers}
+use Rattle.text.proofs.Tests.{first-every}
 use Rattle.text.proofs.Unfit as unfit-laws
 use Rattle.text.proofs.Unfit.{true-not-false, otherwise, first-is, unfit-first, fits-passes, numbers-first}
 use Rattle.text.proofs.Plain.{plain-was}
 use Rattle.text.proofs.Verdicts.{form-passes}
-use Rattle.tree.specs.Rendering.{split-key, short-key, stuck-key, reserve-key}
-use Rattle.tree.specs.NodeLines.{line-kind-of, named, is-fixed, split-again, too-deep, not-short, not-stuck, node-tests, reserve-tests}
+use Rattle.tree.specs.Rendering.{short-key, stuck-key, reserve-key, fork-line}
+use Rattle.tree.specs.Places.{Part, priced}
+use Rattle.tree.specs.NodeLines.{line-kind-of, named, is-fixed, kind-tests, node-tests, leaf-tests, part-tests}
 use Rattle.tree.specs.Refusals as refusals
-use Rattle.tree.specs.Refusals.{NodeBreaks, no-node, unfit, again, ReserveBreaks, unfit-reserve, some-stuck, LineKind, split-line, short-line, stuck-line, price-line, node-form, reserve-form}
-use Rattle.tree.specs.Course.{Pending, pending, nodes-due, reserve-due, tests, next-due, end}
+use Rattle.tree.specs.Refusals.{NodeBreaks, no-node, unfit, again, PartBreaks, unfit-part, some-stuck, LineKind, split-line, short-line, stuck-line, price-line, node-form, part-form}
+use Rattle.tree.specs.Course.{Pending, pending, nodes-due, part-due, tests, next-due, end}
 use Rattle.tree.specs.Acceptance.{Bounded}
 use Rattle.tree.proofs.Lines.{multipliers-fit, was-multipliers, one-fits, was-one}
-use Rattle.tree.proofs.NodeLines.{rules, T-is, is-T, T-not, not-T, free-mark, split-fits, was-split}
+use Rattle.tree.proofs.NodeLines.{T-is, is-T, T-not, not-T, free-mark, split-fits, was-split}
 
 -- of a good line the other tests are left
 good-first : (f : Form) (l : Line) (ts : List Test) (n : ℕ) → forms.good-line f l ≡ true → FirstTrue n ts → FirstTrue n (form-tests f l ts)
@@ -56,81 +58,51 @@ module _ (P : Instance) (A : Above) (d : ℕ) where
   unfit-breaks k l e n (miscounted neg vs r c) = unfit k neg vs r (miscounted neg vs r c)
   unfit-breaks k l e n (out-of-range neg vs r c h) = unfit k neg vs r (out-of-range neg vs r c h)
 
+  -- 32 of a split line that fits its form, on a status that is free
+  deep-breaks : (l : Line) → forms.good-line (node-form P split-line) l ≡ true
+      → is-fixed (A .marks (named (node-form P split-line) l 0) (named (node-form P split-line) l 1)) ≡ false
+      → (n : ℕ) → FirstTrue n (32 if ltb 63 d ∷ []) → NodeBreaks P A d l n
+  deep-breaks l g m n (this e) =
+      let w = was-split P l g in
+      refusals.deeper (named (node-form P split-line) l 0) (named (node-form P split-line) l 1) (w .unit, w .period, free-mark _ m) (w .line) (ltb-true 63 d e)
+
   -- 31, 32, 33, 34 of a line that fits its form
-  module _ (l : Line) where
-    again-breaks : (k : LineKind) → forms.good-line (node-form P k) l ≡ true → split-again P A k l ≡ true → NodeBreaks P A d l 31
-    unfolding split-again
-    again-breaks split-line g e =
-        let w = was-split P l g in
-        again (named (node-form P split-line) l 0) (named (node-form P split-line) l 1) (w .unit) (w .period) (w .line) (λ q. true-not-false _ e (ap is-fixed q))
-    again-breaks short-line g e = true-not-false false e refl
-    again-breaks stuck-line g e = true-not-false false e refl
-    again-breaks price-line g e = true-not-false false e refl
-
-    deep-breaks : (k : LineKind) → forms.good-line (node-form P k) l ≡ true → split-again P A k l ≡ false → too-deep d k ≡ true → NodeBreaks P A d l 32
-    unfolding split-again too-deep
-    deep-breaks split-line g m e =
-        let w = was-split P l g in
-        refusals.deeper (named (node-form P split-line) l 0) (named (node-form P split-line) l 1) (w .unit) (w .period) (w .line) (free-mark _ m) (ltb-true 63 d e)
-    deep-breaks short-line g m e = true-not-false false e refl
-    deep-breaks stuck-line g m e = true-not-false false e refl
-    deep-breaks price-line g m e = true-not-false false e refl
-
-    short-breaks : (k : LineKind) → forms.good-line (node-form P k) l ≡ true → not-short P A k l ≡ true → NodeBreaks P A d l 33
-    unfolding not-short Limits Holds
-    short-breaks split-line g e = true-not-false false e refl
-    short-breaks short-line g e =
-        let w = was-one short-key (P .periods) l g in
-        refusals.short-fails (named (node-form P short-line) l 0) (w .range) (w .line) (λ h. true-not-false _ (lt-ltb _ _ (h .1)) (not-true _ e))
-    short-breaks stuck-line g e = true-not-false false e refl
-    short-breaks price-line g e = true-not-false false e refl
-
-    stuck-breaks : (k : LineKind) → forms.good-line (node-form P k) l ≡ true → not-stuck P A k l ≡ true → NodeBreaks P A d l 34
-    unfolding not-stuck Limits Holds
-    stuck-breaks split-line g e = true-not-false false e refl
-    stuck-breaks short-line g e = true-not-false false e refl
-    stuck-breaks stuck-line g e =
-        let w = was-one stuck-key (length (P .units)) l g in
-        let b = stuck-at (P .periods) (P .units) (A .marks) (named (node-form P stuck-line) l 0) in
-        refusals.stuck-fails (named (node-form P stuck-line) l 0) (w .range) (w .line) (λ h. true-not-false b (T-is b h) (not-true b e))
-    stuck-breaks price-line g e = true-not-false false e refl
-
-    module _ (k : LineKind) (g : forms.good-line (node-form P k) l ≡ true) where
-      from-34 : (n : ℕ) → FirstTrue n (34 if not-stuck P A k l ∷ []) → NodeBreaks P A d l n
-      from-34 n (this e) = stuck-breaks k g e
-
-      from-33 : (n : ℕ) → FirstTrue n (33 if not-short P A k l ∷ 34 if not-stuck P A k l ∷ []) → NodeBreaks P A d l n
-      from-33 n (this e) = short-breaks k g e
-      from-33 n (after m h) = from-34 n h
-
-      from-32 : (n : ℕ) → split-again P A k l ≡ false → FirstTrue n (32 if too-deep d k ∷ 33 if not-short P A k l ∷ 34 if not-stuck P A k l ∷ []) → NodeBreaks P A d l n
-      from-32 n m (this e) = deep-breaks k g m e
-      from-32 n m (after b h) = from-33 n h
-
-      rule-breaks : (n : ℕ) → FirstTrue n (rules P A d k l) → NodeBreaks P A d l n
-      rule-breaks n (this e) = again-breaks k g e
-      rule-breaks n (after m h) = from-32 n m h
+  kind-breaks : (l : Line) (k : LineKind) → forms.good-line (node-form P k) l ≡ true → (n : ℕ) → FirstTrue n (kind-tests P A d k l) → NodeBreaks P A d l n
+  unfolding kind-tests GoodLeaf LeafHolds
+  kind-breaks l split-line g n (this e) =
+      let w = was-split P l g in
+      again (named (node-form P split-line) l 0) (named (node-form P split-line) l 1) (w .unit) (w .period) (w .line) (λ q. true-not-false _ e (ap is-fixed q))
+  kind-breaks l split-line g n (after m h) = deep-breaks l g m n h
+  kind-breaks l short-line g n (this e) =
+      let w = was-one short-key (P .periods) l g in
+      refusals.short-fails (named (node-form P short-line) l 0) (w .range) (w .line) (λ h. true-not-false _ (lt-ltb _ _ (h .1)) (not-true _ e))
+  kind-breaks l stuck-line g n (this e) =
+      let w = was-one stuck-key (length (P .units)) l g in
+      let b = stuck-at (P .periods) (P .units) (A .marks) (named (node-form P stuck-line) l 0) in
+      refusals.stuck-fails (named (node-form P stuck-line) l 0) (w .range) (w .line) (λ h. true-not-false b (T-is b h) (not-true b e))
+  kind-breaks l price-line g n h = absurd (first-every (λ _. ⊥) n [] tt h)
 
   first-breaks : (l : Line) (n : ℕ) → FirstTrue n (node-tests P A d (line-kind-of l) l) → NodeBreaks P A d l n
-  first-breaks l n h = go (first-is (node-form P (line-kind-of l)) l (rules P A d (line-kind-of l) l) n .0 h)
+  first-breaks l n h = go (line-kind-of l) refl (first-is (node-form P (line-kind-of l)) l (kind-tests P A d (line-kind-of l) l) n .0 h)
     where
-      go : Unfit (node-form P (line-kind-of l)) l n ⊎ (((neg : Bool) × (vs : List ℕ) × unfit-laws.Fits (node-form P (line-kind-of l)) l neg vs) × FirstTrue n (rules P A d (line-kind-of l) l)) → NodeBreaks P A d l n
-      go (inl u) = unfit-breaks (line-kind-of l) l refl n u
-      go (inr (t, f)) =
-          let p = fits-passes (node-form P (line-kind-of l)) l (t .0) (t .1) (t .2) in
-          rule-breaks l (line-kind-of l) (form-passes (node-form P (line-kind-of l)) l [] .0 p .0) n f
+      go : (k : LineKind) → line-kind-of l ≡ k
+          → Unfit (node-form P k) l n ⊎ (((neg : Bool) × (vs : List ℕ) × unfit-laws.Fits (node-form P k) l neg vs) × FirstTrue n (kind-tests P A d k l))
+          → NodeBreaks P A d l n
+      go k e (inl u) = unfit-breaks k l e n u
+      go k e (inr (t, f)) =
+          let p = fits-passes (node-form P k) l (t .0) (t .1) (t .2) in
+          kind-breaks l k (form-passes (node-form P k) l [] .0 p .0) n f
 
   -- ---- from refusals to tests
 
   module _ (U t : ℕ) (h : U < length (P .units)) (k : t < P .periods) where
     abbrev on-split : Line
-    on-split = ended (plain-line split-key (suc U ∷ suc t ∷ []))
+    on-split = ended (fork-line (status U t))
 
     on-split-good : forms.good-line (node-form P split-line) on-split ≡ true
     on-split-good = rendered-good (node-form P split-line) false (suc U ∷ suc t ∷ []) (split-fits P U t h k)
 
-    split-mark : split-again P A split-line on-split ≡ is-fixed (A .marks U t)
-    unfolding split-again
+    split-mark : is-fixed (A .marks (named (node-form P split-line) on-split 0) (named (node-form P split-line) on-split 1)) ≡ is-fixed (A .marks U t)
     split-mark =
         let n = rendered-numbers (node-form P split-line) false (suc U ∷ suc t ∷ []) (split-fits P U t h k) in
         let u : named (node-form P split-line) on-split 0 ≡ U = ap (λ (vs : List ℕ). pred (vs at 0)) n ∙ omega arith in
@@ -138,42 +110,45 @@ module _ (P : Instance) (A : Above) (d : ℕ) where
         rw (u, v) refl
 
     again-first : (A .marks U t ≡ free → ⊥) → FirstTrue 31 (node-tests P A d (line-kind-of on-split) on-split)
-    unfolding line-kind-of
-    again-first f = good-first (node-form P split-line) on-split (rules P A d split-line on-split) 31 on-split-good (this (split-mark ∙ otherwise _ (λ e. f (free-mark _ e))))
+    unfolding line-kind-of kind-tests
+    again-first f = good-first (node-form P split-line) on-split (kind-tests P A d split-line on-split) 31 on-split-good (this (split-mark ∙ otherwise _ (λ e. f (free-mark _ e))))
 
     deep-first : A .marks U t ≡ free → 63 < d → FirstTrue 32 (node-tests P A d (line-kind-of on-split) on-split)
-    unfolding line-kind-of too-deep
-    deep-first e b =
-        good-first (node-form P split-line) on-split (rules P A d split-line on-split) 32 on-split-good (after (split-mark ∙ ap is-fixed e) (this (lt-ltb 63 d b)))
+    unfolding line-kind-of kind-tests
+    deep-first f b =
+        good-first (node-form P split-line) on-split (kind-tests P A d split-line on-split) 32 on-split-good (after (split-mark ∙ ap is-fixed f) (this (lt-ltb 63 d b)))
 
-  short-first : (t : ℕ) → t < P .periods → (available (P .units) (A .marks) t < P .demand at t + P .spare at t → ⊥)
+  short-first : (t : ℕ) → GoodLeaf P (short t) → (LeafHolds P A (short t) → ⊥)
       → FirstTrue 33 (node-tests P A d (line-kind-of (ended (plain-line short-key (suc t ∷ [])))) (ended (plain-line short-key (suc t ∷ []))))
-  unfolding line-kind-of split-again too-deep not-short
+  unfolding line-kind-of kind-tests GoodLeaf LeafHolds
   short-first t h f =
       let l = ended (plain-line short-key (suc t ∷ [])) in
       let w = one-fits short-key (P .periods) t h in
-      let v : named (node-form P short-line) l 0 ≡ t = ap (λ (vs : List ℕ). pred (vs at 0)) (rendered-numbers (node-form P short-line) false (suc t ∷ []) w) ∙ omega arith in
-      let r : not-short P A short-line l ≡ true = rw v (otherwise _ (λ e. f (ltb-true _ _ (not-false _ e)))) in
-      good-first (node-form P short-line) l (rules P A d short-line l) 33 (rendered-good (node-form P short-line) false (suc t ∷ []) w) (after refl (after refl (this r)))
+      let i = named (node-form P short-line) l 0 in
+      let v : i ≡ t = ap (λ (vs : List ℕ). pred (vs at 0)) (rendered-numbers (node-form P short-line) false (suc t ∷ []) w) ∙ omega arith in
+      let r : not (ltb (available P A i) (P .demand at i + P .spare at i)) ≡ true =
+      rw v (otherwise _ (λ e. f (h, ltb-true _ _ (not-false _ e)))) in
+      good-first (node-form P short-line) l (kind-tests P A d short-line l) 33 (rendered-good (node-form P short-line) false (suc t ∷ []) w) (this r)
 
-  stuck-first : (U : ℕ) → U < length (P .units) → (T (stuck-at (P .periods) (P .units) (A .marks) U) → ⊥)
+  stuck-first : (U : ℕ) → GoodLeaf P (stuck U) → (LeafHolds P A (stuck U) → ⊥)
       → FirstTrue 34 (node-tests P A d (line-kind-of (ended (plain-line stuck-key (suc U ∷ [])))) (ended (plain-line stuck-key (suc U ∷ []))))
-  unfolding line-kind-of split-again too-deep not-short not-stuck
+  unfolding line-kind-of kind-tests GoodLeaf LeafHolds
   stuck-first U h f =
       let l = ended (plain-line stuck-key (suc U ∷ [])) in
       let w = one-fits stuck-key (length (P .units)) U h in
-      let v : named (node-form P stuck-line) l 0 ≡ U = ap (λ (vs : List ℕ). pred (vs at 0)) (rendered-numbers (node-form P stuck-line) false (suc U ∷ []) w) ∙ omega arith in
-      let r : not-stuck P A stuck-line l ≡ true = rw v (otherwise _ (λ e. let b = stuck-at (P .periods) (P .units) (A .marks) U in f (is-T b (not-false b e)))) in
-      good-first (node-form P stuck-line) l (rules P A d stuck-line l) 34 (rendered-good (node-form P stuck-line) false (suc U ∷ []) w) (after refl (after refl (after refl (this r))))
+      let i = named (node-form P stuck-line) l 0 in
+      let v : i ≡ U = ap (λ (vs : List ℕ). pred (vs at 0)) (rendered-numbers (node-form P stuck-line) false (suc U ∷ []) w) ∙ omega arith in
+      let r : not (stuck-at (P .periods) (P .units) (A .marks) i) ≡ true =
+      rw v (otherwise _ (λ e. let b = stuck-at (P .periods) (P .units) (A .marks) U in f (is-T b (not-false b e)))) in
+      good-first (node-form P stuck-line) l (kind-tests P A d stuck-line l) 34 (rendered-good (node-form P stuck-line) false (suc U ∷ []) w) (this r)
 
   breaks-first : (l : Line) (n : ℕ) → NodeBreaks P A d l n → FirstTrue n (node-tests P A d (line-kind-of l) l)
-  unfolding Limits Holds
-  breaks-first l n (no-node h) = unfit-first (node-form P (line-kind-of l)) l (rules P A d (line-kind-of l) l) 12 (h (line-kind-of l))
+  breaks-first l n (no-node h) = unfit-first (node-form P (line-kind-of l)) l (kind-tests P A d (line-kind-of l) l) 12 (h (line-kind-of l))
   breaks-first l n (unfit k neg vs r u) =
-      subst (λ (i : LineKind). FirstTrue n (node-tests P A d i l)) (sym (kind-shown k l neg vs r)) (unfit-first (node-form P k) l (rules P A d k l) n u)
+      subst (λ (i : LineKind). FirstTrue n (node-tests P A d i l)) (sym (kind-shown k l neg vs r)) (unfit-first (node-form P k) l (kind-tests P A d k l) n u)
   breaks-first l n (again U t h k e f) = subst (λ (x : Line). FirstTrue 31 (node-tests P A d (line-kind-of x) x)) (sym e) (again-first U t h k f)
-  breaks-first l n (refusals.deeper U t h k e f b) = subst (λ (x : Line). FirstTrue 32 (node-tests P A d (line-kind-of x) x)) (sym e) (deep-first U t h k f b)
-  breaks-first l n (refusals.short-fails t h e f) = subst (λ (x : Line). FirstTrue 33 (node-tests P A d (line-kind-of x) x)) (sym e) (short-first t h (λ k. f (h, k)))
+  breaks-first l n (refusals.deeper U t g e b) = subst (λ (x : Line). FirstTrue 32 (node-tests P A d (line-kind-of x) x)) (sym e) (deep-first U t (g .0) (g .1) (g .2) b)
+  breaks-first l n (refusals.short-fails t h e f) = subst (λ (x : Line). FirstTrue 33 (node-tests P A d (line-kind-of x) x)) (sym e) (short-first t h f)
   breaks-first l n (refusals.stuck-fails U h e f) = subst (λ (x : Line). FirstTrue 34 (node-tests P A d (line-kind-of x) x)) (sym e) (stuck-first U h f)
 
   pub node-first : (F : Bounded) (ps : List Pending) (left : List Line) (n : ℕ)
@@ -190,41 +165,41 @@ module _ (P : Instance) (A : Above) (d : ℕ) where
       alone (after e h) = true-not-false true refl e
   node-first F ps (x ∷ left) n = (first-breaks x n, breaks-first x n)
 
--- ---- a reserve line
+-- ---- a later line of a leaf
 
-module _ (P : Instance) (some : 1 ≤ P .periods) (A : Above) (q : List ℕ) where
-  abbrev Tested : Line → ℕ → Type 0
-  Tested l n =
-      Unfit (reserve-form P) l n
-      ⊎ (((neg : Bool) × (vs : List ℕ) × unfit-laws.Fits (reserve-form P) l neg vs) × FirstTrue n (35 if any-stuck (P .periods) (P .units) (A .marks) ∷ []))
+module _ (P : Instance) (some : 1 ≤ P .periods) (A : Above) where
+  abbrev Tested : Part → Line → ℕ → Type 0
+  Tested p l n = Unfit (part-form P p) l n ⊎ (((neg : Bool) × (vs : List ℕ) × unfit-laws.Fits (part-form P p) l neg vs) × FirstTrue n (leaf-tests P A p))
 
-  stuck-there : (l : Line) → forms.good-line (reserve-form P) l ≡ true → (n : ℕ) → FirstTrue n (35 if any-stuck (P .periods) (P .units) (A .marks) ∷ []) → ReserveBreaks P A q l n
-  unfolding Holds
-  stuck-there l g n (this e) =
+  -- 35 of a line that fits its form
+  leaf-breaks : (p : Part) (l : Line) → forms.good-line (part-form P p) l ≡ true → (n : ℕ) → FirstTrue n (leaf-tests P A p) → PartBreaks P A l p n
+  unfolding leaf-tests LeafHolds
+  leaf-breaks (priced q) l g n (this e) =
       let w = plain-was reserve-key (P .periods) 0 1000000000 l g in
       let b = any-stuck (P .periods) (P .units) (A .marks) in
-      some-stuck (numbers-of (reserve-form P) l) (was-multipliers P reserve-key l w) (w .line) (λ h. true-not-false b e (T-not b h))
+      some-stuck q (numbers-of (part-form P (priced q)) l) (was-multipliers P reserve-key l w) (w .line) (λ h. true-not-false b e (T-not b h))
 
-  judged-breaks : (l : Line) (n : ℕ) → Tested l n → ReserveBreaks P A q l n
-  judged-breaks l n (inl u) = unfit-reserve u
-  judged-breaks l n (inr (t, f)) = stuck-there l (form-passes (reserve-form P) l [] .0 (fits-passes (reserve-form P) l (t .0) (t .1) (t .2)) .0) n f
+  judged-breaks : (p : Part) (l : Line) (n : ℕ) → Tested p l n → PartBreaks P A l p n
+  judged-breaks p l n (inl u) = unfit-part u
+  judged-breaks p l n (inr (t, f)) = leaf-breaks p l (form-passes (part-form P p) l [] .0 (fits-passes (part-form P p) l (t .0) (t .1) (t .2)) .0) n f
 
-  stuck-refused : (s : List ℕ) → Multipliers P s → (Holds P A (price q s) → ⊥) → FirstTrue 35 (reserve-tests P A (ended (plain-line reserve-key s)))
-  unfolding Holds
-  stuck-refused s m f =
+  stuck-refused : (q s : List ℕ) → Multipliers P s → (LeafHolds P A (price q s) → ⊥) → FirstTrue 35 (part-tests P A (priced q) (ended (plain-line reserve-key s)))
+  unfolding leaf-tests LeafHolds
+  stuck-refused q s m f =
+      let p = part-form P (priced q) in
       let b = any-stuck (P .periods) (P .units) (A .marks) in
-      good-first (reserve-form P) (ended (plain-line reserve-key s)) (35 if b ∷ []) 35 (rendered-good (reserve-form P) false s (multipliers-fit P reserve-key some s m))
+      good-first p (ended (plain-line reserve-key s)) (leaf-tests P A (priced q)) 35 (rendered-good p false s (multipliers-fit P reserve-key some s m))
       (this (otherwise b (λ e. f (not-T b e))))
 
-  pub reserve-first : (F : Bounded) (ps : List Pending) (left : List Line) (n : ℕ)
-      → FirstTrue n (tests-before (tests P) (next-due P) end (reserve-due F A q ps) left) ↔ ReserveBreaks P A q (due left) n
+  pub part-first : (F : Bounded) (ps : List Pending) (p : Part) (left : List Line) (n : ℕ)
+      → FirstTrue n (tests-before (tests P) (next-due P) end (part-due F A p ps) left) ↔ PartBreaks P A (due left) p n
   unfolding tests
-  reserve-first F ps left n = (λ h. judged-breaks (due left) n (law left n .0 h), back left n)
+  part-first F ps p left n = (λ h. judged-breaks p (due left) n (law p left n .0 h), back p left n)
     where
-      law : (left : List Line) (n : ℕ) → FirstTrue n (tests-before (tests P) (next-due P) end (reserve-due F A q ps) left) ↔ Tested (due left) n
-      law = numbers-first (tests P) (next-due P) end (reserve-due F A q ps) (reserve-form P) (λ l. 35 if any-stuck (P .periods) (P .units) (A .marks) ∷ []) refl (λ l. refl)
+      law : (p : Part) (left : List Line) (n : ℕ) → FirstTrue n (tests-before (tests P) (next-due P) end (part-due F A p ps) left) ↔ Tested p (due left) n
+      law p = numbers-first (tests P) (next-due P) end (part-due F A p ps) (part-form P p) (λ l. leaf-tests P A p) refl (λ l. refl)
 
-      back : (left : List Line) (n : ℕ) → ReserveBreaks P A q (due left) n → FirstTrue n (tests-before (tests P) (next-due P) end (reserve-due F A q ps) left)
-      back left n (unfit-reserve u) = law left n .1 (inl u)
-      back [] n (some-stuck s m e f) = absurd (let z : _≡_ {A = ℕ} 0 1 = cc in omega arith)
-      back (x ∷ left) n (some-stuck s m e f) = subst (λ (l : Line). FirstTrue 35 (reserve-tests P A l)) (sym e) (stuck-refused s m f)
+      back : (p : Part) (left : List Line) (n : ℕ) → PartBreaks P A (due left) p n → FirstTrue n (tests-before (tests P) (next-due P) end (part-due F A p ps) left)
+      back p left n (unfit-part u) = law p left n .1 (inl u)
+      back p [] n (some-stuck q s m e f) = absurd (let z : _≡_ {A = ℕ} 0 1 = cc in omega arith)
+      back p (x ∷ left) n (some-stuck q s m e f) = subst (λ (l : Line). FirstTrue 35 (part-tests P A (priced q) l)) (sym e) (stuck-refused q s m f)

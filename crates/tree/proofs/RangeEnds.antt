@@ -6,15 +6,15 @@ use mathlib.Core.List.{List, [], _∷_, _++_, map}
 use Prim.Native.Nat.{ℕ}
 use Rattle.decimal.specs.Decimal.{digits, digits-by}
 use Rattle.model.specs.Instance.{Instance}
-use Rattle.model.specs.Leaf.{range, available, is-stuck}
+use Rattle.model.specs.Leaf.{range, units-available, available, is-stuck}
 use Rattle.model.specs.Examples.{line, unit1, unit2, periods-of}
 use Rattle.text.specs.Course.{refused-at, judged-from}
 use Rattle.text.specs.Forms.{malformed, wrong-count, outside-range}
 use Rattle.text.specs.Rendering.{plain-line, text-of}
 use Rattle.text.specs.Strings.{bytes, lines}
 use Rattle.tree.specs.Rendering.{split-key}
-use Rattle.tree.specs.NodeLines.{line-kind-of, split-again, too-deep, not-short, not-stuck}
-use Rattle.tree.specs.Course.{tests, after-node, next-due, judge, tree-judged}
+use Rattle.tree.specs.NodeLines.{line-kind-of, kind-tests, leaf-tests}
+use Rattle.tree.specs.Course.{tests, after-node, after-part, next-due, judge, tree-judged}
 
 -- document 01's units in three periods, so that a unit may be 2 at most and a period 3
 abbrev longer : Instance
@@ -37,13 +37,13 @@ pub node-ends : map (λ l. tree-judged longer (lines ("kind=tree" ∷ "writer=1"
     ∷ refused-at 33 3 ∷ refused-at 33 3 ∷ refused-at 13 3 ∷ refused-at 13 3
     ∷ refused-at 34 3 ∷ refused-at 34 3 ∷ refused-at 13 3 ∷ refused-at 13 3
     ∷ refused-at 12 4 ∷ refused-at 13 3 ∷ []
-unfolding tree-judged judged-from judge tests next-due after-node line-kind-of malformed wrong-count outside-range split-again too-deep not-short not-stuck available is-stuck
+unfolding tree-judged judged-from judge tests next-due after-node after-part line-kind-of malformed wrong-count outside-range kind-tests leaf-tests available units-available is-stuck
 node-ends = refl
 
 -- reserve prices 0 and 1,000,000,000, then 1,000,000,001
 pub reserve-ends : map (λ l. tree-judged longer (lines ("kind=tree" ∷ "writer=1" ∷ "price=0,0,0" ∷ l ∷ []))) (
     "reserve=0,1000000000,0" ∷ "reserve=0,1000000001,0" ∷ []) ≡ refused-at 12 5 ∷ refused-at 13 4 ∷ []
-unfolding tree-judged judged-from judge tests next-due after-node line-kind-of malformed wrong-count outside-range split-again too-deep not-short not-stuck is-stuck
+unfolding tree-judged judged-from judge tests next-due after-node after-part line-kind-of malformed wrong-count outside-range kind-tests leaf-tests is-stuck
 reserve-ends = refl
 
 -- ---- the depth
@@ -58,7 +58,7 @@ under-64 ls =
 pub depth-ends : map (λ ls. tree-judged (periods-of 48 (unit1 ∷ unit2 ∷ [])) (under-64 ls)) (
     [] ∷ (bytes "split=2,17" ∷ []) ∷ (bytes "split=02,17" ∷ []) ∷ (bytes "split=2" ∷ []) ∷ (bytes "split=2,49" ∷ []) ∷ (bytes "split=1,1" ∷ []) ∷ [])
     ≡ refused-at 12 67 ∷ refused-at 32 67 ∷ refused-at 12 67 ∷ refused-at 14 67 ∷ refused-at 13 67 ∷ refused-at 31 67 ∷ []
-unfolding tree-judged judged-from judge tests next-due after-node line-kind-of malformed wrong-count outside-range split-again too-deep not-short not-stuck digits digits-by
+unfolding tree-judged judged-from judge tests next-due after-node after-part line-kind-of malformed wrong-count outside-range kind-tests leaf-tests digits digits-by
 depth-ends = refl
 
 -- ---- the order of the numbers on a line: each breaks two, and the first of them refuses it
@@ -75,7 +75,7 @@ pub form-order : map (λ ls. tree-judged longer (lines ("kind=tree" ∷ ls))) (
     ≡ refused-at 12 2 ∷ refused-at 12 2 ∷ refused-at 14 2 ∷ refused-at 12 3 ∷ refused-at 12 3 ∷ refused-at 14 3
     ∷ refused-at 12 3 ∷ refused-at 12 3 ∷ refused-at 14 3 ∷ refused-at 12 3 ∷ refused-at 12 3 ∷ refused-at 14 3
     ∷ refused-at 12 3 ∷ refused-at 12 3 ∷ refused-at 14 3 ∷ refused-at 12 4 ∷ refused-at 12 4 ∷ refused-at 14 4 ∷ []
-unfolding tree-judged judged-from judge tests next-due after-node line-kind-of malformed wrong-count outside-range split-again too-deep not-short not-stuck available is-stuck
+unfolding tree-judged judged-from judge tests next-due after-node after-part line-kind-of malformed wrong-count outside-range kind-tests leaf-tests available units-available is-stuck
 form-order = refl
 
 -- 31 with 12 and with 14, below split=1,1; a unit 0 is 13, whatever is fixed of unit 1. 33 with 12, with 14 and with 13; 34 the same
@@ -86,7 +86,7 @@ pub leaf-order : map (λ ls. tree-judged longer (lines ("kind=tree" ∷ "writer=
     ≡ refused-at 31 4 ∷ refused-at 12 4 ∷ refused-at 14 4 ∷ refused-at 13 4
     ∷ refused-at 33 3 ∷ refused-at 12 3 ∷ refused-at 14 3 ∷ refused-at 13 3
     ∷ refused-at 34 3 ∷ refused-at 12 3 ∷ refused-at 14 3 ∷ refused-at 13 3 ∷ []
-unfolding tree-judged judged-from judge tests next-due after-node line-kind-of malformed wrong-count outside-range split-again too-deep not-short not-stuck available is-stuck
+unfolding tree-judged judged-from judge tests next-due after-node after-part line-kind-of malformed wrong-count outside-range kind-tests leaf-tests available units-available is-stuck
 leaf-order = refl
 
 -- 35 with 12, with 14 and with 13: the only unit was on for one period of TU 2, and is off in period 1. At the price line it refuses nothing
@@ -94,5 +94,5 @@ pub stuck-order : map (λ ls. tree-judged (periods-of 2 (line 0 0 0 1 9 2 1 true
     ("price=1,1" ∷ "reserve=1,1" ∷ []) ∷ ("price=1,1" ∷ "reserve=01,1" ∷ []) ∷ ("price=1,1" ∷ "reserve=1" ∷ []) ∷ ("price=1,1" ∷ "reserve=1,1000000001" ∷ [])
     ∷ ("price=1,1" ∷ []) ∷ ("price=01,1" ∷ []) ∷ ("price=1" ∷ []) ∷ ("price=1,1000000001" ∷ []) ∷ [])
     ≡ refused-at 35 5 ∷ refused-at 12 5 ∷ refused-at 14 5 ∷ refused-at 13 5 ∷ refused-at 12 5 ∷ refused-at 12 4 ∷ refused-at 14 4 ∷ refused-at 13 4 ∷ []
-unfolding tree-judged judged-from judge tests next-due after-node line-kind-of malformed wrong-count outside-range split-again too-deep not-short not-stuck is-stuck
+unfolding tree-judged judged-from judge tests next-due after-node after-part line-kind-of malformed wrong-count outside-range kind-tests leaf-tests is-stuck
 stuck-order = refl

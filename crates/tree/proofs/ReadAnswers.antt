@@ -10,8 +10,7 @@ use lib.ListN.{length}
 use Rattle.model.specs.Instance.{Instance}
 use Rattle.model.specs.Ranges.{WellFormed}
 use Rattle.model.specs.Above.{Above}
-use Rattle.model.specs.Tree.{never, number}
-use Rattle.model.specs.Tree as model
+use Rattle.model.specs.declared.figures.TreeFigures.{TreeFigures}
 use Rattle.text.specs.Lines.{Line, due, end-tree}
 use Rattle.text.specs.Course.{Judged, refused-at, accepted}
 use Rattle.text.specs.Forms.{Form}
@@ -20,46 +19,34 @@ use Rattle.text.specs.Writer.{writer-form}
 use Rattle.refusal.proofs.Places.{line-only}
 use Rattle.refusal.specs.Refusals.{carries-line, refusal-of, line-refusal}
 use Rattle.refusal.specs.declared.Refusal.{Refusal}
-use Rattle.tree.specs.declared.figures.Bound.{Bound}
 use Rattle.tree.specs.declared.TreeRead.the-variants as answer
 use Rattle.tree.specs.Course.{IsTree, tree-judged}
-use Rattle.tree.specs.Acceptance.{Accepts, Bounded}
-use Rattle.tree.specs.Refusals.{WrittenTree, written-lines, NodeBreaks, no-node, unfit, again, deeper, short-fails, stuck-fails, ReserveBreaks, unfit-reserve, some-stuck, Breaks, at-writer, at-node, at-reserve, HoldsSoFar, RefusedAt, node-form, reserve-form}
-use Rattle.tree.specs.Coded.{bound-of}
-use Rattle.tree.specs.ReadAnswers.{coded, read-as, tree-read}
-use Rattle.tree.proofs.Bounds.{coded-is, figures-same}
+use Rattle.tree.specs.Acceptance.{Bounded, bounded, Accepts}
+use Rattle.tree.specs.Places.{Part}
+use Rattle.tree.specs.Refusals.{WrittenTree, written-lines, NodeBreaks, no-node, unfit, again, deeper, short-fails, stuck-fails, PartBreaks, unfit-part, some-stuck, Breaks, at-writer, at-node, at-part, HoldsSoFar, RefusedAt, node-form, part-form}
+use Rattle.tree.specs.ReadAnswers.{read-as, tree-read}
 use Rattle.tree.proofs.Acceptance.{accepted-is, refused-is}
 
 -- ---- accepted
 
-bound-coded : (b : model.Bound) → bound-of (coded b) ≡ b
-bound-coded never = refl
-bound-coded (number z) = refl
-
--- the figures that an answer carries
-abbrev pub figures-in : ℕ → Bound → ℕ → ℕ → Bounded
-figures-in w b m n = record { writer = w; bound = bound-of b; splits = m; leaves = n }
-
-module _ (P : Instance) (text : List ℕ) (w : ℕ) (b : Bound) (m n : ℕ) where
-  judged-accepted : tree-read P text ≡ answer.Accepted w b m n → tree-judged P text ≡ accepted (figures-in w b m n)
+module _ (P : Instance) (text : List ℕ) (w : ℕ) (S : TreeFigures) where
+  judged-accepted : tree-read P text ≡ answer.Accepted w S → tree-judged P text ≡ accepted (bounded w S)
   unfolding tree-read read-as
   judged-accepted e = go (tree-judged P text) e
     where
-      go : (j : Judged Bounded) → read-as j ≡ answer.Accepted w b m n → j ≡ accepted (figures-in w b m n)
+      go : (j : Judged Bounded) → read-as j ≡ answer.Accepted w S → j ≡ accepted (bounded w S)
       go (refused-at k l) e = absurd (let z : _≡_ {A = ℕ} 0 1 = cc in omega arith)
       go (accepted F) e =
-          let q : coded (F .bound) ≡ b = cc in
-          ap accepted (figures-same (cc) (sym (bound-coded (F .bound)) ∙ ap bound-of q) (cc) (cc))
-
-  accepted-judged : tree-judged P text ≡ accepted (figures-in w b m n) → tree-read P text ≡ answer.Accepted w b m n
-  unfolding tree-read read-as
-  accepted-judged e = ap read-as e ∙ ap (λ (x : Bound). answer.Accepted w x m n) (coded-is b)
+          let p : F .writer ≡ w = cc in
+          let q : F .figures ≡ S = cc in
+          λ i. accepted (bounded (p i) (q i))
 
   -- read_tree accepts exactly the texts of good trees, each with the tree's figures
-  pub read-accepted : WellFormed P → IsTree text → (tree-read P text ≡ answer.Accepted w b m n) ↔ Accepts P text (figures-in w b m n)
+  pub read-accepted : WellFormed P → IsTree text → (tree-read P text ≡ answer.Accepted w S) ↔ Accepts P text (bounded w S)
+  unfolding tree-read read-as
   read-accepted W i =
-      let a = accepted-is P text i (figures-in w b m n) W in
-      ((λ e. a .0 (judged-accepted e)), (λ x. accepted-judged (a .1 x)))
+      let a = accepted-is P text i (bounded w S) W in
+      ((λ e. a .0 (judged-accepted e)), (λ x. ap read-as (a .1 x)))
 
 -- ---- refused
 
@@ -78,20 +65,20 @@ unfolding carries-line
 node-lined P A d x n (no-node h) = refl
 node-lined P A d x n (unfit k neg vs r u) = unfit-lined (node-form P k) x n u
 node-lined P A d x n (again U t h k e f) = refl
-node-lined P A d x n (deeper U t h k e f b) = refl
+node-lined P A d x n (deeper U t g e b) = refl
 node-lined P A d x n (short-fails t h e f) = refl
 node-lined P A d x n (stuck-fails U h e f) = refl
 
-reserve-lined : (P : Instance) (A : Above) (q : List ℕ) (x : Line) (n : ℕ) → ReserveBreaks P A q x n → Lined n
+part-lined : (P : Instance) (A : Above) (p : Part) (x : Line) (n : ℕ) → PartBreaks P A x p n → Lined n
 unfolding carries-line
-reserve-lined P A q x n (unfit-reserve u) = unfit-lined (reserve-form P) x n u
-reserve-lined P A q x n (some-stuck s m e f) = refl
+part-lined P A p x n (unfit-part u) = unfit-lined (part-form P p) x n u
+part-lined P A p x n (some-stuck q s m e f) = refl
 
 breaks-lined : (P : Instance) (v : WrittenTree) (k : ℕ) (x : Line) (n : ℕ) → Breaks P v k x n → Lined n
 unfolding carries-line
 breaks-lined P v k x n (at-writer e u) = unfit-lined writer-form x n u
 breaks-lined P v k x n (at-node {d = d} {A = A} e a b) = node-lined P A d x n b
-breaks-lined P v k x n (at-reserve {A = A} {q = q} e a b) = reserve-lined P A q x n b
+breaks-lined P v k x n (at-part {A = A} {p = p} e a b) = part-lined P A p x n b
 
 pub refused-carries : (P : Instance) (text : List ℕ) (n l : ℕ) → RefusedAt P text n l → refusal-of n l 0 0 ≡ line-refusal n l
 unfolding carries-line

@@ -8,23 +8,22 @@ use native.Mathlib.Omega.{arith}
 use lib.ListN.{drop}
 use Rattle.model.specs.Instance.{Instance}
 use Rattle.model.specs.Above.{Above}
-use Rattle.model.specs.Tree.{Bound}
+use Rattle.model.specs.declared.figures.TreeFigures.{TreeFigures}
+use Rattle.model.specs.Figures.{no-figures}
 use Rattle.text.specs.Lines.{Line, missing, unended, ended, bytes-of, due, later, lines-of, line-at}
 use Rattle.text.specs.Forms.{malformed, place-after}
 use Rattle.text.specs.Course.{Found, refused, good, Judged, refused-at, judged-from}
 use Rattle.text.specs.Tests.{found}
 use Rattle.text.proofs.Tests.{found-refused-is, none-good, good-none}
 use Rattle.text.proofs.LineByLine as steps
-use Rattle.tree.specs.declared.figures.Tally.{Tally}
 use Rattle.tree.specs.declared.leaf.Read.{Read}
 use Rattle.tree.specs.declared.leaf.Read.the-variants.{Refused, Tree}
 use Rattle.tree.specs.NodeLines.{line-kind-of}
 use Rattle.tree.specs.Refusals.{LineKind, split-line, short-line, stuck-line, price-line}
-use Rattle.tree.specs.Course.{Pending, pending, Due, writer-due, nodes-due, reserve-due, nothing-due, tests, next-due, after-node, judge, end}
-use Rattle.tree.specs.Acceptance.{Bounded}
-use Rattle.tree.specs.Coded.{bounded, tally-of, none-read}
+use Rattle.tree.specs.Places.{Part, priced}
+use Rattle.tree.specs.Course.{Pending, pending, Due, writer-due, nodes-due, part-due, nothing-due, tests, next-due, after-node, after-part, judge, end}
+use Rattle.tree.specs.Acceptance.{Bounded, bounded}
 use Rattle.tree.specs.ReadAnswers.{all-read, read-lines, read-from, node-read, trees-read, Placed}
-use Rattle.tree.proofs.Bounds.{coded-back}
 use Rattle.tree.proofs.Rows.{unread, Moved, ended-moved}
 
 -- ---- one line
@@ -35,7 +34,7 @@ unfolding judge tests line-kind-of malformed
 judge-missing P writer-due = refl
 judge-missing P (nodes-due F []) = refl
 judge-missing P (nodes-due F (p ∷ ps)) = refl
-judge-missing P (reserve-due F A q ps) = refl
+judge-missing P (part-due F A p ps) = refl
 judge-missing P (nothing-due F) = refl
 
 -- for a whole text
@@ -53,11 +52,11 @@ module _ (P : Instance) (text : List ℕ) (at l : ℕ) (s : Due) (e : end s ≡ 
 
 -- for a reader
 module _ (P : Instance) (text : List ℕ) (at l : ℕ) where
-  pub read-over : (F : Bounded) → read-from P text at l (nodes-due F []) ≡ Tree at l (tally-of F)
+  pub read-over : (F : Bounded) → read-from P text at l (nodes-due F []) ≡ Tree at l (F .figures)
   unfolding read-lines
   read-over F = go (lines-of (drop at text))
     where
-      go : (ls : List Line) → read-lines P at l (nodes-due F []) ls ≡ Tree at l (tally-of F)
+      go : (ls : List Line) → read-lines P at l (nodes-due F []) ls ≡ Tree at l (F .figures)
       go [] = refl
       go (x ∷ ls) = refl
 
@@ -99,24 +98,24 @@ module _ (P : Instance) (text : List ℕ) (at l : ℕ) where
 abbrev pub InTree : Due → Type 0
 InTree writer-due = ⊥
 InTree (nodes-due F ps) = Unit {0}
-InTree (reserve-due F A q ps) = Unit {0}
+InTree (part-due F A p ps) = Unit {0}
 InTree (nothing-due F) = ⊥
 
 -- what was read before
-abbrev pub held : Due → Tally
-held writer-due = none-read
-held (nodes-due F ps) = tally-of F
-held (reserve-due F A q ps) = tally-of F
-held (nothing-due F) = tally-of F
+abbrev pub held : Due → TreeFigures
+held writer-due = no-figures
+held (nodes-due F ps) = F .figures
+held (part-due F A p ps) = F .figures
+held (nothing-due F) = F .figures
 
 abbrev by : ℕ → Bounded → Bounded
-by w F = record { writer = w; bound = F .bound; splits = F .splits; leaves = F .leaves }
+by w F = bounded w (F .figures)
 
 -- the same in a text by the writer w, with the nodes `rest` after it
 abbrev pub within : ℕ → List Pending → Due → Due
 within w rest writer-due = writer-due
 within w rest (nodes-due F ps) = nodes-due (by w F) (ps ++ rest)
-within w rest (reserve-due F A q ps) = reserve-due (by w F) A q (ps ++ rest)
+within w rest (part-due F A p ps) = part-due (by w F) A p (ps ++ rest)
 within w rest (nothing-due F) = nothing-due F
 
 -- what holds where a line of a node is due, and x stands there
@@ -155,18 +154,21 @@ node-line P F p ps x = record {
     go stuck-line = ((λ w rest. refl), tt, omega arith)
     go price-line = ((λ w rest. refl), tt, omega arith)
 
-reserve-line : (P : Instance) (F : Bounded) (A : Above) (q : List ℕ) (ps : List Pending) (x : Line) → NodeLine P (reserve-due F A q ps) x
-unfolding judge tests malformed next-due
-reserve-line P F A q ps x = record {
+part-line : (P : Instance) (F : Bounded) (A : Above) (p : Part) (ps : List Pending) (x : Line) → NodeLine P (part-due F A p ps) x
+unfolding judge tests malformed next-due after-part
+part-line P F A p ps x = record {
   not-over = refl;
   none-over = λ w rest. refl;
   none-ends = λ w rest. refl;
   same-tests = λ w rest. refl;
-  same-next = λ w rest. refl;
-  goes-in = tt;
-  counted = omega arith;
+  same-next = go p .0;
+  goes-in = go p .1;
+  counted = go p .2;
   unended-12 = λ b. refl;
 }
+  where
+    go : (p : Part) → Goes (part-due F A p ps) (λ w rest. after-part P (by w F) A p (ps ++ rest) x) (after-part P F A p ps x)
+    go (priced q) = ((λ w rest. refl), tt, omega arith)
 
 -- ---- what holds where no node is left, and of each line of a node, holds of every reading
 
@@ -213,7 +215,7 @@ module _ (P : Instance) (text : List ℕ) (Claim : ℕ → ℕ → Due → Type 
   reading-of k below at l writer-due t h = absurd t
   reading-of k below at l (nodes-due F []) t h = done at l F
   reading-of k below at l (nodes-due F (p ∷ ps)) t h = line-of k below at l (nodes-due F (p ∷ ps)) (node-line P F p ps (line-at text at)) h
-  reading-of k below at l (reserve-due F A q ps) t h = line-of k below at l (reserve-due F A q ps) (reserve-line P F A q ps (line-at text at)) h
+  reading-of k below at l (part-due F A p ps) t h = line-of k below at l (part-due F A p ps) (part-line P F A p ps (line-at text at)) h
   reading-of k below at l (nothing-due F) t h = absurd t
 
   all-below : (k : ℕ) → Below k
@@ -224,9 +226,6 @@ module _ (P : Instance) (text : List ℕ) (Claim : ℕ → ℕ → Due → Type 
   every-reading at l s t = all-below (suc (unread text at)) at l s t (omega arith)
 
 -- ---- one reading after another, and a whole text
-
-figures-back : (w : ℕ) (F : Bounded) → by w F ≡ bounded w (tally-of F)
-figures-back w F = ap (λ (b : Bound). record { writer = w; bound = b; splits = F .splits; leaves = F .leaves }) (sym (coded-back (F .bound)))
 
 module _ (P : Instance) (text : List ℕ) {X : Type 0} (course : ℕ → ℕ → Due → X) (refusal : ℕ → ℕ → X) (w : ℕ) (rest : List Pending) where
   -- on from what was read, by the writer w, with `rest` still to be read
@@ -239,7 +238,7 @@ module _ (P : Instance) (text : List ℕ) {X : Type 0} (course : ℕ → ℕ →
       → course at l (within w rest s) ≡ course (place-after (line-at text at) at) (l + 1) s′) where
     pub goes-on : (at l : ℕ) (s : Due) → InTree s → course at l (within w rest s) ≡ on (read-from P text at l s)
     goes-on = every-reading P text (λ at l s. course at l (within w rest s) ≡ on (read-from P text at l s))
-        (λ at l F. ap (λ (G : Bounded). course at l (nodes-due G rest)) (figures-back w F) ∙ ap on (sym (read-over P text at l F)))
+        (λ at l F. ap on (sym (read-over P text at l F)))
         (λ at l s i n j. stop at l s i n (j .inside w rest) ∙ ap on (sym (read-refused P text at l s (i .not-over) n (j .alone))))
         (λ at l s i j m c. pass at l s _ i (j .inside w rest) m ∙ c ∙ ap on (sym (read-good P text at l s (i .not-over) _ _ (j .alone) m)))
 
@@ -247,7 +246,7 @@ module _ (P : Instance) (text : List ℕ) {X : Type 0} (course : ℕ → ℕ →
 abbrev pub read-on : Instance → List ℕ → ℕ → List Pending → Read → Judged Bounded
 read-on P text w rest r = on P text (judged-at P text) refused-at w rest r
 
-module _ (P : Instance) (text : List ℕ) (at l : ℕ) (S : Tally) (A : Above) (d : ℕ) where
+module _ (P : Instance) (text : List ℕ) (at l : ℕ) (S : TreeFigures) (A : Above) (d : ℕ) where
   -- document 01's judgement of a text, from a node on, is that of what follows the node as it was read
   pub node-judged : (w : ℕ) (rest : List Pending) → judged-at P text at l (nodes-due (bounded w S) (pending A d ∷ rest)) ≡ read-on P text w rest (node-read P text at l S A d)
   unfolding node-read
@@ -269,7 +268,7 @@ module _ (P : Instance) (text : List ℕ) (at l : ℕ) (S : Tally) (A : Above) (
 -- ---- places
 
 -- after a line
-pub moved-placed : (text : List ℕ) (at l : ℕ) (S : Tally) → Placed text at l S → (place : ℕ) → Moved text at place → (S′ : Tally)
+pub moved-placed : (text : List ℕ) (at l : ℕ) (S : TreeFigures) → Placed text at l S → (place : ℕ) → Moved text at place → (S′ : TreeFigures)
     → S′ .splits + S′ .leaves ≤ S .splits + S .leaves + 1 → Placed text place (l + 1) S′
 moved-placed text at l S p place m S′ h =
     let a = p .short in
@@ -280,11 +279,11 @@ moved-placed text at l S p place m S′ h =
     record { short = a; inside = e; numbered = omega arith; counted = omega arith }
 
 -- one line at least is still to come
-abbrev left : Option Tally → ℕ
+abbrev left : Option TreeFigures → ℕ
 left none = 1
 left (some S) = 0
 
-left-one : (o : Option Tally) → left o ≤ 1
+left-one : (o : Option TreeFigures) → left o ≤ 1
 left-one none = omega arith
 left-one (some S) = omega arith
 
@@ -312,7 +311,7 @@ abbrev pub Past : List ℕ → ℕ → Read → Type 0
 Past text at (Refused n l) = Unit {0}
 Past text at (Tree place l S) = Placed text place l S × (unread text place < unread text at)
 
-pub node-past : (P : Instance) (text : List ℕ) (at l : ℕ) (S : Tally) (A : Above) (d : ℕ) → Placed text at l S → (r : Read) → r ≡ node-read P text at l S A d → Past text at r
+pub node-past : (P : Instance) (text : List ℕ) (at l : ℕ) (S : TreeFigures) (A : Above) (d : ℕ) → Placed text at l S → (r : Read) → r ≡ node-read P text at l S A d → Past text at r
 unfolding node-read
 node-past P text at l S A d p r e =
     let s = nodes-due (bounded 0 S) (pending A d ∷ []) in

@@ -2,13 +2,13 @@
 use mathlib.Core.Path.{_≡_, refl, sym, ap, _∙_}
 use mathlib.Core.Bool.{Bool, true, false, cond}
 use mathlib.Core.List.{List, [], _∷_}
-use Prim.Native.Nat.{ℕ, suc, pred, _-_, _≤_, _<_}
+use Prim.Native.Nat.{ℕ, pred, _-_, _≤_, _<_}
 use native.Mathlib.Omega.{arith}
 use lib.Dec.{ltb}
 use lib.ListN.{length}
 use borrow.Author.Tests.{ltb-false}
 use Rattle.model.specs.Instance.{Instance, _at_}
-use Rattle.model.specs.Above.{Above, fix}
+use Rattle.model.specs.Above.{Above, status}
 use Rattle.text.specs.Lines.{line-at}
 use Rattle.text.specs.Forms.{numbers-of, place-after}
 use Rattle.text.specs.Forms as forms
@@ -18,11 +18,11 @@ use Rattle.text.proofs.Tests.{found-refused-is, none-good, good-none}
 use Rattle.text.proofs.Verdicts.{form-found, form-passes}
 use Rattle.tree.specs.declared.splitting.SplitLine.{SplitLine}
 use Rattle.tree.specs.declared.splitting.SplitLine.the-variants as split
-use Rattle.tree.specs.NodeLines.{line-kind-of, named, is-fixed, split-again, too-deep, not-short, not-stuck, node-tests}
+use Rattle.tree.specs.NodeLines.{line-kind-of, named, is-fixed, kind-tests, node-tests}
 use Rattle.tree.specs.Refusals.{split-line, node-form}
-use Rattle.tree.specs.Course.{with-split, pending, nodes-due, after-node, judge}
+use Rattle.tree.specs.Course.{pending, nodes-due, after-fork, after-node, judge}
 use Rattle.tree.specs.ReadAnswers.{split-by, split-line-read}
-use Rattle.tree.proofs.NodeLines.{rules, was-split}
+use Rattle.tree.proofs.NodeLines.{was-split}
 use Rattle.tree.proofs.Rows.{LineRefused, refused-found, Moved, line-moved}
 use Rattle.tree.proofs.WaysThrough.{AtNode}
 use Rattle.tree.proofs.Leaves.{judge-by}
@@ -66,11 +66,11 @@ module _ (P : Instance) (text : List ℕ) (here : ℕ) (g : forms.good-line (nod
 module _ (P : Instance) (text : List ℕ) (here : ℕ) (A : Above) (d : ℕ) where
   pub split-refused : (n : ℕ) → LineRefused (node-form P split-line) (line-at text here) n → split.Refused n ≡ split-line-read P text here A d
   unfolding split-line-read
-  split-refused n h = ap split-by (sym (refused-found (node-form P split-line) (line-at text here) n (rules P A d split-line (line-at text here)) (split.On _ _ _) h))
+  split-refused n h = ap split-by (sym (refused-found (node-form P split-line) (line-at text here) n (kind-tests P A d split-line (line-at text here)) (split.On _ _ _) h))
 
   module _ (g : forms.good-line (node-form P split-line) (line-at text here) ≡ true) (vs : List ℕ) (is : vs ≡ numbers-of (node-form P split-line) (line-at text here)) where
-    again : split-again P A split-line (line-at text here) ≡ is-fixed (A .marks (vs at 0 - 1) (vs at 1 - 1))
-    unfolding split-again
+    again : is-fixed (A .marks (named (node-form P split-line) (line-at text here) 0) (named (node-form P split-line) (line-at text here) 1))
+        ≡ is-fixed (A .marks (vs at 0 - 1) (vs at 1 - 1))
     again =
         let w = two-values P text here g vs is in
         rw (w .is-unit, w .is-period) refl
@@ -78,15 +78,15 @@ module _ (P : Instance) (text : List ℕ) (here : ℕ) (A : Above) (d : ℕ) whe
     -- the tests that are left, by 31 and 32
     by-two : (x y : Bool) → is-fixed (A .marks (vs at 0 - 1) (vs at 1 - 1)) ≡ x → ltb 63 d ≡ y
         → split-line-read P text here A d
-        ≡ split-by (found (31 if x ∷ 32 if y ∷ 33 if false ∷ 34 if false ∷ []) (split.On (vs at 0 - 1) (vs at 1 - 1) (place-after (line-at text here) here)))
-    unfolding split-line-read too-deep not-short not-stuck
+        ≡ split-by (found (31 if x ∷ 32 if y ∷ []) (split.On (vs at 0 - 1) (vs at 1 - 1) (place-after (line-at text here) here)))
+    unfolding split-line-read kind-tests
     by-two x y p q =
         let w = two-values P text here g vs is in
         let l = line-at text here in
         let s = split.On (named (node-form P split-line) l 0) (named (node-form P split-line) l 1) (place-after l here) in
-        ap split-by (form-found (node-form P split-line) l (rules P A d split-line l) s g)
-        ∙ ap (λ (z : Bool). split-by (found (31 if z ∷ 32 if ltb 63 d ∷ 33 if false ∷ 34 if false ∷ []) s)) (again ∙ p)
-        ∙ ap (λ (z : Bool). split-by (found (31 if x ∷ 32 if z ∷ 33 if false ∷ 34 if false ∷ []) s)) q
+        ap split-by (form-found (node-form P split-line) l (kind-tests P A d split-line l) s g)
+        ∙ ap (λ (z : Bool). split-by (found (31 if z ∷ 32 if ltb 63 d ∷ []) s)) (again ∙ p)
+        ∙ ap (λ (z : Bool). split-by (found (31 if x ∷ 32 if z ∷ []) s)) q
         ∙ rw (w .is-unit, w .is-period) refl
 
     -- 31 or 32 refuses the line
@@ -111,8 +111,7 @@ module _ (P : Instance) (text : List ℕ) (here : ℕ) (A : Above) (d : ℕ) whe
 
 module _ (P : Instance) (text : List ℕ) (here : ℕ) (A : Above) (d : ℕ) (e : line-kind-of (line-at text here) ≡ split-line) where
   pub record SplitOn (U t next : ℕ) : Type 0 where
-    pub judged : AtNode P text here A d
-        (λ F rest. good (nodes-due (with-split F) (pending (fix U t false A) (suc d) ∷ pending (fix U t true A) (suc d) ∷ rest)))
+    pub judged : AtNode P text here A d (λ F rest. good (after-fork F (pending A d) rest (status U t)))
     pub unit : U < length (P .units)
     pub period : t < P .periods
     pub depth : d ≤ 63
@@ -125,14 +124,14 @@ module _ (P : Instance) (text : List ℕ) (here : ℕ) (A : Above) (d : ℕ) (e 
   said = split.On (named (node-form P split-line) (line-at text here) 0) (named (node-form P split-line) (line-at text here) 1) (place-after (line-at text here) here)
 
   pub split-on : (U t next : ℕ) → split.On U t next ≡ split-line-read P text here A d → SplitOn U t next
-  unfolding split-line-read tests said too-deep after-node
+  unfolding split-line-read tests said kind-tests after-node
   split-on U t next r = go (found tests said) refl r
     where
       go : (x : Found SplitLine) → found tests said ≡ x → split.On U t next ≡ split-by x → SplitOn U t next
       go (refused n) p r = absurd (let z : _≡_ {A = ℕ} 0 1 = cc in omega arith)
       go (good x) p r =
           let h = good-none said x tests p in
-          let f = form-passes (node-form P split-line) (line-at text here) (rules P A d split-line (line-at text here)) .0 (h .0) in
+          let f = form-passes (node-form P split-line) (line-at text here) (kind-tests P A d split-line (line-at text here)) .0 (h .0) in
           let w = was-split P (line-at text here) (f .0) in
           let q = r ∙ sym (h .1) in
           let u : U ≡ named (node-form P split-line) (line-at text here) 0 = cc in

@@ -6,6 +6,8 @@ use native.Mathlib.Omega.{arith}
 use lib.ListN.{length, drop}
 use Rattle.model.specs.Instance.{Instance}
 use Rattle.model.specs.Above.{root}
+use Rattle.model.specs.declared.figures.TreeFigures.{TreeFigures}
+use Rattle.model.specs.Figures.{no-figures}
 use Rattle.text.specs.Lines.{Line, lines-of, line-at, kind-tree, end-tree}
 use Rattle.text.specs.Course.{refused-at, judged-from}
 use Rattle.text.specs.Ends.{end-of, ended-by, EndDue}
@@ -17,16 +19,12 @@ use Rattle.text.proofs.FirstLine.{tree-is}
 use Rattle.text.proofs.Verdicts.{form-found}
 use Rattle.text.proofs.Ends.{end-judged}
 use Rattle.reader.proofs.WriterLines.{Passed}
-use Rattle.tree.specs.declared.figures.Tally.{Tally}
-use Rattle.tree.specs.declared.figures.Bound.{Bound}
 use Rattle.tree.specs.declared.leaf.Read as code
 use Rattle.tree.specs.declared.leaf.Read.the-variants as read
 use Rattle.tree.specs.declared.TreeRead.the-variants as answer
-use Rattle.tree.specs.Course.{by-writer, pending, writer-due, nodes-due, nothing-due, tests, next-due, judge, end, IsTree, tree-judged}
-use Rattle.tree.specs.Acceptance.{Bounded}
-use Rattle.tree.specs.Coded.{bounded, none-read}
+use Rattle.tree.specs.Course.{pending, writer-due, nodes-due, nothing-due, tests, next-due, judge, end, IsTree, tree-judged}
+use Rattle.tree.specs.Acceptance.{Bounded, bounded}
 use Rattle.tree.specs.ReadAnswers.{read-as, Placed, Came, ended-as}
-use Rattle.tree.proofs.Bounds.{coded-is}
 use Rattle.tree.proofs.Rows.{LineRefused, Moved, refused-found, line-moved}
 use Rattle.tree.proofs.ReadLines.{judged-at, step-refused, step-good, read-on, Past}
 
@@ -46,14 +44,14 @@ module _ (P : Instance) (text : List ℕ) where
     pub writer-moved : Moved text 10 n
     writer-moved = line-moved writer-form text 10 n (h .line-good) (h .next-is)
 
-    pub writer-line-read : judged-at P text 10 2 writer-due ≡ judged-at P text n 3 (nodes-due (by-writer w) (pending root 0 ∷ []))
+    pub writer-line-read : judged-at P text 10 2 writer-due ≡ judged-at P text n 3 (nodes-due (bounded w no-figures) (pending root 0 ∷ []))
     unfolding judge tests next-due
     writer-line-read =
         step-good P text 10 2 writer-due refl (next-due P writer-due (line-at text 10)) n
         (form-found writer-form (line-at text 10) [] (next-due P writer-due (line-at text 10)) (h .line-good)) writer-moved
-        ∙ ap (λ (x : ℕ). judged-at P text n 3 (nodes-due (by-writer x) (pending root 0 ∷ []))) (sym (h .writer-is))
+        ∙ ap (λ (x : ℕ). judged-at P text n 3 (nodes-due (bounded x no-figures) (pending root 0 ∷ []))) (sym (h .writer-is))
 
-    pub tree-placed : length text ≤ 1048576 → Placed text n 3 none-read
+    pub tree-placed : length text ≤ 1048576 → Placed text n 3 no-figures
     tree-placed short =
         let m = writer-moved in
         let a = m .past in
@@ -80,15 +78,15 @@ ends P F = record {
 -- ---- the answer
 
 -- what is answered after a tree, by what stands where the end line is due
-pub tree-ended : (text : List ℕ) (w : ℕ) {n l : ℕ} {S : Tally} {r : code.Read} → r ≡ read.Tree n l S → (e : End) → e ≡ end-of end-tree (lines-of (drop n text))
+pub tree-ended : (text : List ℕ) (w : ℕ) {n l : ℕ} {S : TreeFigures} {r : code.Read} → r ≡ read.Tree n l S → (e : End) → e ≡ end-of end-tree (lines-of (drop n text))
     → read-as (ended-by l (bounded w S) e) ≡ ended-as text w r
 unfolding ended-as
 tree-ended text w {n} {l} {S} t e q = ap (λ (x : End). read-as (ended-by l (bounded w S) x)) q ∙ ap (ended-as text w) (sym t)
 
-pub tree-accepted : (text : List ℕ) (w : ℕ) {n l : ℕ} {S : Tally} {r : code.Read} → r ≡ read.Tree n l S → Last ≡ end-of end-tree (lines-of (drop n text))
-    → answer.Accepted w (S .bound) (S .splits) (S .leaves) ≡ ended-as text w r
+pub tree-accepted : (text : List ℕ) (w : ℕ) {n l : ℕ} {S : TreeFigures} {r : code.Read} → r ≡ read.Tree n l S → Last ≡ end-of end-tree (lines-of (drop n text))
+    → answer.Accepted w S ≡ ended-as text w r
 unfolding read-as
-tree-accepted text w {n} {l} {S} t q = ap (λ (b : Bound). answer.Accepted w b (S .splits) (S .leaves)) (sym (coded-is (S .bound))) ∙ tree-ended text w t Last q
+tree-accepted text w t q = tree-ended text w t Last q
 
 pub ended-read : (P : Instance) (text : List ℕ) (w : ℕ) (r : code.Read) → ended-as text w r ≡ read-as (read-on P text w [] r)
 unfolding ended-as read-as

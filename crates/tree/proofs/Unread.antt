@@ -1,24 +1,25 @@
 -- A tree's text is judged the same whatever p0 is: every test of a line, and what is due after it, is what it is with 0 for every p0. So two problems that
 -- differ in p0 alone accept the same trees, with the same figures, and refuse the others with the same number at the same line.
-use mathlib.Core.Path.{_≡_, refl, ap}
-use mathlib.Core.Bool.{true, false, not}
+use mathlib.Core.Path.{_≡_, refl, ap, _∙_}
+use mathlib.Core.Bool.{not}
 use mathlib.Core.List.{List, [], _∷_}
-use Prim.Native.Nat.{ℕ, suc, _+_}
+use Prim.Native.Nat.{ℕ, _+_}
 use lib.Dec.{ltb}
-use lib.IntN.{ℤ}
 use Rattle.model.specs.Instance.{Instance, _at_}
-use Rattle.model.specs.Above.{Above, fix}
-use Rattle.model.specs.Tree.{number}
+use Rattle.model.specs.declared.figures.Bound.{Bound}
+use Rattle.model.specs.Above.{Above, status}
+use Rattle.model.specs.Tree.{Leaf, short, stuck, price}
 use Rattle.model.specs.Unread.{AlikeButMidnight}
-use Rattle.model.proofs.Unread.{without-p0, count-without, available-without, stuck-at-without, any-stuck-without, leaf-value-without, both}
+use Rattle.model.proofs.Unread.{without-p0, count-without, available-without, stuck-at-without, any-stuck-without, leaf-bound-without, both}
 use Rattle.text.specs.Lines.{Line, later, lines-of}
 use Rattle.text.specs.Forms.{Form, form, plain, numbers-of, form-tests}
 use Rattle.text.specs.Course.{judged-from}
 use Rattle.text.specs.Tests.{_if_, found}
 use Rattle.tree.specs.Rendering.{split-key, stuck-key}
-use Rattle.tree.specs.NodeLines.{line-kind-of, named, is-fixed, split-again, too-deep, not-short, not-stuck, node-tests, reserve-tests}
-use Rattle.tree.specs.Refusals.{LineKind, split-line, short-line, stuck-line, price-line, node-form, reserve-form}
-use Rattle.tree.specs.Course.{with-split, with-leaf, Pending, pending, Due, writer-due, nodes-due, reserve-due, nothing-due, tests, after-node, next-due, judge, end, tree-judged}
+use Rattle.tree.specs.Places.{Part, priced}
+use Rattle.tree.specs.NodeLines.{line-kind-of, named, is-fixed, kind-tests, node-tests, leaf-tests, part-tests}
+use Rattle.tree.specs.Refusals.{LineKind, split-line, short-line, stuck-line, price-line, node-form, part-form}
+use Rattle.tree.specs.Course.{with-leaf, Pending, Due, writer-due, nodes-due, part-due, nothing-due, tests, after-fork, after-leaf, after-node, after-part, next-due, judge, end, tree-judged}
 use Rattle.tree.specs.Acceptance.{Bounded}
 
 -- ---- a problem, with 0 for every p0
@@ -30,66 +31,63 @@ module _ (P : Instance) where
   node-form-without stuck-line = ap (plain stuck-key 1 1) (count-without (P .units))
   node-form-without price-line = refl
 
-  -- 31, 33, 34
-  split-again-without : (A : Above) (k : LineKind) (l : Line) → split-again (without-p0 P) A k l ≡ split-again P A k l
-  unfolding split-again
-  split-again-without A split-line l = ap (λ (f : Form). is-fixed (A .marks (named f l 0) (named f l 1))) (node-form-without split-line)
-  split-again-without A short-line l = refl
-  split-again-without A stuck-line l = refl
-  split-again-without A price-line l = refl
-
-  not-short-without : (A : Above) (k : LineKind) (l : Line) → not-short (without-p0 P) A k l ≡ not-short P A k l
-  unfolding not-short
-  not-short-without A split-line l = refl
-  not-short-without A short-line l =
+  -- 31 to 34
+  kind-tests-without : (A : Above) (d : ℕ) (k : LineKind) (l : Line) → kind-tests (without-p0 P) A d k l ≡ kind-tests P A d k l
+  unfolding kind-tests
+  kind-tests-without A d split-line l =
+      ap (λ (f : Form). 31 if is-fixed (A .marks (named f l 0) (named f l 1)) ∷ 32 if ltb 63 d ∷ []) (node-form-without split-line)
+  kind-tests-without A d short-line l =
       let t = named (node-form P short-line) l 0 in
-      ap (λ (x : ℕ). not (ltb x (P .demand at t + P .spare at t))) (available-without (P .units) (A .marks) t)
-  not-short-without A stuck-line l = refl
-  not-short-without A price-line l = refl
-
-  not-stuck-without : (A : Above) (k : LineKind) (l : Line) → not-stuck (without-p0 P) A k l ≡ not-stuck P A k l
-  unfolding not-stuck
-  not-stuck-without A split-line l = refl
-  not-stuck-without A short-line l = refl
-  not-stuck-without A stuck-line l = λ i. not (stuck-at-without (P .periods) (P .units) (A .marks) (named (node-form-without stuck-line i) l 0) i)
-  not-stuck-without A price-line l = refl
+      ap (λ (x : ℕ). 33 if not (ltb x (P .demand at t + P .spare at t)) ∷ []) (available-without P A t)
+  kind-tests-without A d stuck-line l =
+      λ i. 34 if not (stuck-at-without (P .periods) (P .units) (A .marks) (named (node-form-without stuck-line i) l 0) i) ∷ []
+  kind-tests-without A d price-line l = refl
 
   node-tests-without : (A : Above) (d : ℕ) (k : LineKind) (l : Line) → node-tests (without-p0 P) A d k l ≡ node-tests P A d k l
-  node-tests-without A d k l i =
-      form-tests (node-form-without k i) l
-      (31 if split-again-without A k l i ∷ 32 if too-deep d k ∷ 33 if not-short-without A k l i ∷ 34 if not-stuck-without A k l i ∷ [])
+  node-tests-without A d k l i = form-tests (node-form-without k i) l (kind-tests-without A d k l i)
+
+  part-form-without : (p : Part) → part-form (without-p0 P) p ≡ part-form P p
+  part-form-without (priced q) = refl
 
   -- 35
-  reserve-tests-without : (A : Above) (l : Line) → reserve-tests (without-p0 P) A l ≡ reserve-tests P A l
-  reserve-tests-without A l i = form-tests (reserve-form P) l (35 if any-stuck-without (P .periods) (P .units) (A .marks) i ∷ [])
+  leaf-tests-without : (A : Above) (p : Part) → leaf-tests (without-p0 P) A p ≡ leaf-tests P A p
+  unfolding leaf-tests
+  leaf-tests-without A (priced q) = λ i. 35 if any-stuck-without (P .periods) (P .units) (A .marks) i ∷ []
+
+  part-tests-without : (A : Above) (p : Part) (l : Line) → part-tests (without-p0 P) A p l ≡ part-tests P A p l
+  part-tests-without A p l i = form-tests (part-form-without p i) l (leaf-tests-without A p i)
 
   tests-without : (s : Due) (l : Line) → tests (without-p0 P) s l ≡ tests P s l
   unfolding tests
   tests-without writer-due l = refl
   tests-without (nodes-due F []) l = refl
   tests-without (nodes-due F (p ∷ ps)) l = node-tests-without (p .above) (p .depth) (line-kind-of l) l
-  tests-without (reserve-due F A q ps) l = reserve-tests-without A l
+  tests-without (part-due F A p ps) l = part-tests-without A p l
   tests-without (nothing-due F) l = refl
+
+  after-leaf-without : (F : Bounded) (A : Above) (ps : List Pending) (x : Leaf) → after-leaf (without-p0 P) F A ps x ≡ after-leaf P F A ps x
+  after-leaf-without F A ps x = ap (λ (b : Bound). nodes-due (with-leaf F b) ps) (leaf-bound-without P A x)
 
   after-node-without : (F : Bounded) (p : Pending) (ps : List Pending) (k : LineKind) (l : Line)
       → after-node (without-p0 P) F p ps k l ≡ after-node P F p ps k l
   unfolding after-node
-  after-node-without F p ps split-line l =
-      ap (λ (f : Form). let U = named f l 0 in let t = named f l 1 in
-      nodes-due (with-split F) (pending (fix U t false (p .above)) (suc (p .depth)) ∷ pending (fix U t true (p .above)) (suc (p .depth)) ∷ ps))
-      (node-form-without split-line)
-  after-node-without F p ps short-line l = refl
-  after-node-without F p ps stuck-line l = refl
+  after-node-without F p ps split-line l = ap (λ (f : Form). after-fork F p ps (status (named f l 0) (named f l 1))) (node-form-without split-line)
+  after-node-without F p ps short-line l = after-leaf-without F (p .above) ps (short (named (node-form P short-line) l 0))
+  after-node-without F p ps stuck-line l =
+      after-leaf-without F (p .above) ps (stuck (named (node-form (without-p0 P) stuck-line) l 0))
+      ∙ ap (λ (f : Form). after-leaf P F (p .above) ps (stuck (named f l 0))) (node-form-without stuck-line)
   after-node-without F p ps price-line l = refl
+
+  after-part-without : (F : Bounded) (A : Above) (p : Part) (ps : List Pending) (l : Line) → after-part (without-p0 P) F A p ps l ≡ after-part P F A p ps l
+  unfolding after-part
+  after-part-without F A (priced q) ps l = after-leaf-without F A ps (price q (numbers-of (part-form P (priced q)) l))
 
   next-without : (s : Due) (l : Line) → next-due (without-p0 P) s l ≡ next-due P s l
   unfolding next-due
   next-without writer-due l = refl
   next-without (nodes-due F []) l = refl
   next-without (nodes-due F (p ∷ ps)) l = after-node-without F p ps (line-kind-of l) l
-  next-without (reserve-due F A q ps) l =
-      ap (λ (z : ℤ). nodes-due (with-leaf F (number z)) ps)
-      (leaf-value-without P (A .marks) (λ t. q at t) (λ t. numbers-of (reserve-form P) l at t))
+  next-without (part-due F A p ps) l = after-part-without F A p ps l
   next-without (nothing-due F) l = refl
 
   judge-without : judge (without-p0 P) ≡ judge P

@@ -8,6 +8,7 @@ use lib.ListN.{length}
 use Rattle.model.specs.Instance.{Instance}
 use Rattle.model.specs.Ranges.{GoodWriter}
 use Rattle.model.specs.Above.{root}
+use Rattle.model.specs.Figures.{no-figures}
 use Rattle.model.specs.Tree.{Tree, Limits}
 use Rattle.text.specs.Lines.{Line, ended, due, later, lines-of, kind-tree, end-tree}
 use Rattle.text.specs.Rendering.{plain-line}
@@ -16,7 +17,8 @@ use Rattle.text.specs.Tests.{none-yet}
 use Rattle.text.proofs.Texts.{whole-is}
 use Rattle.text.proofs.WellFormed.{form-only, unrefused-passed, passed-unrefused}
 use Rattle.tree.specs.Rendering.{node-lines, render}
-use Rattle.tree.specs.Course.{by-writer, pending, writer-due, nothing-due, tests, next-due, end}
+use Rattle.tree.specs.Course.{pending, writer-due, nothing-due, tests, next-due, end}
+use Rattle.tree.specs.Acceptance.{bounded}
 use Rattle.tree.specs.WellFormed.{WellFormed}
 use Rattle.tree.proofs.Bounds.{add}
 use Rattle.tree.proofs.Written.{lines-one, render-lines}
@@ -56,9 +58,9 @@ module _ (P : Instance) (some : 1 ≤ P .periods) where
       back : (length text ≤ 1048576) × ((w : ℕ) × (t : Tree) × ((text ≡ render w t) × GoodWriter w × Limits P root 0 t)) → WellFormed P text
       back (h, (w, t, (e, ok, within))) =
           let ls = ap lines-of e ∙ render-lines w t in
-          let F = add P root (by-writer w) t in
+          let F = add P root (bounded w no-figures) t in
           let a = also P some (writer-good P w ok)
-          (both P some (map ended (node-lines t)) (ended end-tree ∷ []) (node-passes P some root 0 (by-writer w) [] t within) (also P some (end-good P F) none-yet)) in
+          (both P some (map ended (node-lines t)) (ended end-tree ∷ []) (node-passes P some root 0 (bounded w no-figures) [] t within) (also P some (end-good P F) none-yet)) in
           record {
             short = h;
             first = ap due ls;

@@ -22,15 +22,15 @@ use Rattle.text.proofs.WellFormed.{form-only}
 use Rattle.text.proofs.WhichLine as which
 use Rattle.text.proofs.WhichLine.{Faithful}
 use Rattle.tree.specs.Rendering.{node-lines}
-use Rattle.tree.specs.Places.{LinePlace, node-at, reserve-at, LineAt, HoldsAmong}
-use Rattle.tree.specs.Refusals.{WrittenTree, written-lines, NodeBreaks, ReserveBreaks, Breaks, InLimits, HoldsSoFar, BrokenAt, RefusedAt}
+use Rattle.tree.specs.Places.{Part, LinePlace, node-at, part-at, LineAt, HoldsAmong}
+use Rattle.tree.specs.Refusals.{WrittenTree, written-lines, NodeBreaks, PartBreaks, Breaks, InLimits, HoldsSoFar, BrokenAt, RefusedAt}
 use Rattle.tree.specs.Refusals as refusals
 use Rattle.tree.specs.Course.{Due, writer-due, nodes-due, nothing-due, tests, next-due, end}
 use Rattle.tree.proofs.FormLines.{all-of-form}
 use Rattle.tree.proofs.FormTests.{form-first}
 use Rattle.tree.proofs.LinePlaces.{line-among, line-once}
-use Rattle.tree.proofs.PlaceTests.{node-first, reserve-first}
-use Rattle.tree.proofs.LinesPass.{DueAt, node-due, reserve-there, Stands, at-writer, at-place, at-end, past-end, begins-come, form-takes, all-takes}
+use Rattle.tree.proofs.PlaceTests.{node-first, part-first}
+use Rattle.tree.proofs.LinesPass.{DueAt, node-due, part-there, Stands, at-writer, at-place, at-end, past-end, begins-come, form-takes, all-takes}
 use Rattle.tree.proofs.LinesBegin.{begun}
 use Rattle.tree.proofs.LeavesHold.{leaves-hold}
 
@@ -48,7 +48,7 @@ module _ (P : Instance) (some : 1 ≤ P .periods) where
     writer-unfit : k ≡ 0 → (n : ℕ) → Number v k left n → Unfit writer-form (due left) n
     writer-unfit z n (at-numbers (refusals.at-writer e u)) = u
     writer-unfit z n (at-numbers (refusals.at-node e a b)) = absurd (omega arith)
-    writer-unfit z n (at-numbers (refusals.at-reserve e a b)) = absurd (omega arith)
+    writer-unfit z n (at-numbers (refusals.at-part e a b)) = absurd (omega arith)
     writer-unfit z n (at-last e f) = absurd (let h = lines-long v in omega arith)
     writer-unfit z n (behind-last e f) = absurd (let h = lines-long v in omega arith)
 
@@ -60,37 +60,36 @@ module _ (P : Instance) (some : 1 ≤ P .periods) where
         let x : A′ ≡ A = cc in
         let y : d′ ≡ d = cc in
         subst (λ (B : Above). NodeBreaks P B d (due left) n) x (subst (λ (c : ℕ). NodeBreaks P A′ c (due left) n) y b)
-    node-breaks i A d z c n (at-numbers (refusals.at-reserve e a b)) = let q = line-once a c (omega arith) in absurd (let y : _≡_ {A = ℕ} 0 1 = cc in omega arith)
+    node-breaks i A d z c n (at-numbers (refusals.at-part e a b)) = let q = line-once a c (omega arith) in absurd (let y : _≡_ {A = ℕ} 0 1 = cc in omega arith)
     node-breaks i A d z c n (at-last e f) = absurd (let h = lines-long v in let m = line-among c in omega arith)
     node-breaks i A d z c n (behind-last e f) = absurd (let h = lines-long v in let m = line-among c in omega arith)
 
-    -- a reserve line
-    reserve-breaks : (i : ℕ) (A : Above) (q : List ℕ) → k ≡ suc i → LineAt root 0 (v .tree) i (reserve-at A q) → (n : ℕ) → Number v k left n
-        → ReserveBreaks P A q (due left) n
-    reserve-breaks i A q z c n (at-numbers (refusals.at-writer e u)) = absurd (omega arith)
-    reserve-breaks i A q z c n (at-numbers (refusals.at-node e a b)) = let w = line-once a c (omega arith) in absurd (let y : _≡_ {A = ℕ} 0 1 = cc in omega arith)
-    reserve-breaks i A q z c n (at-numbers (refusals.at-reserve {A = A′} {q = q′} e a b)) =
+    -- a later line of a leaf
+    part-breaks : (i : ℕ) (A : Above) (p : Part) → k ≡ suc i → LineAt root 0 (v .tree) i (part-at A p) → (n : ℕ) → Number v k left n → PartBreaks P A (due left) p n
+    part-breaks i A p z c n (at-numbers (refusals.at-writer e u)) = absurd (omega arith)
+    part-breaks i A p z c n (at-numbers (refusals.at-node e a b)) = let w = line-once a c (omega arith) in absurd (let y : _≡_ {A = ℕ} 0 1 = cc in omega arith)
+    part-breaks i A p z c n (at-numbers (refusals.at-part {A = A′} {p = p′} e a b)) =
         let w = line-once a c (omega arith) in
         let x : A′ ≡ A = cc in
-        let y : q′ ≡ q = cc in
-        subst (λ (B : Above). ReserveBreaks P B q (due left) n) x (subst (λ (p : List ℕ). ReserveBreaks P A′ p (due left) n) y b)
-    reserve-breaks i A q z c n (at-last e f) = absurd (let h = lines-long v in let m = line-among c in omega arith)
-    reserve-breaks i A q z c n (behind-last e f) = absurd (let h = lines-long v in let m = line-among c in omega arith)
+        let y : p′ ≡ p = cc in
+        subst (λ (B : Above). PartBreaks P B (due left) p n) x (subst (λ (q : Part). PartBreaks P A′ (due left) q n) y b)
+    part-breaks i A p z c n (at-last e f) = absurd (let h = lines-long v in let m = line-among c in omega arith)
+    part-breaks i A p z c n (behind-last e f) = absurd (let h = lines-long v in let m = line-among c in omega arith)
 
     -- from the end line on no line of numbers is due
     no-numbers : length (node-lines (v .tree)) < k → (n : ℕ) (l : Line) → Breaks P v k l n → ⊥
     no-numbers h n l (refusals.at-writer e u) = omega (arith, h, e)
     no-numbers h n l (refusals.at-node e a b) = let m = line-among a in omega (arith, h, e, m)
-    no-numbers h n l (refusals.at-reserve e a b) = let m = line-among a in omega (arith, h, e, m)
+    no-numbers h n l (refusals.at-part e a b) = let m = line-among a in omega (arith, h, e, m)
 
     at-place-refuses : (i : ℕ) (w : LinePlace) (s : Due) → k ≡ suc i → LineAt root 0 (v .tree) i w → DueAt w s → (n : ℕ)
         → FirstTrue n (tests-before (tests P) (next-due P) end s left) ↔ Number v k left n
     at-place-refuses i w s z c (node-due {A} {d} {F} {ps}) n =
         let law = node-first P A d F ps left n in
         (λ h. at-numbers (refusals.at-node z c (law .0 h)), λ r. law .1 (node-breaks i A d z c n r))
-    at-place-refuses i w s z c (reserve-there {A} {F} {q} {ps}) n =
-        let law = reserve-first P some A q F ps left n in
-        (λ h. at-numbers (refusals.at-reserve z c (law .0 h)), λ r. law .1 (reserve-breaks i A q z c n r))
+    at-place-refuses i w s z c (part-there {A} {F} {p} {ps}) n =
+        let law = part-first P some A F ps p left n in
+        (λ h. at-numbers (refusals.at-part z c (law .0 h)), λ r. law .1 (part-breaks i A p z c n r))
 
     refuses : (s : Due) → Stands v k s → (n : ℕ) → FirstTrue n (tests-before (tests P) (next-due P) end s left) ↔ Number v k left n
     unfolding tests

@@ -8,10 +8,13 @@ use lib.IntN.{pos}
 use Rattle.decimal.specs.Decimal.{digits, digits-by}
 use Rattle.model.specs.declared.generator.Generator.{Generator}
 use Rattle.model.specs.Instance.{Instance}
-use Rattle.model.specs.Above.{root}
+use Rattle.model.specs.Above.{root, status}
 use Rattle.model.specs.Cost.{row-cost}
-use Rattle.model.specs.Leaf.{available, rows-of, is-stuck, revenue, value, unit-least, units-least, requirement, leaf-value}
-use Rattle.model.specs.Tree.{Tree, split, short, price, Limits, Holds, Bound, number, bound, splits, leaves}
+use Rattle.model.specs.Leaf.{units-available, available, rows-of, is-stuck, revenue, value, unit-least, units-least, requirement, leaf-value}
+use Rattle.model.specs.declared.figures.Bound.{Bound}
+use Rattle.model.specs.declared.figures.Bound.the-variants.{Number as number}
+use Rattle.model.specs.Figures.{tree-gives}
+use Rattle.model.specs.Tree.{short, price, Tree, leaf, fork, GoodLeaf, LeafHolds, leaf-bound, Limits, Holds, bound, splits, leaves}
 use Rattle.refusal.specs.Refusals.{line-refusal}
 use Rattle.text.specs.Lines.{kind-tree}
 use Rattle.text.specs.Course.{accepted, refused-at, judged-from}
@@ -21,11 +24,11 @@ use Rattle.text.specs.Writer.{writer-key}
 use Rattle.text.proofs.Courses as courses
 use Rattle.text.proofs.WellFormed.{form-only}
 use Rattle.tree.specs.Rendering.{split-key, short-key, node-lines, render}
-use Rattle.tree.specs.NodeLines.{line-kind-of, split-again, too-deep, not-short, not-stuck}
-use Rattle.tree.specs.Course.{writer-due, tests, after-node, next-due, judge, end, tree-judged}
+use Rattle.tree.specs.NodeLines.{line-kind-of, kind-tests, leaf-tests}
+use Rattle.tree.specs.Acceptance.{bounded}
+use Rattle.tree.specs.Course.{writer-due, tests, after-node, after-part, next-due, judge, end, tree-judged}
 use Rattle.tree.specs.WellFormed.{WellFormed}
-use Rattle.tree.specs.ReadAnswers.{coded, read-as, tree-read}
-use Rattle.tree.specs.declared.figures.Bound.the-variants.{Number}
+use Rattle.tree.specs.ReadAnswers.{read-as, tree-read}
 use Rattle.tree.specs.declared.TreeRead.the-variants.{Refused, Accepted}
 use Rattle.tree.proofs.Complete.{tree-accepted}
 use Rattle.tree.proofs.Acceptance.{refused-is}
@@ -45,7 +48,7 @@ abbrev problem : Instance
 problem = record { periods = 2; demand = 60 ∷ 100 ∷ []; spare = 10 ∷ 10 ∷ []; units = first ∷ second ∷ [] }
 
 abbrev tree : Tree
-tree = split 1 1 (short 1) (price (10 ∷ 14 ∷ []) (0 ∷ 0 ∷ []))
+tree = fork (status 1 1) (leaf (short 1)) (leaf (price (10 ∷ 14 ∷ []) (0 ∷ 0 ∷ [])))
 
 -- kind=tree / writer=3 / split=2,2 / short=2 / price=10,14 / reserve=0,0 / end=tree
 abbrev text : List ℕ
@@ -63,29 +66,29 @@ unfolding render node-lines digits digits-by
 written = refl
 
 within : Limits problem root 0 tree
-unfolding Limits
-within = (lit< tt, lit< tt, refl, lit≤ tt, lit< tt, ((refl, ((lit≤ tt, lit≤ tt), ((lit≤ tt, lit≤ tt), tt))), (refl, ((lit≤ tt, lit≤ tt), ((lit≤ tt, lit≤ tt), tt)))))
+unfolding Limits GoodLeaf
+within = ((lit< tt, lit< tt, refl), lit≤ tt, lit< tt, ((refl, ((lit≤ tt, lit≤ tt), ((lit≤ tt, lit≤ tt), tt))), (refl, ((lit≤ tt, lit≤ tt), ((lit≤ tt, lit≤ tt), tt)))))
 
 holds : Holds problem root tree
-unfolding Holds available is-stuck
+unfolding Holds LeafHolds available units-available is-stuck
 holds = ((lit< tt, lit< tt), tt)
 
 -- one split line and two leaves, and the bound of the tree
-pub accepted-tree : tree-judged problem text ≡ accepted (record { writer = 3; bound = bound problem root tree; splits = 1; leaves = 2 })
+pub accepted-tree : tree-judged problem text ≡ accepted (bounded 3 (tree-gives (bound problem root tree) 1 2))
 unfolding splits leaves
 accepted-tree = ap (tree-judged problem) (sym written) ∙ tree-accepted problem (lit≤ tt) 3 tree (lit≤ tt, lit≤ tt) within holds
 
 pub bound-1980 : bound problem root tree ≡ number (pos 1980)
-unfolding bound leaf-value units-least unit-least rows-of value revenue requirement row-cost
+unfolding bound leaf-bound leaf-value units-least unit-least rows-of value revenue requirement row-cost
 bound-1980 = refl
 
 -- ---- one price leaf alone: 10,14, and 0,2 on its reserve line
 
 abbrev lone-price : Tree
-lone-price = price (10 ∷ 14 ∷ []) (0 ∷ 2 ∷ [])
+lone-price = leaf (price (10 ∷ 14 ∷ []) (0 ∷ 2 ∷ []))
 
-pub lone-price-accepted : tree-judged problem (render 3 lone-price) ≡ accepted (record { writer = 3; bound = number (pos 1940); splits = 0; leaves = 1 })
-unfolding splits leaves Limits Holds is-stuck bound leaf-value units-least unit-least rows-of value revenue requirement row-cost
+pub lone-price-accepted : tree-judged problem (render 3 lone-price) ≡ accepted (bounded 3 (tree-gives (number (pos 1940)) 0 1))
+unfolding splits leaves Limits GoodLeaf Holds LeafHolds is-stuck bound leaf-bound leaf-value units-least unit-least rows-of value revenue requirement row-cost
 lone-price-accepted =
     tree-accepted problem (lit≤ tt) 3 lone-price (lit≤ tt, lit≤ tt)
     ((refl, ((lit≤ tt, lit≤ tt), ((lit≤ tt, lit≤ tt), tt))), (refl, ((lit≤ tt, lit≤ tt), ((lit≤ tt, lit≤ tt), tt)))) tt
@@ -98,7 +101,7 @@ no-writer =
     107 ∷ 105 ∷ 110 ∷ 100 ∷ 61 ∷ 116 ∷ 114 ∷ 101 ∷ 101 ∷ 10 ∷ []
 
 no-writer-refused : tree-judged problem no-writer ≡ refused-at 12 2
-unfolding tree-judged judged-from judge tests next-due after-node line-kind-of malformed wrong-count outside-range split-again too-deep not-short not-stuck available is-stuck
+unfolding tree-judged judged-from judge tests next-due after-node after-part line-kind-of malformed wrong-count outside-range kind-tests leaf-tests available units-available is-stuck
 no-writer-refused = refl
 
 -- writer=0
@@ -108,7 +111,7 @@ writer-zero =
     119 ∷ 114 ∷ 105 ∷ 116 ∷ 101 ∷ 114 ∷ 61 ∷ 48 ∷ 10 ∷ []
 
 writer-zero-refused : tree-judged problem writer-zero ≡ refused-at 13 2
-unfolding tree-judged judged-from judge tests next-due after-node line-kind-of malformed wrong-count outside-range split-again too-deep not-short not-stuck available is-stuck
+unfolding tree-judged judged-from judge tests next-due after-node after-part line-kind-of malformed wrong-count outside-range kind-tests leaf-tests available units-available is-stuck
 writer-zero-refused = refl
 
 -- a lone short=2
@@ -120,7 +123,7 @@ lone-short =
     101 ∷ 110 ∷ 100 ∷ 61 ∷ 116 ∷ 114 ∷ 101 ∷ 101 ∷ 10 ∷ []
 
 lone-short-refused : tree-judged problem lone-short ≡ refused-at 33 3
-unfolding tree-judged judged-from judge tests next-due after-node line-kind-of malformed wrong-count outside-range split-again too-deep not-short not-stuck available is-stuck
+unfolding tree-judged judged-from judge tests next-due after-node after-part line-kind-of malformed wrong-count outside-range kind-tests leaf-tests available units-available is-stuck
 lone-short-refused = refl
 
 -- a lone stuck=1
@@ -132,7 +135,7 @@ lone-stuck =
     101 ∷ 110 ∷ 100 ∷ 61 ∷ 116 ∷ 114 ∷ 101 ∷ 101 ∷ 10 ∷ []
 
 lone-stuck-refused : tree-judged problem lone-stuck ≡ refused-at 34 3
-unfolding tree-judged judged-from judge tests next-due after-node line-kind-of malformed wrong-count outside-range split-again too-deep not-short not-stuck available is-stuck
+unfolding tree-judged judged-from judge tests next-due after-node after-part line-kind-of malformed wrong-count outside-range kind-tests leaf-tests available units-available is-stuck
 lone-stuck-refused = refl
 
 -- split=0,1
@@ -143,7 +146,7 @@ no-unit =
     115 ∷ 112 ∷ 108 ∷ 105 ∷ 116 ∷ 61 ∷ 48 ∷ 44 ∷ 49 ∷ 10 ∷ []
 
 no-unit-refused : tree-judged problem no-unit ≡ refused-at 13 3
-unfolding tree-judged judged-from judge tests next-due after-node line-kind-of malformed wrong-count outside-range split-again too-deep not-short not-stuck available is-stuck
+unfolding tree-judged judged-from judge tests next-due after-node after-part line-kind-of malformed wrong-count outside-range kind-tests leaf-tests available units-available is-stuck
 no-unit-refused = refl
 
 -- split=3: one value, and out of range
@@ -154,7 +157,7 @@ one-value =
     115 ∷ 112 ∷ 108 ∷ 105 ∷ 116 ∷ 61 ∷ 51 ∷ 10 ∷ []
 
 one-value-refused : tree-judged problem one-value ≡ refused-at 14 3
-unfolding tree-judged judged-from judge tests next-due after-node line-kind-of malformed wrong-count outside-range split-again too-deep not-short not-stuck available is-stuck
+unfolding tree-judged judged-from judge tests next-due after-node after-part line-kind-of malformed wrong-count outside-range kind-tests leaf-tests available units-available is-stuck
 one-value-refused = refl
 
 -- end=tree where a node is due
@@ -165,7 +168,7 @@ no-tree =
     101 ∷ 110 ∷ 100 ∷ 61 ∷ 116 ∷ 114 ∷ 101 ∷ 101 ∷ 10 ∷ []
 
 no-tree-refused : tree-judged problem no-tree ≡ refused-at 12 3
-unfolding tree-judged judged-from judge tests next-due after-node line-kind-of malformed wrong-count outside-range split-again too-deep not-short not-stuck available is-stuck
+unfolding tree-judged judged-from judge tests next-due after-node after-part line-kind-of malformed wrong-count outside-range kind-tests leaf-tests available units-available is-stuck
 no-tree-refused = refl
 
 -- the first tree under split=1,1 begins with split=1,1
@@ -177,7 +180,7 @@ split-twice =
     115 ∷ 112 ∷ 108 ∷ 105 ∷ 116 ∷ 61 ∷ 49 ∷ 44 ∷ 49 ∷ 10 ∷ []
 
 split-twice-refused : tree-judged problem split-twice ≡ refused-at 31 4
-unfolding tree-judged judged-from judge tests next-due after-node line-kind-of malformed wrong-count outside-range split-again too-deep not-short not-stuck available is-stuck
+unfolding tree-judged judged-from judge tests next-due after-node after-part line-kind-of malformed wrong-count outside-range kind-tests leaf-tests available units-available is-stuck
 split-twice-refused = refl
 
 -- unit 1 off in period 1 and on in period 2, against TD: at the reserve line
@@ -193,7 +196,7 @@ stuck-unit =
     114 ∷ 101 ∷ 115 ∷ 101 ∷ 114 ∷ 118 ∷ 101 ∷ 61 ∷ 49 ∷ 44 ∷ 49 ∷ 10 ∷ []
 
 stuck-unit-refused : tree-judged problem stuck-unit ≡ refused-at 35 8
-unfolding tree-judged judged-from judge tests next-due after-node line-kind-of malformed wrong-count outside-range split-again too-deep not-short not-stuck available is-stuck
+unfolding tree-judged judged-from judge tests next-due after-node after-part line-kind-of malformed wrong-count outside-range kind-tests leaf-tests available units-available is-stuck
 stuck-unit-refused = refl
 
 -- a price line where the reserve line is due
@@ -205,7 +208,7 @@ no-reserve =
     112 ∷ 114 ∷ 105 ∷ 99 ∷ 101 ∷ 61 ∷ 49 ∷ 44 ∷ 49 ∷ 10 ∷ []
 
 no-reserve-refused : tree-judged problem no-reserve ≡ refused-at 12 4
-unfolding tree-judged judged-from judge tests next-due after-node line-kind-of malformed wrong-count outside-range split-again too-deep not-short not-stuck available is-stuck
+unfolding tree-judged judged-from judge tests next-due after-node after-part line-kind-of malformed wrong-count outside-range kind-tests leaf-tests available units-available is-stuck
 no-reserve-refused = refl
 
 -- a byte 10 after the end line
@@ -219,7 +222,7 @@ one-byte-more =
     10 ∷ []
 
 one-byte-more-refused : tree-judged problem one-byte-more ≡ refused-at 12 6
-unfolding tree-judged judged-from judge tests next-due after-node line-kind-of malformed wrong-count outside-range split-again too-deep not-short not-stuck available is-stuck
+unfolding tree-judged judged-from judge tests next-due after-node after-part line-kind-of malformed wrong-count outside-range kind-tests leaf-tests available units-available is-stuck
 one-byte-more-refused = refl
 
 -- ---- well-formed, though a leaf doesn't hold
@@ -230,12 +233,12 @@ nodes bs = text-of (kind-tree ∷ plain-line writer-key (1 ∷ []) ∷ bs)
 
 -- a lone short=2 (33); the same where a second tree or the end line is due is judged on: split=2,2 / short=1 / short=3 has 33 at line 4 and 13 at line 5
 pub lone-short-formed : WellFormed problem lone-short
-unfolding Limits render node-lines digits digits-by
-lone-short-formed = well-formed-is problem (lit≤ tt) lone-short .1 (lit≤ tt, (3, short 1, (refl, (lit≤ tt, lit≤ tt), lit< tt)))
+unfolding Limits GoodLeaf render node-lines digits digits-by
+lone-short-formed = well-formed-is problem (lit≤ tt) lone-short .1 (lit≤ tt, (3, leaf (short 1), (refl, (lit≤ tt, lit≤ tt), lit< tt)))
 
 pub judged-on : (tree-judged problem (nodes (plain-line split-key (2 ∷ 2 ∷ []) ∷ plain-line short-key (1 ∷ []) ∷ plain-line short-key (3 ∷ []) ∷ [])) ≡ refused-at 33 4)
     × (WellFormed problem (nodes (plain-line split-key (2 ∷ 2 ∷ []) ∷ plain-line short-key (1 ∷ []) ∷ plain-line short-key (3 ∷ []) ∷ [])) → ⊥)
-unfolding tree-judged judged-from judge tests next-due after-node line-kind-of malformed wrong-count outside-range split-again too-deep not-short not-stuck available is-stuck digits digits-by
+unfolding tree-judged judged-from judge tests next-due after-node after-part line-kind-of malformed wrong-count outside-range kind-tests leaf-tests available units-available is-stuck digits digits-by
 judged-on = (
   refl,
   λ f. f .unbroken 13 5 refl
@@ -244,11 +247,11 @@ judged-on = (
 
 -- ---- the marked specimens, as read_tree answers them
 
-pub specimen-tree : tree-read problem text ≡ Accepted 3 (Number (pos 1980)) 1 2
+pub specimen-tree : tree-read problem text ≡ Accepted 3 (tree-gives (number (pos 1980)) 1 2)
 unfolding tree-read read-as
-specimen-tree = ap read-as accepted-tree ∙ ap (λ (b : Bound). Accepted 3 (coded b) 1 2) bound-1980
+specimen-tree = ap read-as accepted-tree ∙ ap (λ (b : Bound). Accepted 3 (tree-gives b 1 2)) bound-1980
 
-pub specimen-price : tree-read problem (render 3 lone-price) ≡ Accepted 3 (Number (pos 1940)) 0 1
+pub specimen-price : tree-read problem (render 3 lone-price) ≡ Accepted 3 (tree-gives (number (pos 1940)) 0 1)
 unfolding tree-read read-as
 specimen-price = ap read-as lone-price-accepted
 

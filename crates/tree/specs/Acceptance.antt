@@ -5,19 +5,17 @@ use Prim.Native.Nat.{ℕ}
 use Rattle.model.specs.Instance.{Instance}
 use Rattle.model.specs.Ranges.{GoodWriter}
 use Rattle.model.specs.Above.{root}
-use Rattle.model.specs.Tree.{Tree, Limits, Holds, Bound, bound, splits, leaves}
+use Rattle.model.specs.declared.figures.TreeFigures.{TreeFigures}
+use Rattle.model.specs.Tree.{Tree, Limits, Holds, tree-figures}
 use Rattle.tree.specs.Rendering.{render}
 
--- what a tree gives, and a part of one that is read: the writer, the smallest price leaf's value, the split lines and the leaves
+-- the writer of a tree, and what the tree gives, or the part of it that is read
 pub record Bounded : Type 0 where
   pub writer : ℕ
-  pub bound : Bound
-  pub splits : ℕ
-  pub leaves : ℕ
+  pub figures : TreeFigures
 
--- what a tree by the writer w gives
-abbrev pub bounded-of : Instance → ℕ → Tree → Bounded
-bounded-of P w t = record { writer = w; bound = bound P root t; splits = splits t; leaves = leaves t }
+abbrev pub bounded : ℕ → TreeFigures → Bounded
+bounded w F = record { writer = w; figures = F }
 
 -- the text is that of a tree within the limits, whose leaves hold, and the figures are the tree's
 pub record Accepts (P : Instance) (text : List ℕ) (F : Bounded) : Type 0 where
@@ -26,4 +24,4 @@ pub record Accepts (P : Instance) (text : List ℕ) (F : Bounded) : Type 0 where
   pub writer-in : GoodWriter (F .writer)
   pub within : Limits P root 0 tree
   pub holds : Holds P root tree
-  pub figures : F ≡ bounded-of P (F .writer) tree
+  pub figures : F .figures ≡ tree-figures P tree

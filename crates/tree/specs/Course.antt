@@ -5,28 +5,27 @@ use mathlib.Core.List.{List, [], _∷_}
 use mathlib.Core.Option.{Option, none, some}
 use Prim.Native.Nat.{ℕ, suc}
 use Rattle.model.specs.Instance.{Instance, _at_}
-use Rattle.model.specs.Above.{Above, root, fix}
-use Rattle.model.specs.Leaf.{leaf-value}
-use Rattle.model.specs.Tree.{Bound, never, number, lower}
+use Rattle.model.specs.Above.{Above, root, Fork, status, side}
+use Rattle.model.specs.declared.figures.Bound.{Bound}
+use Rattle.model.specs.Figures.{no-figures, add-split, add-leaf}
+use Rattle.model.specs.Tree.{Leaf, short, stuck, price, leaf-bound}
 use Rattle.text.specs.Lines.{Line, later, lines-of, line-at, kind-of, end-tree}
 use Rattle.text.specs.Forms.{numbers-of, form-tests, word-tests, nothing-tests}
 use Rattle.text.specs.Writer.{writer-form}
 use Rattle.text.specs.declared.Kind.the-variants as kind
 use Rattle.text.specs.Course.{Found, Judged, judged-from}
 use Rattle.text.specs.Tests.{Test, found}
-use Rattle.tree.specs.Acceptance.{Bounded}
-use Rattle.tree.specs.NodeLines.{line-kind-of, named, node-tests, reserve-tests}
-use Rattle.tree.specs.Refusals.{LineKind, split-line, short-line, stuck-line, price-line, node-form, reserve-form}
-
-abbrev pub by-writer : ℕ → Bounded
-by-writer w = record { writer = w; bound = never; splits = 0; leaves = 0 }
+use Rattle.tree.specs.Places.{Part, priced}
+use Rattle.tree.specs.Refusals.{LineKind, split-line, short-line, stuck-line, price-line, node-form, part-form}
+use Rattle.tree.specs.Acceptance.{Bounded, bounded}
+use Rattle.tree.specs.NodeLines.{line-kind-of, named, node-tests, part-tests}
 
 abbrev pub with-split : Bounded → Bounded
-with-split F = record { writer = F .writer; bound = F .bound; splits = suc (F .splits); leaves = F .leaves }
+with-split F = bounded (F .writer) (add-split (F .figures))
 
 -- one leaf more, with its bound
 abbrev pub with-leaf : Bounded → Bound → Bounded
-with-leaf F b = record { writer = F .writer; bound = lower (F .bound) b; splits = F .splits; leaves = suc (F .leaves) }
+with-leaf F b = bounded (F .writer) (add-leaf (F .figures) b)
 
 -- a node that is still to be read: what stands above it, and its depth
 pub record Pending : Type 0 where
@@ -36,12 +35,12 @@ pub record Pending : Type 0 where
 abbrev pub pending : Above → ℕ → Pending
 pending A d = record { above = A; depth = d }
 
--- the line that is due: the writer; the first of these nodes, or where none is left the end line; the reserve line of a price
--- leaf with these multipliers; nothing more
+-- the line that is due: the writer; the first of these nodes, or where none is left the end line; the next line of a leaf, after a part of
+-- it, and then these nodes; nothing more
 pub data Due : Type 0 where
   writer-due : Due
   nodes-due : Bounded → List Pending → Due
-  reserve-due : Bounded → Above → List ℕ → List Pending → Due
+  part-due : Bounded → Above → Part → List Pending → Due
   nothing-due : Bounded → Due
 
 -- document 01, Numbers that come from the text: the tests of a line at its place
@@ -49,26 +48,35 @@ unfoldable pub tests : Instance → Due → Line → List Test
 tests P writer-due l = form-tests writer-form l []
 tests P (nodes-due F []) l = word-tests end-tree l
 tests P (nodes-due F (p ∷ ps)) l = node-tests P (p .above) (p .depth) (line-kind-of l) l
-tests P (reserve-due F A q ps) l = reserve-tests P A l
+tests P (part-due F A p ps) l = part-tests P A p l
 tests P (nothing-due F) l = nothing-tests
 
--- what is due after a good node line: the two trees of a split, the first with the unit off; a price leaf's reserve line
+-- a fork's two trees are due, the first before the second
+abbrev pub after-fork : Bounded → Pending → List Pending → Fork → Due
+after-fork F p ps f =
+    nodes-due (with-split F) (pending (side f false (p .above)) (suc (p .depth)) ∷ pending (side f true (p .above)) (suc (p .depth)) ∷ ps)
+
+-- a leaf is read
+abbrev pub after-leaf : Instance → Bounded → Above → List Pending → Leaf → Due
+after-leaf P F A ps x = nodes-due (with-leaf F (leaf-bound P A x)) ps
+
+-- what is due after a good node line: a fork's trees, what follows a leaf, or the next line of a leaf that has more
 unfoldable pub after-node : Instance → Bounded → Pending → List Pending → LineKind → Line → Due
-after-node P F p ps split-line l =
-    let U = named (node-form P split-line) l 0 in
-    let t = named (node-form P split-line) l 1 in
-    nodes-due (with-split F) (pending (fix U t false (p .above)) (suc (p .depth)) ∷ pending (fix U t true (p .above)) (suc (p .depth)) ∷ ps)
-after-node P F p ps short-line l = nodes-due (with-leaf F never) ps
-after-node P F p ps stuck-line l = nodes-due (with-leaf F never) ps
-after-node P F p ps price-line l = reserve-due F (p .above) (numbers-of (node-form P price-line) l) ps
+after-node P F p ps split-line l = after-fork F p ps (status (named (node-form P split-line) l 0) (named (node-form P split-line) l 1))
+after-node P F p ps short-line l = after-leaf P F (p .above) ps (short (named (node-form P short-line) l 0))
+after-node P F p ps stuck-line l = after-leaf P F (p .above) ps (stuck (named (node-form P stuck-line) l 0))
+after-node P F p ps price-line l = part-due F (p .above) (priced (numbers-of (node-form P price-line) l)) ps
+
+-- and after a later line of a leaf, which a reserve line ends
+unfoldable pub after-part : Instance → Bounded → Above → Part → List Pending → Line → Due
+after-part P F A (priced q) ps l = after-leaf P F A ps (price q (numbers-of (part-form P (priced q)) l))
 
 -- what is due after a good line
 unfoldable pub next-due : Instance → Due → Line → Due
-next-due P writer-due l = nodes-due (by-writer (numbers-of writer-form l at 0)) (pending root 0 ∷ [])
+next-due P writer-due l = nodes-due (bounded (numbers-of writer-form l at 0) no-figures) (pending root 0 ∷ [])
 next-due P (nodes-due F []) l = nothing-due F
 next-due P (nodes-due F (p ∷ ps)) l = after-node P F p ps (line-kind-of l) l
-next-due P (reserve-due F A q ps) l =
-    nodes-due (with-leaf F (number (leaf-value P (A .marks) (λ t. q at t) (λ t. numbers-of (reserve-form P) l at t)))) ps
+next-due P (part-due F A p ps) l = after-part P F A p ps l
 next-due P (nothing-due F) l = nothing-due F
 
 -- refused by the first of them that holds, or good, with what is due then
@@ -79,7 +87,7 @@ judge P s l = found (tests P s l) (next-due P s l)
 abbrev pub end : Due → Option Bounded
 end writer-due = none
 end (nodes-due F ps) = none
-end (reserve-due F A q ps) = none
+end (part-due F A p ps) = none
 end (nothing-due F) = some F
 
 -- a text whose first line is kind=tree ..

@@ -10,66 +10,54 @@ use Rattle.text.specs.Lines.{Line, bytes-of, begins}
 use Rattle.text.specs.Forms.{Form, numbers-of, form-tests}
 use Rattle.text.specs.Tests.{Test, _if_}
 use Rattle.tree.specs.Rendering.{split-key, short-key, stuck-key}
-use Rattle.tree.specs.Refusals.{LineKind, split-line, short-line, stuck-line, price-line, node-form, reserve-form}
+use Rattle.tree.specs.Places.{Part, priced}
+use Rattle.tree.specs.Refusals.{LineKind, split-line, short-line, stuck-line, price-line, node-form, part-form}
 
 -- ---- what a line is due to be
 
--- by the key that the line begins with; a line with no node's key is no price line either
+-- the keys of node lines but the last, each with its kind
+abbrev pub node-keys : List (List ℕ × LineKind)
+node-keys = (split-key, split-line) ∷ (short-key, short-line) ∷ (stuck-key, stuck-line) ∷ []
+
+-- the kind whose key these bytes begin with; bytes with no node's key are no price line either
+abbrev pub kind-among : List (List ℕ × LineKind) → List ℕ → LineKind
+kind-among [] b = price-line
+kind-among (k ∷ ks) b = cond (begins (k .0) b) (k .1) (kind-among ks b)
+
 unfoldable pub line-kind-of : Line → LineKind
-line-kind-of l =
-    cond (begins split-key (bytes-of l)) split-line
-    (cond (begins short-key (bytes-of l)) short-line
-    (cond (begins stuck-key (bytes-of l)) stuck-line
-    price-line))
+line-kind-of l = kind-among node-keys (bytes-of l)
 
 -- a unit or a period that a line names, from 0
 abbrev pub named : Form → Line → ℕ → ℕ
 named f l i = pred (numbers-of f l at i)
 
--- ---- 31 to 34: a node line of the kind k, at depth d, with A above it
+-- ---- the tests that a kind of node line has after those of its form, in document 01's order; d is its depth, and A stands above it
 
 abbrev pub is-fixed : Mark → Bool
 is-fixed free = false
 is-fixed (fixed b) = true
 
--- 31: a split on a status that is fixed already
-unfoldable pub split-again : Instance → Above → LineKind → Line → Bool
-split-again P A split-line l = is-fixed (A .marks (named (node-form P split-line) l 0) (named (node-form P split-line) l 1))
-split-again P A short-line l = false
-split-again P A stuck-line l = false
-split-again P A price-line l = false
-
--- 32: a split deeper than 63
-unfoldable pub too-deep : ℕ → LineKind → Bool
-too-deep d split-line = ltb 63 d
-too-deep d short-line = false
-too-deep d stuck-line = false
-too-deep d price-line = false
-
+unfoldable pub kind-tests : Instance → Above → ℕ → LineKind → Line → List Test
+-- 31: a split on a status that is fixed already; 32: a split deeper than 63
+kind-tests P A d split-line l =
+    let f = node-form P split-line in
+    31 if is-fixed (A .marks (named f l 0) (named f l 1)) ∷ 32 if ltb 63 d ∷ []
 -- 33: what is available reaches D + R
-unfoldable pub not-short : Instance → Above → LineKind → Line → Bool
-not-short P A split-line l = false
-not-short P A short-line l =
+kind-tests P A d short-line l =
     let t = named (node-form P short-line) l 0 in
-    not (ltb (available (P .units) (A .marks) t) (P .demand at t + P .spare at t))
-not-short P A stuck-line l = false
-not-short P A price-line l = false
-
+    33 if not (ltb (available P A t) (P .demand at t + P .spare at t)) ∷ []
 -- 34: a run of the unit's statuses obeys and agrees
-unfoldable pub not-stuck : Instance → Above → LineKind → Line → Bool
-not-stuck P A split-line l = false
-not-stuck P A short-line l = false
-not-stuck P A stuck-line l = not (stuck-at (P .periods) (P .units) (A .marks) (named (node-form P stuck-line) l 0))
-not-stuck P A price-line l = false
+kind-tests P A d stuck-line l = 34 if not (stuck-at (P .periods) (P .units) (A .marks) (named (node-form P stuck-line) l 0)) ∷ []
+kind-tests P A d price-line l = []
 
--- ---- the order of the numbers (document 01, Numbers that come from the docket)
-
--- a node line
 abbrev pub node-tests : Instance → Above → ℕ → LineKind → Line → List Test
-node-tests P A d k l =
-    form-tests (node-form P k) l
-    (31 if split-again P A k l ∷ 32 if too-deep d k ∷ 33 if not-short P A k l ∷ 34 if not-stuck P A k l ∷ [])
+node-tests P A d k l = form-tests (node-form P k) l (kind-tests P A d k l)
 
--- a reserve line, at which 35 refuses the price leaf
-abbrev pub reserve-tests : Instance → Above → Line → List Test
-reserve-tests P A l = form-tests (reserve-form P) l (35 if any-stuck (P .periods) (P .units) (A .marks) ∷ [])
+-- ---- a later line of a leaf
+
+-- 35: at its reserve line a price leaf is refused where a unit is stuck
+unfoldable pub leaf-tests : Instance → Above → Part → List Test
+leaf-tests P A (priced q) = 35 if any-stuck (P .periods) (P .units) (A .marks) ∷ []
+
+abbrev pub part-tests : Instance → Above → Part → Line → List Test
+part-tests P A p l = form-tests (part-form P p) l (leaf-tests P A p)

@@ -5,13 +5,13 @@ use Prim.Native.Nat.{ℕ, _+_, _≤_}
 use lib.ListN.{length, drop}
 use Rattle.model.specs.Instance.{Instance}
 use Rattle.model.specs.Above.{Above}
+use Rattle.model.specs.declared.figures.TreeFigures.{TreeFigures}
 use Rattle.text.specs.Lines.{Line, lines-of, line-at, end-tree}
 use Rattle.text.specs.Forms.{plain, place-after, form-tests}
 use Rattle.text.specs.Course.{Found, refused, good, Judged, refused-at, accepted}
 use Rattle.text.specs.Tests.{found}
 use Rattle.text.specs.Ends.{end-of, ended-by}
 use Rattle.refusal.specs.Refusals.{refusal-of}
-use Rattle.tree.specs.declared.figures.Tally.{Tally}
 use Rattle.tree.specs.declared.leaf.Read.{Read}
 use Rattle.tree.specs.declared.leaf.Read.the-variants.{Refused, Tree}
 use Rattle.tree.specs.declared.naming.NamedLine.{NamedLine}
@@ -22,16 +22,15 @@ use Rattle.tree.specs.declared.TreeRead.{TreeRead}
 use Rattle.tree.specs.declared.TreeRead.the-variants as answer
 use Rattle.tree.specs.NodeLines.{named, node-tests}
 use Rattle.tree.specs.Refusals.{split-line, node-form}
-use Rattle.tree.specs.Course.{pending, Due, writer-due, nodes-due, reserve-due, nothing-due, judge, tree-judged}
-use Rattle.tree.specs.Acceptance.{Bounded}
-use Rattle.tree.specs.Coded.{bounded, tally-of}
-pub use Rattle.tree.specs.Coded.{coded}
+use Rattle.tree.specs.Places.{Part}
+use Rattle.tree.specs.Course.{pending, Due, writer-due, nodes-due, part-due, nothing-due, judge, tree-judged}
+use Rattle.tree.specs.Acceptance.{Bounded, bounded}
 
 -- ---- document 01's answers, by the cases of the code's enum
 
 unfoldable pub read-as : Judged Bounded → TreeRead
 read-as (refused-at n l) = answer.Refused (refusal-of n l 0 0)
-read-as (accepted F) = answer.Accepted (F .writer) (coded (F .bound)) (F .splits) (F .leaves)
+read-as (accepted F) = answer.Accepted (F .writer) (F .figures)
 
 -- a tree's text
 unfoldable pub tree-read : Instance → List ℕ → TreeRead
@@ -40,15 +39,15 @@ tree-read P text = read-as (tree-judged P text)
 -- ---- a node
 
 -- what was read, where no node is left of those that were due
-abbrev pub all-read : Due → Option Tally
+abbrev pub all-read : Due → Option TreeFigures
 all-read writer-due = none
-all-read (nodes-due F []) = some (tally-of F)
+all-read (nodes-due F []) = some (F .figures)
 all-read (nodes-due F (p ∷ ps)) = none
-all-read (reserve-due F A q ps) = none
+all-read (part-due F A p ps) = none
 all-read (nothing-due F) = none
 
 -- the line l, which starts at the place `at`, is the first after what was read; or the answer is r
-abbrev pub unless-all-read : ℕ → ℕ → Option Tally → Read → Read
+abbrev pub unless-all-read : ℕ → ℕ → Option TreeFigures → Read → Read
 unless-all-read at l none r = r
 unless-all-read at l (some S) r = Tree at l S
 
@@ -66,25 +65,25 @@ read-lines P at l s (x ∷ ls) = unless-all-read at l (all-read s) (by-found l (
 abbrev pub read-from : Instance → List ℕ → ℕ → ℕ → Due → Read
 read-from P text at l s = read-lines P at l s (lines-of (drop at text))
 
--- what is found of a node at depth d with A above it, where S was read before; of two nodes; and of the reserve line of a price leaf.
+-- what is found of a node at depth d with A above it, where S was read before; of two nodes; and of the later lines of a leaf.
 -- The writer plays no part: 0 stands for one
-unfoldable pub node-read : Instance → List ℕ → ℕ → ℕ → Tally → Above → ℕ → Read
+unfoldable pub node-read : Instance → List ℕ → ℕ → ℕ → TreeFigures → Above → ℕ → Read
 node-read P text at l S A d = read-from P text at l (nodes-due (bounded 0 S) (pending A d ∷ []))
 
-unfoldable pub trees-read : Instance → List ℕ → ℕ → ℕ → Tally → Above → Above → ℕ → Read
+unfoldable pub trees-read : Instance → List ℕ → ℕ → ℕ → TreeFigures → Above → Above → ℕ → Read
 trees-read P text at l S A B d = read-from P text at l (nodes-due (bounded 0 S) (pending A d ∷ pending B d ∷ []))
 
-unfoldable pub reserve-read : Instance → List ℕ → ℕ → ℕ → Tally → Above → List ℕ → Read
-reserve-read P text at l S A q = read-from P text at l (reserve-due (bounded 0 S) A q [])
+unfoldable pub part-read : Instance → List ℕ → ℕ → ℕ → TreeFigures → Above → Part → Read
+part-read P text at l S A p = read-from P text at l (part-due (bounded 0 S) A p [])
 
 -- of a leaf: its depth plays no part, and 0 stands for it
-abbrev pub leaf-read : Instance → List ℕ → ℕ → ℕ → Tally → Above → Read
+abbrev pub leaf-read : Instance → List ℕ → ℕ → ℕ → TreeFigures → Above → Read
 leaf-read P text at l S A = node-read P text at l S A 0
 
 -- ---- places and counts
 
 -- the line l starts at the place `at`, and no more splits and leaves were read than lines stand before it
-pub record Placed (text : List ℕ) (at l : ℕ) (S : Tally) : Type 0 where
+pub record Placed (text : List ℕ) (at l : ℕ) (S : TreeFigures) : Type 0 where
   pub short : length text ≤ 1048576
   pub inside : at ≤ length text
   pub numbered : l ≤ at + 1

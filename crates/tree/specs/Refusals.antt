@@ -6,15 +6,15 @@ use Prim.Native.Nat.{ℕ, suc, _-_, _<_}
 use lib.ListN.{length}
 use Rattle.model.specs.Instance.{Instance}
 use Rattle.model.specs.Ranges.{GoodWriter}
-use Rattle.model.specs.Above.{free, Above, root}
-use Rattle.model.specs.Tree.{Tree, short, stuck, price, Limits, Holds, Multipliers}
+use Rattle.model.specs.Above.{free, Above, root, status}
+use Rattle.model.specs.Tree.{short, stuck, price, Tree, GoodFork, GoodLeaf, LeafHolds, Limits, Multipliers}
 use Rattle.text.specs.Lines.{Line, ended, later, lines-of, end-tree}
 use Rattle.text.specs.Forms.{Form, form, plain}
 use Rattle.text.specs.Rendering.{plain-line}
 use Rattle.text.specs.Writer.{writer-form}
 use Rattle.text.specs.LineRefused.{Renders, Unfit, LineRefused}
-use Rattle.tree.specs.Rendering.{split-key, short-key, stuck-key, price-key, reserve-key, lines-after}
-use Rattle.tree.specs.Places.{node-at, reserve-at, LineAt, HoldsAmong}
+use Rattle.tree.specs.Rendering.{split-key, short-key, stuck-key, price-key, reserve-key, fork-line, lines-after}
+use Rattle.tree.specs.Places.{Part, priced, node-at, part-at, LineAt, HoldsAmong}
 
 -- ---- document 01, Texts: the forms of a tree's lines of numbers
 
@@ -29,8 +29,9 @@ node-form P short-line = plain short-key 1 1 (P .periods)
 node-form P stuck-line = plain stuck-key 1 1 (length (P .units))
 node-form P price-line = plain price-key (P .periods) 0 1000000000
 
-abbrev pub reserve-form : Instance → Form
-reserve-form P = plain reserve-key (P .periods) 0 1000000000
+-- the line of a leaf that is due after a part of it: a price leaf's reserve line
+abbrev pub part-form : Instance → Part → Form
+part-form P (priced q) = plain reserve-key (P .periods) 0 1000000000
 
 -- ---- what refuses a line
 
@@ -50,26 +51,25 @@ pub data NodeBreaks (P : Instance) (A : Above) (d : ℕ) (l : Line) : ℕ → Ty
   -- 14, 13: it shows values after the key of one, and they do not fit
   unfit : {n : ℕ} (k : LineKind) (neg : Bool) (vs : List ℕ) → Renders (node-form P k) l neg vs → Unfit (node-form P k) l n → NodeBreaks P A d l n
   -- 31: a split on a status that is fixed already
-  again : (U t : ℕ) → U < length (P .units) → t < P .periods → l ≡ ended (plain-line split-key (suc U ∷ suc t ∷ [])) → (A .marks U t ≡ free → ⊥) → NodeBreaks P A d l 31
+  again : (U t : ℕ) → U < length (P .units) → t < P .periods → l ≡ ended (fork-line (status U t)) → (A .marks U t ≡ free → ⊥) → NodeBreaks P A d l 31
   -- 32: a split deeper than 63
-  deeper : (U t : ℕ) → U < length (P .units) → t < P .periods → l ≡ ended (plain-line split-key (suc U ∷ suc t ∷ [])) → A .marks U t ≡ free → 63 < d
-      → NodeBreaks P A d l 32
+  deeper : (U t : ℕ) → GoodFork P A (status U t) → l ≡ ended (fork-line (status U t)) → 63 < d → NodeBreaks P A d l 32
   -- 33, 34: a leaf that does not meet its rule
-  short-fails : (t : ℕ) → Limits P A d (short t) → l ≡ ended (plain-line short-key (suc t ∷ [])) → (Holds P A (short t) → ⊥) → NodeBreaks P A d l 33
-  stuck-fails : (U : ℕ) → Limits P A d (stuck U) → l ≡ ended (plain-line stuck-key (suc U ∷ [])) → (Holds P A (stuck U) → ⊥) → NodeBreaks P A d l 34
+  short-fails : (t : ℕ) → GoodLeaf P (short t) → l ≡ ended (plain-line short-key (suc t ∷ [])) → (LeafHolds P A (short t) → ⊥) → NodeBreaks P A d l 33
+  stuck-fails : (U : ℕ) → GoodLeaf P (stuck U) → l ≡ ended (plain-line stuck-key (suc U ∷ [])) → (LeafHolds P A (stuck U) → ⊥) → NodeBreaks P A d l 34
 
--- n refuses the line l where the reserve line of a price leaf is due, with A above the leaf and q its price multipliers
-pub data ReserveBreaks (P : Instance) (A : Above) (q : List ℕ) (l : Line) : ℕ → Type 0 where
-  unfit-reserve : {n : ℕ} → Unfit (reserve-form P) l n → ReserveBreaks P A q l n
+-- n refuses the line l where a later line of a leaf is due, with A above the leaf, after a part of it
+pub data PartBreaks (P : Instance) (A : Above) (l : Line) : Part → ℕ → Type 0 where
+  unfit-part : {n : ℕ} {p : Part} → Unfit (part-form P p) l n → PartBreaks P A l p n
   -- 35: the leaf that this line ends does not meet its rule
-  some-stuck : (s : List ℕ) → Multipliers P s → l ≡ ended (plain-line reserve-key s) → (Holds P A (price q s) → ⊥) → ReserveBreaks P A q l 35
+  some-stuck : (q s : List ℕ) → Multipliers P s → l ≡ ended (plain-line reserve-key s) → (LeafHolds P A (price q s) → ⊥) → PartBreaks P A l (priced q) 35
 
 module _ (P : Instance) where
   -- n refuses the line l where line k of the text is due
   pub data Breaks (v : WrittenTree) (k : ℕ) (l : Line) : ℕ → Type 0 where
     at-writer : {n : ℕ} → k ≡ 0 → Unfit writer-form l n → Breaks v k l n
     at-node : {n i d : ℕ} {A : Above} → k ≡ suc i → LineAt root 0 (v .tree) i (node-at A d) → NodeBreaks P A d l n → Breaks v k l n
-    at-reserve : {n i : ℕ} {A : Above} {q : List ℕ} → k ≡ suc i → LineAt root 0 (v .tree) i (reserve-at A q) → ReserveBreaks P A q l n → Breaks v k l n
+    at-part : {n i : ℕ} {A : Above} {p : Part} → k ≡ suc i → LineAt root 0 (v .tree) i (part-at A p) → PartBreaks P A l p n → Breaks v k l n
 
   -- a writer in range and a tree within the limits
   abbrev pub InLimits : WrittenTree → ℕ → Type 0

@@ -1,7 +1,8 @@
 -- Document 01, Texts: how a tree is written.
 use mathlib.Core.List.{List, [], _∷_, _++_}
 use Prim.Native.Nat.{ℕ, suc}
-use Rattle.model.specs.Tree.{Tree, split, short, stuck, price}
+use Rattle.model.specs.Above.{Fork, status}
+use Rattle.model.specs.Tree.{Leaf, short, stuck, price, Tree, leaf, fork}
 use Rattle.text.specs.Lines.{kind-tree, end-tree}
 use Rattle.text.specs.Rendering.{plain-line, text-of}
 use Rattle.text.specs.Writer.{writer-key}
@@ -26,12 +27,20 @@ price-key = 112 ∷ 114 ∷ 105 ∷ 99 ∷ 101 ∷ 61 ∷ []
 abbrev pub reserve-key : List ℕ
 reserve-key = 114 ∷ 101 ∷ 115 ∷ 101 ∷ 114 ∷ 118 ∷ 101 ∷ 61 ∷ []
 
--- the lines of a tree, a split's own before those of its trees; in texts units and periods count from 1
+-- the line of a fork; in texts units and periods count from 1
+abbrev pub fork-line : Fork → List ℕ
+fork-line (status U t) = plain-line split-key (suc U ∷ suc t ∷ [])
+
+-- the lines of a leaf
+abbrev pub leaf-lines : Leaf → List (List ℕ)
+leaf-lines (short t) = plain-line short-key (suc t ∷ []) ∷ []
+leaf-lines (stuck U) = plain-line stuck-key (suc U ∷ []) ∷ []
+leaf-lines (price q s) = plain-line price-key q ∷ plain-line reserve-key s ∷ []
+
+-- the lines of a tree, a fork's own before those of its trees
 unfoldable pub node-lines : Tree → List (List ℕ)
-node-lines (split U t x y) = plain-line split-key (suc U ∷ suc t ∷ []) ∷ (node-lines x ++ node-lines y)
-node-lines (short t) = plain-line short-key (suc t ∷ []) ∷ []
-node-lines (stuck U) = plain-line stuck-key (suc U ∷ []) ∷ []
-node-lines (price q s) = plain-line price-key q ∷ plain-line reserve-key s ∷ []
+node-lines (leaf l) = leaf-lines l
+node-lines (fork f x y) = fork-line f ∷ (node-lines x ++ node-lines y)
 
 -- the lines of the text after the first
 abbrev pub lines-after : ℕ → Tree → List (List ℕ)

@@ -2,23 +2,24 @@
 ghost use mathlib.Core.Path.{_≡_};
 ghost use lib.ListN.{length, take};
 ghost use Rattle.model.specs.Tree.{Multipliers};
-ghost use Rattle.numbers.specs.Numbers.{instance-in, Laid};
+ghost use Rattle.layout.specs.Numbers.{instance-in, Laid};
+ghost use Rattle.walk.specs.Marks.{above-of, above-length};
 ghost use Rattle.text.specs.Lines.{line-at};
 ghost use Rattle.tree.specs.NodeLines.{line-kind-of};
 ghost use Rattle.tree.specs.Refusals.{short-line, stuck-line, price-line};
-ghost use Rattle.tree.specs.Coded.{above-of};
-ghost use Rattle.tree.specs.ReadAnswers.{leaf-read, reserve-read, Placed};
-use crate::figures::Bound;
-use crate::figures::Tally;
+ghost use Rattle.tree.specs.Places.{priced};
+ghost use Rattle.tree.specs.ReadAnswers.{leaf-read, part-read, Placed};
 use crate::naming::NamedLine;
 use crate::naming::read_named;
-use least::leaf::leaf_value;
-use least::short::is_short;
+use layout::periods_in;
+use layout::units_in;
 use least::stuck::is_unit_stuck;
 use least::unit::Least;
+use leaves::price::leaf_value;
+use leaves::short::is_short;
+use model::figures::Bound;
+use model::figures::TreeFigures;
 use model::ranges::Price;
-use numbers::periods_in;
-use numbers::units_in;
 use text::Verdict;
 
 // What reading a tree finds: a refusal at a line, or what was read with it, the next line's start and its number.
@@ -30,7 +31,7 @@ pub enum Read {
     Tree {
         next: usize,
         line: usize,
-        tally: Tally,
+        figures: TreeFigures,
     },
 }
 
@@ -40,25 +41,25 @@ pub fn read_short(
     text: &[u8],
     at: usize,
     line: usize,
-    fixed: &[u8],
-    tally: Tally,
+    above: &[u8],
+    figures: TreeFigures,
 ) -> Read
     requires { ⌜ Laid (now numbers) ⌝ }
-    requires { ⌜ length (now fixed) ≡ 1536 ⌝ }
-    requires { ⌜ Placed (now text) at line tally ⌝ }
+    requires { ⌜ length (now above) ≡ above-length ⌝ }
+    requires { ⌜ Placed (now text) at line figures ⌝ }
     requires { ⌜ line-kind-of (line-at (now text) at) ≡ short-line ⌝ }
-    ensures { λ r. ⌜ r ≡ leaf-read (instance-in (now (numbers .entry))) (now (text .entry)) at line tally (above-of (instance-in (now (numbers .entry)) .periods) (now (fixed .entry))) ⌝ }
+    ensures { λ r. ⌜ r ≡ leaf-read (instance-in (now (numbers .entry))) (now (text .entry)) at line figures (above-of (instance-in (now (numbers .entry))) (now (above .entry))) ⌝ }
 {
     let periods = periods_in(numbers);
     let found = read_named(text, at, b"short=", periods);
     match found {
         NamedLine::Refused { number } => Read::Refused { number, line },
         NamedLine::Names { index, next } => {
-            if is_short(numbers, index, fixed) {
+            if is_short(numbers, index, above) {
                 return Read::Tree {
                     next,
                     line: line + 1,
-                    tally: tally.with_leaf(Bound::Never),
+                    figures: figures.with_leaf(Bound::Never),
                 };
             }
             Read::Refused { number: 33, line }
@@ -72,25 +73,25 @@ pub fn read_stuck(
     text: &[u8],
     at: usize,
     line: usize,
-    fixed: &[u8],
-    tally: Tally,
+    above: &[u8],
+    figures: TreeFigures,
 ) -> Read
     requires { ⌜ Laid (now numbers) ⌝ }
-    requires { ⌜ length (now fixed) ≡ 1536 ⌝ }
-    requires { ⌜ Placed (now text) at line tally ⌝ }
+    requires { ⌜ length (now above) ≡ above-length ⌝ }
+    requires { ⌜ Placed (now text) at line figures ⌝ }
     requires { ⌜ line-kind-of (line-at (now text) at) ≡ stuck-line ⌝ }
-    ensures { λ r. ⌜ r ≡ leaf-read (instance-in (now (numbers .entry))) (now (text .entry)) at line tally (above-of (instance-in (now (numbers .entry)) .periods) (now (fixed .entry))) ⌝ }
+    ensures { λ r. ⌜ r ≡ leaf-read (instance-in (now (numbers .entry))) (now (text .entry)) at line figures (above-of (instance-in (now (numbers .entry))) (now (above .entry))) ⌝ }
 {
     let units = units_in(numbers);
     let found = read_named(text, at, b"stuck=", units);
     match found {
         NamedLine::Refused { number } => Read::Refused { number, line },
         NamedLine::Names { index, next } => {
-            if is_unit_stuck(numbers, index, fixed) {
+            if is_unit_stuck(numbers, index, above) {
                 return Read::Tree {
                     next,
                     line: line + 1,
-                    tally: tally.with_leaf(Bound::Never),
+                    figures: figures.with_leaf(Bound::Never),
                 };
             }
             Read::Refused { number: 34, line }
@@ -105,14 +106,14 @@ fn read_reserve(
     at: usize,
     line: usize,
     q: [u64; 48],
-    fixed: &[u8],
-    tally: Tally,
+    above: &[u8],
+    figures: TreeFigures,
 ) -> Read
     requires { ⌜ Laid (now numbers) ⌝ }
-    requires { ⌜ length (now fixed) ≡ 1536 ⌝ }
-    requires { ⌜ Placed (now text) at line tally ⌝ }
+    requires { ⌜ length (now above) ≡ above-length ⌝ }
+    requires { ⌜ Placed (now text) at line figures ⌝ }
     requires { ⌜ Multipliers (instance-in (now numbers)) (take (instance-in (now numbers) .periods) q) ⌝ }
-    ensures { λ r. ⌜ r ≡ reserve-read (instance-in (now (numbers .entry))) (now (text .entry)) at line tally (above-of (instance-in (now (numbers .entry)) .periods) (now (fixed .entry))) (take (instance-in (now (numbers .entry)) .periods) q) ⌝ }
+    ensures { λ r. ⌜ r ≡ part-read (instance-in (now (numbers .entry))) (now (text .entry)) at line figures (above-of (instance-in (now (numbers .entry))) (now (above .entry))) (priced (take (instance-in (now (numbers .entry)) .periods) q)) ⌝ }
 {
     let periods = periods_in(numbers);
     let row = text::read_row(text, at, b"reserve=", periods, Price::LEAST, Price::MOST);
@@ -121,14 +122,14 @@ fn read_reserve(
         Verdict::Refused { number } => Read::Refused { number, line },
         Verdict::Good { next } => {
             let s = row.values;
-            let least = leaf_value(numbers, &q[..periods], &s[..periods], fixed);
+            let least = leaf_value(numbers, &q[..periods], &s[..periods], above);
             let Least::Value(v) = least else {
                 return Read::Refused { number: 35, line };
             };
             Read::Tree {
                 next,
                 line: line + 1,
-                tally: tally.with_leaf(Bound::Number(v)),
+                figures: figures.with_leaf(Bound::Number(v)),
             }
         }
     }
@@ -140,14 +141,14 @@ pub fn read_price(
     text: &[u8],
     at: usize,
     line: usize,
-    fixed: &[u8],
-    tally: Tally,
+    above: &[u8],
+    figures: TreeFigures,
 ) -> Read
     requires { ⌜ Laid (now numbers) ⌝ }
-    requires { ⌜ length (now fixed) ≡ 1536 ⌝ }
-    requires { ⌜ Placed (now text) at line tally ⌝ }
+    requires { ⌜ length (now above) ≡ above-length ⌝ }
+    requires { ⌜ Placed (now text) at line figures ⌝ }
     requires { ⌜ line-kind-of (line-at (now text) at) ≡ price-line ⌝ }
-    ensures { λ r. ⌜ r ≡ leaf-read (instance-in (now (numbers .entry))) (now (text .entry)) at line tally (above-of (instance-in (now (numbers .entry)) .periods) (now (fixed .entry))) ⌝ }
+    ensures { λ r. ⌜ r ≡ leaf-read (instance-in (now (numbers .entry))) (now (text .entry)) at line figures (above-of (instance-in (now (numbers .entry))) (now (above .entry))) ⌝ }
 {
     let periods = periods_in(numbers);
     let row = text::read_row(text, at, b"price=", periods, Price::LEAST, Price::MOST);
@@ -156,7 +157,7 @@ pub fn read_price(
         Verdict::Refused { number } => Read::Refused { number, line },
         Verdict::Good { next } => {
             let q = row.values;
-            read_reserve(numbers, text, next, line + 1, q, fixed, tally)
+            read_reserve(numbers, text, next, line + 1, q, above, figures)
         }
     }
 }

@@ -5,18 +5,16 @@ ghost use lib.ListN.{length};
 ghost use Rattle.model.specs.Held.{view, Valid};
 ghost use Rattle.tree.specs.Course.{IsTree};
 ghost use Rattle.tree.specs.ReadAnswers.{Came, ended-as, tree-read};
-use crate::figures::Bound;
-use crate::figures::Tally;
 use crate::leaf::Read;
 use crate::node::read_node;
+use layout::lay_out;
 use model::arrays::Problem;
-use numbers::lay_out;
+use model::figures::TreeFigures;
 use reader::Written;
 use refusal::Refusal;
 use text::End;
 
 mod above;
-pub mod figures;
 mod leaf;
 mod naming;
 mod node;
@@ -28,12 +26,7 @@ const SECOND_LINE: usize = 10;
 // What a tree's text is found to be.
 pub enum TreeRead {
     Refused(Refusal),
-    Accepted {
-        writer: u64,
-        bound: Bound,
-        splits: usize,
-        leaves: usize,
-    },
+    Accepted { writer: u64, figures: TreeFigures },
 }
 
 // The answer where the tree was read as this, and the end line is due.
@@ -43,22 +36,16 @@ fn read_end(text: &[u8], writer: u64, read: Read) -> TreeRead
 {
     match read {
         Read::Refused { number, line } => TreeRead::Refused(refusal::refuse(number, line, 0, 0)),
-        Read::Tree { next, line, tally } => {
+        Read::Tree {
+            next,
+            line,
+            figures,
+        } => {
             let end = reader::read_end(text, next, b"end=tree");
             match end {
                 End::Missing => TreeRead::Refused(refusal::refuse(12, line, 0, 0)),
                 End::Followed => TreeRead::Refused(refusal::refuse(12, line + 1, 0, 0)),
-                End::Last => {
-                    let bound = tally.bound;
-                    let splits = tally.splits;
-                    let leaves = tally.leaves;
-                    TreeRead::Accepted {
-                        writer,
-                        bound,
-                        splits,
-                        leaves,
-                    }
-                }
+                End::Last => TreeRead::Accepted { writer, figures },
             }
         }
     }
@@ -78,8 +65,8 @@ pub fn read_tree(problem: Problem, text: &[u8]) -> TreeRead
         Written::By { writer } => {
             let next = line.next;
             let numbers = lay_out(problem);
-            let mut fixed = [0u8; 1536];
-            let read = read_node(&numbers, text, next, 3, 0, &mut fixed, Tally::none());
+            let mut above = [0u8; 1536];
+            let read = read_node(&numbers, text, next, 3, 0, &mut above, TreeFigures::none());
             read_end(text, writer, read)
         }
     }

@@ -2,12 +2,13 @@
 ghost use mathlib.Core.Path.{_≡_};
 ghost use Prim.Native.Nat.{_+_, _*_, _≤_, _<_};
 ghost use lib.ListN.{length};
-ghost use Rattle.numbers.specs.Numbers.{instance-in, Laid};
-ghost use Rattle.tree.specs.Coded.{above-of, split-refusal};
+ghost use Rattle.layout.specs.Numbers.{instance-in, Laid};
+ghost use Rattle.walk.specs.Marks.{above-of, above-length};
+ghost use Rattle.tree.specs.Coded.{split-refusal};
 ghost use Rattle.tree.specs.ReadAnswers.{split-line-read};
 use crate::above::is_fixed;
-use numbers::periods_in;
-use numbers::units_in;
+use layout::periods_in;
+use layout::units_in;
 use text::Verdict;
 
 // The depth of the deepest split.
@@ -26,11 +27,11 @@ pub enum SplitLine {
 }
 
 // The number that refuses a split on the status at a place (31, 32), or 0.
-fn refuse_split(fixed: &[u8], place: usize, depth: usize) -> u64
-    requires { ⌜ place < length (now fixed) ⌝ }
-    ensures { λ r. ⌜ r ≡ split-refusal (now (fixed .entry)) place depth ⌝ }
+fn refuse_split(above: &[u8], place: usize, depth: usize) -> u64
+    requires { ⌜ place < length (now above) ⌝ }
+    ensures { λ r. ⌜ r ≡ split-refusal (now (above .entry)) place depth ⌝ }
 {
-    let status = fixed[place];
+    let status = above[place];
     if is_fixed(status) {
         return 31;
     }
@@ -46,12 +47,12 @@ pub fn read_split_line(
     text: &[u8],
     at: usize,
     depth: usize,
-    fixed: &[u8],
+    above: &[u8],
 ) -> SplitLine
     requires { ⌜ Laid (now numbers) ⌝ }
-    requires { ⌜ length (now fixed) ≡ 1536 ⌝ }
+    requires { ⌜ length (now above) ≡ above-length ⌝ }
     requires { ⌜ length (now text) ≤ 1048576 ⌝ }
-    ensures { λ r. ⌜ r ≡ split-line-read (instance-in (now (numbers .entry))) (now (text .entry)) at (above-of (instance-in (now (numbers .entry)) .periods) (now (fixed .entry))) depth ⌝ }
+    ensures { λ r. ⌜ r ≡ split-line-read (instance-in (now (numbers .entry))) (now (text .entry)) at (above-of (instance-in (now (numbers .entry))) (now (above .entry))) depth ⌝ }
 {
     let units = units_in(numbers);
     let periods = periods_in(numbers);
@@ -64,7 +65,7 @@ pub fn read_split_line(
         Verdict::Good { next } => {
             let unit = (values[0] - 1) as usize;
             let period = (values[1] - 1) as usize;
-            let number = refuse_split(fixed, unit * periods + period, depth);
+            let number = refuse_split(above, unit * periods + period, depth);
             if number != 0 {
                 return SplitLine::Refused { number };
             }

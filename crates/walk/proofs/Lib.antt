@@ -1,5 +1,6 @@
 -- What the functions' proofs lean on.
 pub mod StatusMarks
+pub mod AboveMarks
 pub mod Chains
 pub mod Rising
 pub mod Walks

@@ -13,7 +13,7 @@ ghost use Rattle.walk.specs.Limits.{GoodCost, GoodCosts, GoodValue};
 ghost use Rattle.walk.specs.GoingBack.{by-status, costs-of, Tables};
 
 mod chain;
-mod table;
+pub mod table;
 mod valued;
 
 use crate::table::kept_value;
@@ -37,7 +37,7 @@ fn walk_back(g: Generator, on: &[u64], off: &[u64], fixed: &[u8], ons: &mut [u64
 }
 
 // The place in a table of len states of the state after n periods.
-fn place(n: usize, len: usize) -> usize
+pub fn place(n: usize, len: usize) -> usize
     requires { ⌜ (1 ≤ n) × (1 ≤ len) ⌝ }
     ensures { λ r. ⌜ r ≡ min n len - 1 ⌝ }
 {

@@ -1,5 +1,5 @@
 -- A docket that keeps the last of equal schedules, or of equal trees, breaks demand 3, however it reports: the same text by another writer is passed.
-use mathlib.Core.Path.{_≡_, refl, sym, subst, _∙_}
+use mathlib.Core.Path.{_≡_, refl, sym, subst}
 use mathlib.Core.Bool.{Bool, true, false, not, cond}
 use Prim.Native.Nat.{ℕ}
 use native.Mathlib.Omega.{arith}
@@ -8,10 +8,10 @@ use lib.IntN.{ℤ}
 use lib.Signed.{ltZ}
 use borrow.Author.Tests.{le-leb}
 use Rattle.model.specs.Held.{view}
-use Rattle.model.specs.Tree.{Bound, never, number}
+use Rattle.model.specs.declared.figures.Bound.{Bound}
+use Rattle.model.specs.declared.figures.Bound.the-variants.{Never as never, Number as number}
+use Rattle.model.specs.declared.figures.TreeFigures.{TreeFigures}
 use Rattle.model.proofs.Integers.{ltZ→nat}
-use Rattle.tree.specs.Coded.{bound-of}
-use Rattle.tree.specs.ReadAnswers.{coded}
 use Rattle.docket.specs.declared.Docket.{Docket}
 use Rattle.docket.specs.declared.held.CostBy.{CostBy}
 use Rattle.docket.specs.declared.held.HeldCost.{HeldCost}
@@ -21,7 +21,7 @@ use Rattle.docket.specs.declared.held.HeldBound.the-variants as held-bound
 use Rattle.answer.specs.declared.Answer.the-variants.{ScheduleHeld, SchedulePassed, TreeHeld, TreePassed}
 use Rattle.answer.specs.StatedAnswers.{its-cost, its-bound, Stated, stated, Carries}
 use Rattle.docket.specs.Verdicts.{Costed, Verdict, refused, problem, schedule, tree}
-use Rattle.docket.specs.Lodging.{text-judged, lodged, with-schedule, with-bound, given-figures, is-less, is-higher}
+use Rattle.docket.specs.Lodging.{text-judged, lodged, with-schedule, with-bound, is-less, is-higher}
 use Rattle.docket.specs.Demand3.{reached, Reporting, Writing, Demand3}
 use Rattle.wrong.specs.WrongDockets.{IsHeld, IsBound}
 use Rattle.wrong.specs.WrongHolding as wrong
@@ -33,7 +33,7 @@ use Rattle.wrong.proofs.WrongDockets as refuted
 abbrev told : Docket → Costed → Bool → Stated
 told d s t = stated (cond t (lodged (with-schedule d s) (ScheduleHeld (s .cost))) (lodged d (SchedulePassed (s .cost))) .answer)
 
-no-bound-told : {A : Type 0} {c : ℕ} {b : Bound} {m n : ℕ} → its-bound b m n ≡ its-cost c → A
+no-bound-told : {A : Type 0} {c : ℕ} {F : TreeFigures} → its-bound F ≡ its-cost c → A
 no-bound-told e = absurd (let z : _≡_ {A = ℕ} 0 1 = cc in omega arith)
 
 module _ (d : Docket) (s : Costed) where
@@ -57,10 +57,10 @@ last-held : (d : Docket) (by : CostBy) (v : Verdict) → d .held .cost ≡ held-
 last-held d by (refused r) e c = absurd c
 last-held d by (problem P) e c = tt
 last-held d by (schedule s) e c = told-held d s by (d .held .cost) e c
-last-held d by (tree F) e c = go (is-higher (F .bound) (d .held .bound)) c
+last-held d by (tree F) e c = go (is-higher (F .figures .bound) (d .held .bound)) c
   where
-    go : (t : Bool) → Carries (stated (cond t (lodged (with-bound d F) (TreeHeld (given-figures F))) (lodged d (TreePassed (given-figures F))) .answer)) (its-cost (by .cost))
-        → IsHeld (stated (cond t (lodged (with-bound d F) (TreeHeld (given-figures F))) (lodged d (TreePassed (given-figures F))) .answer))
+    go : (t : Bool) → Carries (stated (cond t (lodged (with-bound d F) (TreeHeld (F .figures))) (lodged d (TreePassed (F .figures))) .answer)) (its-cost (by .cost))
+        → IsHeld (stated (cond t (lodged (with-bound d F) (TreeHeld (F .figures))) (lodged d (TreePassed (F .figures))) .answer))
     go true c = tt
     go false c = no-bound-told c
 
@@ -85,32 +85,28 @@ same-not-lower (number z) (held-bound.Number n) i = let e : n .value ≡ z = cc 
 same-not-lower never (held-bound.Never n) i = refl
 same-not-lower (number z) (held-bound.Never n) i = absurd (let z : _≡_ {A = ℕ} 0 1 = cc in omega arith)
 
-coded-back : (b : Bound) → bound-of (coded b) ≡ b
-coded-back never = refl
-coded-back (number z) = refl
-
-last-tree-held : (d : Docket) (b : Bound) (m n : ℕ) (v : Verdict) → IsBound (d .held .bound) b → Carries (stated (wrong.hold-last-tree d v .answer)) (its-bound b m n)
+last-tree-held : (d : Docket) (F : TreeFigures) (v : Verdict) → IsBound (d .held .bound) (F .bound) → Carries (stated (wrong.hold-last-tree d v .answer)) (its-bound F)
     → IsHeld (stated (wrong.hold-last-tree d v .answer))
-last-tree-held d b m n (refused r) i c = absurd c
-last-tree-held d b m n (problem P) i c = tt
-last-tree-held d b m n (schedule s) i c = go (is-less (s .cost) (d .held .cost)) c
+last-tree-held d F (refused r) i c = absurd c
+last-tree-held d F (problem P) i c = tt
+last-tree-held d F (schedule s) i c = go (is-less (s .cost) (d .held .cost)) c
   where
-    go : (t : Bool) → Carries (told d s t) (its-bound b m n) → IsHeld (told d s t)
+    go : (t : Bool) → Carries (told d s t) (its-bound F) → IsHeld (told d s t)
     go true c = tt
     go false c = no-bound-told (sym c)
-last-tree-held d b m n (tree F) i c = go (wrong.not-lower (F .bound) (d .held .bound)) refl c
+last-tree-held d F (tree G) i c = go (wrong.not-lower (G .figures .bound) (d .held .bound)) refl c
   where
-    go : (t : Bool) → wrong.not-lower (F .bound) (d .held .bound) ≡ t
-        → Carries (stated (cond t (lodged (with-bound d F) (TreeHeld (given-figures F))) (lodged d (TreePassed (given-figures F))) .answer)) (its-bound b m n)
-        → IsHeld (stated (cond t (lodged (with-bound d F) (TreeHeld (given-figures F))) (lodged d (TreePassed (given-figures F))) .answer))
+    go : (t : Bool) → wrong.not-lower (G .figures .bound) (d .held .bound) ≡ t
+        → Carries (stated (cond t (lodged (with-bound d G) (TreeHeld (G .figures))) (lodged d (TreePassed (G .figures))) .answer)) (its-bound F)
+        → IsHeld (stated (cond t (lodged (with-bound d G) (TreeHeld (G .figures))) (lodged d (TreePassed (G .figures))) .answer))
     go true e c = tt
     go false e c =
-        let f : bound-of (coded (F .bound)) ≡ b = cc in
-        let g = same-not-lower (F .bound) (d .held .bound) (subst (IsBound (d .held .bound)) (sym f ∙ coded-back (F .bound)) i) in
+        let f : G .figures ≡ F = cc in
+        let g = same-not-lower (G .figures .bound) (d .held .bound) (subst (λ (x : TreeFigures). IsBound (d .held .bound) (x .bound)) (sym f) i) in
         let z : _≡_ {A = ℕ} 0 1 = cc in
         absurd (omega arith)
 
 pub keeping-last-tree-fails : {report : Reporting} {buffer : Writing} → Demand3 wrong.keeping-last-tree report buffer → ⊥
-keeping-last-tree-fails D = refuted.keeps-last-tree wrong.keeping-last-tree D (λ texts text b m n i c.
+keeping-last-tree-fails D = refuted.keeps-last-tree wrong.keeping-last-tree D (λ texts text F i c.
     let d = reached wrong.keeping-last-tree texts in
-    last-tree-held d b m n (text-judged (d .known) (view (d .problem)) text) i c)
+    last-tree-held d F (text-judged (d .known) (view (d .problem)) text) i c)

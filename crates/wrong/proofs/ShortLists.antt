@@ -1,18 +1,23 @@
 -- Short lists of document 01's problem, its schedules and its trees, and what their texts are.
-use mathlib.Core.Path.{_≡_, refl, ap, _∙_}
+use mathlib.Core.Path.{_≡_, refl, ap, subst, _∙_}
 use mathlib.Core.Bool.{true, false}
 use mathlib.Core.List.{List, [], _∷_}
 use mathlib.Core.Option.{none, some}
 use Prim.Native.Nat.{ℕ}
 use native.Mathlib.Omega.{arith}
-use lib.Dec.{lit<, lit≤}
+use lib.Dec.{lit≤}
+use lib.IntN.{pos}
 use Rattle.decimal.specs.Decimal.{digits, digits-by}
-use Rattle.model.specs.Cost.{row-cost}
-use Rattle.model.specs.Leaf.{available, rows-of, is-stuck, revenue, value, unit-least, units-least, requirement, leaf-value}
-use Rattle.model.specs.Tree.{Limits, Holds, bound, splits, leaves}
+use Rattle.model.specs.declared.figures.Bound.{Bound}
+use Rattle.model.specs.declared.figures.Bound.the-variants.{Number as number}
+use Rattle.model.specs.declared.figures.TreeFigures.{TreeFigures}
+use Rattle.model.specs.Figures.{tree-gives}
+use Rattle.model.specs.Tree.{splits, leaves}
+use Rattle.model.proofs.BoundExamples.{example-limits, example-holds, example-bound}
 use Rattle.problem.proofs.Examples.{example}
 use Rattle.schedule.specs.Rendering as rendered-schedules
 use Rattle.tree.specs.Rendering as rendered-trees
+use Rattle.tree.specs.Acceptance.{bounded}
 use Rattle.docket.specs.declared.Docket.{Docket}
 use Rattle.docket.specs.Docket.{fresh-docket}
 use Rattle.docket.specs.Verdicts.{Costed, Verdict, problem, schedule, tree}
@@ -73,12 +78,18 @@ tree-text-too = rendered-trees.render 4 one-split
 abbrev pub lone-text : List ℕ
 lone-text = rendered-trees.render 4 lone-price
 
+-- what they give
+abbrev pub tree-given : TreeFigures
+tree-given = tree-gives (number (pos 1980)) 1 2
+
+abbrev pub lone-given : TreeFigures
+lone-given = tree-gives (number (pos 1940)) 0 1
+
 pub is-tree-too : Is (some example) tree-text-too (tree (figures 4 1980 1 2))
-unfolding rendered-trees.render rendered-trees.node-lines digits digits-by Limits Holds available is-stuck bound leaf-value units-least unit-least rows-of value revenue requirement row-cost splits leaves
+unfolding rendered-trees.render rendered-trees.node-lines digits digits-by splits leaves
 is-tree-too =
-    a-tree 4 one-split (lit≤ tt) refl (lit≤ tt, lit≤ tt)
-    (lit< tt, lit< tt, refl, lit≤ tt, lit< tt, ((refl, ((lit≤ tt, lit≤ tt), ((lit≤ tt, lit≤ tt), tt))), (refl, ((lit≤ tt, lit≤ tt), ((lit≤ tt, lit≤ tt), tt)))))
-    ((lit< tt, lit< tt), tt)
+    subst (λ (b : Bound). Is (some example) tree-text-too (tree (bounded 4 (tree-gives b 1 2)))) example-bound
+    (a-tree 4 one-split (lit≤ tt) refl (lit≤ tt, lit≤ tt) example-limits example-holds)
 
 pub tree-are : Are none (problem-text ∷ tree-text ∷ []) (problem example ∷ tree (figures 3 1980 1 2) ∷ [])
 tree-are = then is-problem (then is-tree no-more)

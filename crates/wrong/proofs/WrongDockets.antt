@@ -12,7 +12,10 @@ use Rattle.model.specs.Ranges.{every}
 use Rattle.model.specs.declared.arrays.Problem.{Problem}
 use Rattle.model.specs.Held as arrays
 use Rattle.model.specs.Above.{root}
-use Rattle.model.specs.Tree.{short, stuck, Bound, number, bound, splits, leaves}
+use Rattle.model.specs.declared.figures.Bound.{Bound}
+use Rattle.model.specs.declared.figures.Bound.the-variants.{Number as number}
+use Rattle.model.specs.declared.figures.TreeFigures.{TreeFigures}
+use Rattle.model.specs.Tree.{short, stuck, leaf, bound, tree-figures}
 use Rattle.model.specs.Best.{higher}
 use Rattle.refusal.specs.declared.Refusal.{Refusal}
 use Rattle.problem.proofs.Examples.{example, example-formed}
@@ -30,7 +33,7 @@ use Rattle.docket.proofs.NextText.{answered}
 use Rattle.docket.proofs.AfterTexts.{reached-is}
 use Rattle.docket.proofs.Specimens.{problem-text, problem-short, rows, figures, is-problem, is-second, is-cheap, is-cheap-too, is-tree, is-lone-price, is-not-short, is-not-stuck}
 use Rattle.wrong.specs.WrongDockets.{IsRefused, IsHeld, IsPassed, IsBound, answer, RefusesAll, RefusesRest, OneBound, PassesRest, Invents, StuckUnexamined, NeverUnexamined, SecondProblem, KeepsLast, KeepsLastTree}
-use Rattle.wrong.proofs.ShortLists.{begun, begun-as, begun-are, cheap, cheap-text, cheap-are, tree-text, tree-text-too, lone-text, tree-are, is-tree-too}
+use Rattle.wrong.proofs.ShortLists.{begun, begun-as, begun-are, cheap, cheap-text, cheap-are, tree-text, tree-text-too, lone-text, tree-given, lone-given, tree-are, is-tree-too}
 
 not-refused : (s : Costed) (r : Refusal) → schedule s ≡ refused r → ⊥
 not-refused s r e = let z : _≡_ {A = ℕ} 0 1 = cc in omega arith
@@ -79,20 +82,20 @@ module _ (lodge : Lodging) {report : Reporting} {buffer : Writing} (D : Demand3 
   pub stuck-unexamined : StuckUnexamined lodge → ⊥
   stuck-unexamined r =
       r begun 3 0 (first-holds .known) (lit≤ tt, lit≤ tt) two-units
-      (subst IsRefused (sym (answered lodge D begun begun-as begun-are (rendered-trees.render 3 (stuck 0)) _ is-not-stuck)) tt)
+      (subst IsRefused (sym (answered lodge D begun begun-as begun-are (rendered-trees.render 3 (leaf (stuck 0))) _ is-not-stuck)) tt)
 
   pub never-unexamined : NeverUnexamined lodge → ⊥
   never-unexamined r =
       r begun 3 1 (first-holds .known) (lit≤ tt, lit≤ tt) two-periods
-      (subst IsRefused (sym (answered lodge D begun begun-as begun-are (rendered-trees.render 3 (short 1)) _ is-not-short)) tt)
+      (subst IsRefused (sym (answered lodge D begun begun-as begun-are (rendered-trees.render 3 (leaf (short 1))) _ is-not-short)) tt)
 
   -- two trees with two bounds
   pub one-bound : (b : Bound) → OneBound lodge b → ⊥
   one-bound b r =
       let x = answered lodge D begun begun-as begun-are tree-text _ is-tree in
       let y = answered lodge D begun begun-as begun-are lone-text _ is-lone-price in
-      let p : number (pos 1980) ≡ b = r begun tree-text (number (pos 1980)) 1 2 (subst (λ (s : Stated). Carries s (its-bound (number (pos 1980)) 1 2)) (sym x) refl) in
-      let q : number (pos 1940) ≡ b = r begun lone-text (number (pos 1940)) 0 1 (subst (λ (s : Stated). Carries s (its-bound (number (pos 1940)) 0 1)) (sym y) refl) in
+      let p : number (pos 1980) ≡ b = r begun tree-text tree-given (subst (λ (s : Stated). Carries s (its-bound tree-given)) (sym x) refl) in
+      let q : number (pos 1940) ≡ b = r begun lone-text lone-given (subst (λ (s : Stated). Carries s (its-bound lone-given)) (sym y) refl) in
       let z : _≡_ {A = ℕ} 1980 1940 = cc in
       omega arith
 
@@ -115,15 +118,18 @@ module _ (lodge : Lodging) {report : Reporting} {buffer : Writing} (D : Demand3 
       let vs = problem example ∷ tree (figures 3 1980 1 2) ∷ [] in
       let x = answered lodge D texts vs tree-are tree-text-too _ is-tree-too in
       let h = ap (λ (d : Docket). d .held .bound) (reached-is lodge D texts vs tree-are) in
-      subst IsHeld x (r texts tree-text-too (number (pos 1980)) 1 2 (subst (λ (b : HeldBound). IsBound b (number (pos 1980))) (sym h) refl) (subst (λ (s : Stated). Carries s (its-bound (number (pos 1980)) 1 2)) (sym x) refl))
+      subst IsHeld x (r texts tree-text-too tree-given (subst (λ (b : HeldBound). IsBound b (number (pos 1980))) (sym h) refl) (subst (λ (s : Stated). Carries s (its-bound tree-given)) (sym x) refl))
 
   -- ---- any list and any tree
 
   pub invents : Invents lodge → ⊥
   invents r =
       let x = answered lodge D (r .texts) (r .verdicts) (r .texts-are) (rendered-trees.render (r .writer) (r .its)) _ (r .accepted) in
-      go (every (λ (G : Bounded). higher (bound (r .P) root (r .its)) (G .bound)) (trees (r .verdicts))) (subst (λ (s : Stated). Carries s (its-bound (r .given) (r .some-splits) (r .some-leaves))) x (r .carries))
+      go (every (λ (G : Bounded). higher (bound (r .P) root (r .its)) (G .figures .bound)) (trees (r .verdicts))) (subst (λ (s : Stated). Carries s (its-bound (r .given))) x (r .carries))
     where
-      go : (t : Bool) → Carries (held-if t (its-bound (bound (r .P) root (r .its)) (splits (r .its)) (leaves (r .its)))) (its-bound (r .given) (r .some-splits) (r .some-leaves)) → ⊥
-      go true e = r .invented (let a : splits (r .its) ≡ r .some-splits = cc in sym a, let a : leaves (r .its) ≡ r .some-leaves = cc in sym a)
-      go false e = r .invented (let a : splits (r .its) ≡ r .some-splits = cc in sym a, let a : leaves (r .its) ≡ r .some-leaves = cc in sym a)
+      same : tree-figures (r .P) (r .its) ≡ r .given → ⊥
+      same e = r .invented (ap (λ (F : TreeFigures). F .splits) (sym e), ap (λ (F : TreeFigures). F .leaves) (sym e))
+
+      go : (t : Bool) → Carries (held-if t (its-bound (tree-figures (r .P) (r .its)))) (its-bound (r .given)) → ⊥
+      go true e = same (cc)
+      go false e = same (cc)

@@ -8,7 +8,8 @@ use lib.IntN.{pos}
 use Rattle.model.specs.Instance.{Instance}
 use Rattle.model.specs.Held as arrays
 use Rattle.model.specs.Held.{view}
-use Rattle.model.specs.Tree.{Bound, never, number}
+use Rattle.model.specs.declared.figures.Bound.{Bound}
+use Rattle.model.specs.declared.figures.Bound.the-variants.{Never as never, Number as number}
 use Rattle.model.proofs.Held.{view-held}
 use Rattle.model.proofs.Lists.{held-least, held-highest}
 use Rattle.model.proofs.Unbroken.{meets-shaped}
@@ -122,9 +123,9 @@ module _ (lodge : Lodging) {report : Reporting} {buffer : Writing} (D : Demand3 
   pub other-bound : OtherBound lodge → ⊥
   other-bound r =
       let l = r .after in
-      let f = first-held by-bound (raises-trans (λ (x : Bounded). x .bound)) (raises-weak (λ (x : Bounded). x .bound)) (held-highest (λ (x : Bounded). x .bound)) (r .F) (trees (l .verdicts)) (r .first) in
+      let f = first-held by-bound (raises-trans (λ (x : Bounded). x .figures .bound)) (raises-weak (λ (x : Bounded). x .figures .bound)) (held-highest (λ (x : Bounded). x .figures .bound)) (r .F) (trees (l .verdicts)) (r .first) in
       let e : reached lodge (l .texts) ≡ docket-under (l .P) (least (l .verdicts)) (some (r .F)) = there l ∙ ap (λ (b : Option Bounded). docket-under (l .P) (least (l .verdicts)) b) f in
-      r .other (subst (λ (b : HeldBound). IsBy b (r .F .bound) (r .F .writer)) (sym (ap (λ (d : Docket). d .held .bound) e)) (by-itself (r .F .bound) (r .F .writer)))
+      r .other (subst (λ (b : HeldBound). IsBy b (r .F .figures .bound) (r .F .writer)) (sym (ap (λ (d : Docket). d .held .bound) e)) (by-itself (r .F .figures .bound) (r .F .writer)))
     where
       by-itself : (b : Bound) (w : ℕ) → IsBy (bound-by b w) b w
       by-itself never w = (refl, refl)

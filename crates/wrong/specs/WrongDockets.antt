@@ -7,10 +7,13 @@ use mathlib.Core.Option.{none}
 use Prim.Native.Nat.{ℕ, _<_}
 use Rattle.model.specs.Instance.{Instance}
 use Rattle.model.specs.Ranges.{WellFormed, GoodWriter}
-use Rattle.model.specs.Tree.{Tree, short, stuck, Bound, never, number, splits, leaves}
+use Rattle.model.specs.declared.figures.Bound.{Bound}
+use Rattle.model.specs.declared.figures.Bound.the-variants.{Never as never, Number as number}
+use Rattle.model.specs.declared.figures.TreeFigures.{TreeFigures}
+use Rattle.model.specs.Tree.{short, stuck, Tree, leaf, splits, leaves, tree-figures}
 use Rattle.problem.specs.Rendering as problems
 use Rattle.tree.specs.Rendering as rendered
-use Rattle.tree.specs.Acceptance.{bounded-of}
+use Rattle.tree.specs.Acceptance.{bounded}
 use Rattle.docket.specs.declared.held.CostBy.{CostBy}
 use Rattle.docket.specs.declared.held.HeldCost.the-variants as cost
 use Rattle.docket.specs.declared.held.HeldBound.{HeldBound}
@@ -60,7 +63,7 @@ module _ (lodge : Lodging) where
 
   -- giving every tree the bound b
   abbrev pub OneBound : Bound → Type 0
-  OneBound b = (texts : List (List ℕ)) (text : List ℕ) (c : Bound) (m n : ℕ) → Carries (answer texts text) (its-bound c m n) → c ≡ b
+  OneBound b = (texts : List (List ℕ)) (text : List ℕ) (F : TreeFigures) → Carries (answer texts text) (its-bound F) → F .bound ≡ b
 
   -- judging the first text, a problem, and passing the rest, of those that should be accepted
   abbrev pub PassesRest : Type 0
@@ -76,23 +79,21 @@ module _ (lodge : Lodging) where
     pub P : Instance
     pub writer : ℕ
     pub its : Tree
-    pub accepted : Is (known-at-end none verdicts) (rendered.render writer its) (tree (bounded-of P writer its))
-    pub given : Bound
-    pub some-splits : ℕ
-    pub some-leaves : ℕ
-    pub carries : Carries (answer texts (rendered.render writer its)) (its-bound given some-splits some-leaves)
-    pub invented : (some-splits ≡ splits its) × (some-leaves ≡ leaves its) → ⊥
+    pub accepted : Is (known-at-end none verdicts) (rendered.render writer its) (tree (bounded writer (tree-figures P its)))
+    pub given : TreeFigures
+    pub carries : Carries (answer texts (rendered.render writer its)) (its-bound given)
+    pub invented : (given .splits ≡ splits its) × (given .leaves ≡ leaves its) → ⊥
 
   -- calling a unit stuck unexamined: accepting a lone leaf stuck=U of every writer, of every unit of the problem
   abbrev pub StuckUnexamined : Type 0
   StuckUnexamined = (texts : List (List ℕ)) (w U : ℕ) → reached lodge texts .known ≡ true → GoodWriter w → U < reached lodge texts .problem .units
-      → IsRefused (answer texts (rendered.render w (stuck U)))
+      → IsRefused (answer texts (rendered.render w (leaf (stuck U))))
       → ⊥
 
   -- calling a problem never unexamined: accepting a lone leaf short=P of every writer, of every period of the problem
   abbrev pub NeverUnexamined : Type 0
   NeverUnexamined = (texts : List (List ℕ)) (w t : ℕ) → reached lodge texts .known ≡ true → GoodWriter w → t < reached lodge texts .problem .periods
-      → IsRefused (answer texts (rendered.render w (short t)))
+      → IsRefused (answer texts (rendered.render w (leaf (short t))))
       → ⊥
 
   -- letting a second problem in
@@ -108,6 +109,6 @@ module _ (lodge : Lodging) where
 
   -- keeping the last of the trees with the highest bound: one whose bound is the held one is held
   abbrev pub KeepsLastTree : Type 0
-  KeepsLastTree = (texts : List (List ℕ)) (text : List ℕ) (b : Bound) (m n : ℕ) → IsBound (reached lodge texts .held .bound) b
-      → Carries (answer texts text) (its-bound b m n)
+  KeepsLastTree = (texts : List (List ℕ)) (text : List ℕ) (F : TreeFigures) → IsBound (reached lodge texts .held .bound) (F .bound)
+      → Carries (answer texts text) (its-bound F)
       → IsHeld (answer texts text)

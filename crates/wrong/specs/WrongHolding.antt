@@ -8,8 +8,10 @@ use lib.ListN.{replicate}
 use Rattle.model.specs.declared.arrays.Problem.{Problem}
 use Rattle.model.specs.Held as arrays
 use Rattle.model.specs.Held.{view}
-use Rattle.model.specs.Tree.{Bound, never, number}
-use Rattle.tree.specs.Acceptance.{Bounded}
+use Rattle.model.specs.declared.figures.Bound.{Bound}
+use Rattle.model.specs.declared.figures.Bound.the-variants.{Never as never, Number as number}
+use Rattle.model.specs.Figures.{tree-gives}
+use Rattle.tree.specs.Acceptance.{Bounded, bounded}
 use Rattle.docket.specs.declared.Docket.{Docket}
 use Rattle.docket.specs.declared.Lodged.{Lodged}
 use Rattle.docket.specs.declared.held.HeldCost.{HeldCost}
@@ -20,7 +22,7 @@ use Rattle.answer.specs.declared.Answer.{Answer}
 use Rattle.answer.specs.declared.Answer.the-variants.{Refused, TextHeld, ScheduleHeld, SchedulePassed, TreeHeld, TreePassed}
 use Rattle.docket.specs.Docket.{fresh-docket, no-cost, no-bound}
 use Rattle.docket.specs.Verdicts.{Costed, Verdict, refused, problem, schedule, tree}
-use Rattle.docket.specs.Lodging.{text-judged, lodged, with-held, with-problem, with-schedule, with-bound, given-figures, is-less, is-higher, hold, lodge-of}
+use Rattle.docket.specs.Lodging.{text-judged, lodged, with-held, with-problem, with-schedule, with-bound, is-less, is-higher, hold, lodge-of}
 use Rattle.docket.specs.Demand3.{Lodging}
 
 -- a text is judged as it should be, and then held by h
@@ -76,8 +78,8 @@ hold-tree-if test raised d (problem P) = hold d d (problem P)
 hold-tree-if test raised d (schedule s) = hold d d (schedule s)
 hold-tree-if test raised d (tree F) =
     cond (test d F)
-    (lodged (with-bound d (record { writer = F .writer; bound = raised (F .bound); splits = F .splits; leaves = F .leaves })) (TreeHeld (given-figures F)))
-    (lodged d (TreePassed (given-figures F)))
+    (lodged (with-bound d (bounded (F .writer) (tree-gives (raised (F .figures .bound)) (F .figures .splits) (F .figures .leaves)))) (TreeHeld (F .figures)))
+    (lodged d (TreePassed (F .figures)))
 
 -- the last of equals: one whose bound is not below the held one
 abbrev pub not-lower : Bound → HeldBound → Bool
@@ -88,14 +90,14 @@ not-lower never (bound.Never n) = true
 not-lower (number z) (bound.Never n) = false
 
 abbrev pub hold-last-tree : Docket → Verdict → Lodged
-hold-last-tree = hold-tree-if (λ d F. not-lower (F .bound) (d .held .bound)) (λ b. b)
+hold-last-tree = hold-tree-if (λ d F. not-lower (F .figures .bound) (d .held .bound)) (λ b. b)
 
 abbrev pub keeping-last-tree : Lodging
 keeping-last-tree = holding-by hold-last-tree
 
 -- never, of every tree
 abbrev pub hold-never : Docket → Verdict → Lodged
-hold-never = hold-tree-if (λ d F. is-higher (F .bound) (d .held .bound)) (λ b. never)
+hold-never = hold-tree-if (λ d F. is-higher (F .figures .bound) (d .held .bound)) (λ b. never)
 
 abbrev pub never-claimed : Lodging
 never-claimed = holding-by hold-never
@@ -106,7 +108,7 @@ one-above never = never
 one-above (number z) = number (z +ℤ pos 1)
 
 abbrev pub hold-more : Docket → Verdict → Lodged
-hold-more = hold-tree-if (λ d F. is-higher (F .bound) (d .held .bound)) one-above
+hold-more = hold-tree-if (λ d F. is-higher (F .figures .bound) (d .held .bound)) one-above
 
 abbrev pub bound-raised : Lodging
 bound-raised = holding-by hold-more

@@ -2,15 +2,16 @@
 use mathlib.Core.Bool.{cond}
 use mathlib.Core.List.{List}
 use Prim.Native.Nat.{ℕ, suc}
+use Rattle.model.specs.declared.figures.Bound.the-variants.{Never as never}
+use Rattle.model.specs.declared.figures.TreeFigures.{TreeFigures}
+use Rattle.model.specs.Figures.{tree-gives}
 use Rattle.text.specs.Lines.{line-at, kind-of}
 use Rattle.text.specs.declared.Kind.{Kind}
 use Rattle.text.specs.declared.Kind.the-variants as kind
-use Rattle.tree.specs.declared.figures.Bound.the-variants as given
 use Rattle.docket.specs.declared.Docket.{Docket}
 use Rattle.docket.specs.declared.Lodged.{Lodged}
 use Rattle.answer.specs.declared.Answer.{Answer}
 use Rattle.answer.specs.declared.Answer.the-variants.{Refused, TextHeld, ScheduleHeld, SchedulePassed, TreeHeld, TreePassed}
-use Rattle.answer.specs.declared.TreeFigures.{TreeFigures}
 use Rattle.docket.specs.Docket.{fresh-docket}
 use Rattle.docket.specs.Lodging.{lodged, lodge-of}
 use Rattle.docket.specs.Demand3.{Lodging}
@@ -32,14 +33,14 @@ retelling f d text = lodged (lodge-of d text .docket) (retold f (lodge-of d text
 
 -- every tree gives never
 abbrev pub one-bound : Lodging
-one-bound = retelling (λ x. record { bound = given.Never; splits = x .splits; leaves = x .leaves })
+one-bound = retelling (λ x. tree-gives never (x .splits) (x .leaves))
 
 -- one split more than there are split lines, or one leaf more
 abbrev pub more-splits : Lodging
-more-splits = retelling (λ x. record { bound = x .bound; splits = suc (x .splits); leaves = x .leaves })
+more-splits = retelling (λ x. tree-gives (x .bound) (suc (x .splits)) (x .leaves))
 
 abbrev pub more-leaves : Lodging
-more-leaves = retelling (λ x. record { bound = x .bound; splits = x .splits; leaves = suc (x .leaves) })
+more-leaves = retelling (λ x. tree-gives (x .bound) (x .splits) (suc (x .leaves)))
 
 abbrev pub never-changing : Lodging
 never-changing d text = lodged d (lodge-of d text .answer)
@@ -52,7 +53,7 @@ abbrev pub passing-rest : Lodging
 passing-rest d text = cond (d .known) (lodged d (SchedulePassed 0)) (lodge-of d text)
 
 abbrev pub never-figures : TreeFigures
-never-figures = record { bound = given.Never; splits = 0; leaves = 1 }
+never-figures = tree-gives never 0 1
 
 -- every tree is answered as never once a problem is known
 abbrev pub examine-no-tree : Kind → Docket → List ℕ → Lodged

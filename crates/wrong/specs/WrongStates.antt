@@ -10,7 +10,8 @@ use lib.Signed.{_≤ℤ_}
 use Rattle.model.specs.Instance.{Instance, Schedule}
 use Rattle.model.specs.Rules.{Meets}
 use Rattle.model.specs.Cost as model
-use Rattle.model.specs.Tree.{Bound, never, number}
+use Rattle.model.specs.declared.figures.Bound.{Bound}
+use Rattle.model.specs.declared.figures.Bound.the-variants.{Never as never, Number as number}
 use Rattle.model.specs.Best.{FirstLeast, FirstHighest}
 use Rattle.model.specs.Held.{view}
 use Rattle.judge.specs.Rows.{schedule-of}
@@ -94,8 +95,8 @@ module _ (lodge : Lodging) where
   pub record OtherBound : Type 0 where
     pub after : SomeList
     pub F : Bounded
-    pub first : FirstHighest (λ x. x .bound) F (trees (after .verdicts))
-    pub other : IsBy (reached lodge (after .texts) .held .bound) (F .bound) (F .writer) → ⊥
+    pub first : FirstHighest (λ x. x .figures .bound) F (trees (after .verdicts))
+    pub other : IsBy (reached lodge (after .texts) .held .bound) (F .figures .bound) (F .writer) → ⊥
 
   -- changing with a text that is refused or passed
   pub record UnheldChanges : Type 0 where

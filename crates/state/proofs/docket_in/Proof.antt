@@ -4,7 +4,7 @@ use Prim.Native.Nat.{_-_}
 use native.Mathlib.Omega.{arith}
 use lib.ListN.{length, drop, length-drop}
 use lib.Seq.{take-all}
-use Rattle.numbers.specs.Numbers.{problem-in}
+use Rattle.layout.specs.Numbers.{problem-in}
 use Rattle.state.specs.Layout.{docket-in}
 use borrow.Author.Needs.{needs}
 use Rattle.state.proofs.docket_in.Statement.{statement}

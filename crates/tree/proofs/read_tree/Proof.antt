@@ -6,11 +6,12 @@ use native.Mathlib.Omega.{arith}
 use lib.ListN.{replicate}
 use Rattle.model.specs.Instance.{Instance}
 use Rattle.model.specs.Above.{root}
+use Rattle.model.specs.Figures.{no-figures}
 use Rattle.model.specs.Held.{view}
 use Rattle.text.specs.Lines.{line-at}
+use Rattle.walk.specs.Marks.{above-of}
 use Rattle.reader.proofs.WriterLines.{Passed, line-refused, line-written}
 use Rattle.tree.specs.declared.TreeRead.the-variants.{Refused}
-use Rattle.tree.specs.Coded.{above-of, none-read}
 use Rattle.tree.specs.ReadAnswers.{read-as, tree-read, node-read, Placed}
 use Rattle.tree.proofs.Marked.{root-is}
 use Rattle.tree.proofs.ReadLines.{read-on, node-judged, node-past}
@@ -94,13 +95,13 @@ returns-2 c =
     let text = s .args .text .now in
     let w = good .written2 .given .0 .0 in
     let next = r .read-writer .result .next in
-    let tree = subst (λ (Q : Instance). n .read-node .result ≡ node-read Q text next 3 (n .before .none .result) (above-of (Q .periods) (replicate 1536 0)) 0) (o .lay-out .ensures .1 (s .pre .0) .1) (n .read-node .ensures .0) in
-    let node = rw (root-is (P .periods), n .before .none .ensures) at tree in
+    let tree = subst (λ (Q : Instance). n .read-node .result ≡ node-read Q text next 3 (n .before .none .result) (above-of Q (replicate 1536 0)) 0) (o .lay-out .ensures .1 (s .pre .0) .1) (n .read-node .ensures .0) in
+    let node = rw (root-is P, n .before .none .ensures) at tree in
     c .read-end .ensures
     ∙ ended-read P text w (n .read-node .result)
     ∙ sym (ap read-as
     (text-read P text (s .pre .1 .1) ∙ writer-line-read P text (passed good)
-    ∙ node-judged P text next 3 none-read root 0 w [] ∙ ap (read-on P text w []) (sym node)))
+    ∙ node-judged P text next 3 no-figures root 0 w [] ∙ ap (read-on P text w []) (sym node)))
 
 pub read-tree-spec : {M : Type 1} → statement M
 read-tree-spec =

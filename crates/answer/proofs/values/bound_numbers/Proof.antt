@@ -1,6 +1,5 @@
 -- `bound_numbers` meets its contract, by the figure that shows the bound.
 use borrow.Author.Needs.{needs}
-use Rattle.tree.specs.Coded.{bound-of}
 use Rattle.answer.proofs.NumberCases.{shown-as}
 use Rattle.answer.proofs.values.bound_numbers.Statement.{statement}
 use Rattle.answer.proofs.values.bound_numbers.Tie as tie
@@ -23,24 +22,24 @@ enum-known-shown-2 c = search needs
 returns : tie.Need-returns
 returns c =
     let f = c .before .before in
-    shown-as (bound-of (f .before .args .bound)) _ _ (f .figure-of-bound .ensures) (c .enum-told .given .1)
+    shown-as (f .before .args .bound) _ _ (f .figure-of-bound .ensures) (c .enum-told .given .1)
 
 returns-2 : tie.Need-returns-2
 returns-2 c =
     let f = c .before .before in
-    shown-as (bound-of (f .before .args .bound)) _ _ (f .figure-of-bound .ensures) (c .enum-told2 .given .1)
+    shown-as (f .before .args .bound) _ _ (f .figure-of-bound .ensures) (c .enum-told2 .given .1)
 
 returns-3 : tie.Need-returns-3
 returns-3 c =
     let s = c .before in
     let f = s .before .before in
-    shown-as (bound-of (f .before .args .bound)) _ _ (f .figure-of-bound .ensures) (s .shown .given .1)
+    shown-as (f .before .args .bound) _ _ (f .figure-of-bound .ensures) (s .shown .given .1)
 
 returns-4 : tie.Need-returns-4
 returns-4 c =
     let s = c .before in
     let f = s .before .before in
-    shown-as (bound-of (f .before .args .bound)) _ _ (f .figure-of-bound .ensures) (s .shown2 .given .1)
+    shown-as (f .before .args .bound) _ _ (f .figure-of-bound .ensures) (s .shown2 .given .1)
 
 pub bound-numbers-spec : {M : Type 1} → statement M
 bound-numbers-spec =

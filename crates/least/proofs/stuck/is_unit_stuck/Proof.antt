@@ -10,9 +10,9 @@ use Rattle.model.specs.declared.generator.Generator.{Generator}
 use Rattle.model.specs.Ranges.{GoodUnit}
 use Rattle.model.specs.Held.{blank-generator}
 use Rattle.model.specs.Leaf.{is-stuck, stuck-at}
-use Rattle.numbers.specs.Numbers.{instance-in}
-use Rattle.walk.specs.Marks.{marks-of, all-marks}
-use Rattle.least.proofs.Units.{all-getD}
+use Rattle.layout.specs.Numbers.{instance-in}
+use Rattle.walk.specs.Marks.{marks-of, marks-in}
+use Rattle.least.proofs.UnitParts.{all-getD}
 use Rattle.least.proofs.StuckUnits.{part-stuck}
 use Rattle.least.proofs.stuck.is_unit_stuck.Statement.{statement}
 use Rattle.least.proofs.stuck.is_unit_stuck.Tie as tie
@@ -20,25 +20,25 @@ use Rattle.least.proofs.stuck.is_unit_stuck.Tie as tie
 -- the unit's part is within the fixed statuses
 within : (c : tie.After-generator-at) →
     let s = c .before .before .before .before in
-    s .args .u * c .before .periods-in .result + c .before .periods-in .result ≤ length (s .args .fixed .now)
+    s .args .u * c .before .periods-in .result + c .before .periods-in .result ≤ length (s .args .above .now)
 within c =
     let s = c .before .before .before .before in
     let n = c .before .periods-in .result in
     let units = instance-in (s .args .numbers .now) .units in
-    let room : length units * n ≤ length (s .args .fixed .now) = rw (c .before .periods-in .ensures) (s .pre .1 .1) in
+    let room : length units * n ≤ length (s .args .above .now) = rw (c .before .periods-in .ensures) (s .pre .1 .1) in
     omega (arith, mul-le-mul-right n (s .pre .1 .0))
 
 -- and as long as the periods
 part-long : (c : tie.After-generator-at) →
     let s = c .before .before .before .before in
     let n = c .before .periods-in .result in
-    length (take (s .args .u * n + n - s .args .u * n) (drop (s .args .u * n) (s .args .fixed .now))) ≡ n
+    length (take (s .args .u * n + n - s .args .u * n) (drop (s .args .u * n) (s .args .above .now))) ≡ n
 part-long c =
     let s = c .before .before .before .before in
     let n = c .before .periods-in .result in
     let b = s .args .u * n in
     let e : b + n - b ≡ n = omega arith in
-    rw e (length-take-le n (drop b (s .args .fixed .now)) (omega (arith, length-drop b (s .args .fixed .now), within c)))
+    rw e (length-take-le n (drop b (s .args .above .now)) (omega (arith, length-drop b (s .args .above .now), within c)))
 
 periods-in-requires : tie.Need-periods-in-requires
 periods-in-requires c κs = search needs
@@ -76,11 +76,11 @@ returns c =
     let s = call .before .before .before .before in
     let a = s .args in
     let n = call .before .periods-in .result in
-    let part = take (a .u * n + n - a .u * n) (drop (a .u * n) (a .fixed .now)) in
+    let part = take (a .u * n + n - a .u * n) (drop (a .u * n) (a .above .now)) in
     let units = instance-in (a .numbers .now) .units in
     c .is-stuck .ensures ∙ ap (λ (g : Generator). is-stuck (length part) g (marks-of part)) (call .generator-at .ensures)
-    ∙ part-stuck n (a .u) units blank-generator (a .fixed .now) (s .pre .1 .0) (length part) (a .u * n + n - a .u * n) (part-long call) (omega arith)
-    ∙ ap (λ (k : ℕ). stuck-at k units (all-marks k (a .fixed .now)) (a .u)) (call .before .periods-in .ensures)
+    ∙ part-stuck n (a .u) units blank-generator (a .above .now) (s .pre .1 .0) (length part) (a .u * n + n - a .u * n) (part-long call) (omega arith)
+    ∙ ap (λ (k : ℕ). stuck-at k units (marks-in (length units) k (a .above .now)) (a .u)) (call .before .periods-in .ensures)
 
 pub is-unit-stuck-spec : {M : Type 1} → statement M
 is-unit-stuck-spec =

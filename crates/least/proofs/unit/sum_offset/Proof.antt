@@ -11,8 +11,6 @@ use Rattle.least.proofs.Costs.{price-in, reserve-in, period-added-fits,
 use Rattle.least.proofs.unit.sum_offset.Statement.{statement}
 use Rattle.least.proofs.unit.sum_offset.Tie as tie
 
--- `sum_offset` meets its contract. The loop's invariant: the sum is that of the periods passed.
-
 abbrev Inv-loop : tie.InvT-loop
 Inv-loop q s high n sum₀ t₀ sum t = (t ≤ n) × (n ≡ length q) × (sum ≡ sum-of t (λ i. (q at i + s at i) * high))
 

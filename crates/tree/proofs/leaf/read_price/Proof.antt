@@ -4,15 +4,16 @@ use mathlib.Core.Path.{_≡_, refl, ap, _∙_}
 use Prim.Native.Nat.{ℕ}
 use native.Mathlib.Omega.{arith}
 use lib.ListN.{take}
-use Rattle.numbers.specs.Numbers.{instance-in}
+use Rattle.layout.specs.Numbers.{instance-in}
+use Rattle.walk.specs.Marks.{above-of}
 use Rattle.text.specs.Lines.{line-at}
 use Rattle.text.specs.Forms.{plain, row-of}
 use Rattle.tree.specs.Rendering.{price-key}
+use Rattle.tree.specs.Places.{priced}
 use Rattle.tree.specs.Refusals.{price-line, node-form}
-use Rattle.tree.specs.Coded.{above-of}
 use Rattle.tree.proofs.Rows.{Moved, row-refused, row-moved, taken-multipliers}
 use Rattle.tree.proofs.ReadLines.{moved-placed}
-use Rattle.tree.proofs.WaysThrough.{node-refused, node-price}
+use Rattle.tree.proofs.WaysThrough.{node-refused, node-part}
 use Rattle.tree.proofs.Leaves.{line-refused, price-read}
 use Rattle.tree.proofs.leaf.read_price.Statement.{statement}
 use Rattle.tree.proofs.leaf.read_price.Tie as tie
@@ -65,7 +66,7 @@ read-reserve-requires c κs =
       (
         s .pre .1 .0,
         (
-          moved-placed (a .text .now) (a .at) (a .line) (a .tally) (s .pre .1 .1 .0) (v .0 .0) (moved (c .before .before)) (a .tally) (omega arith),
+          moved-placed (a .text .now) (a .at) (a .line) (a .figures) (s .pre .1 .1 .0) (v .0 .0) (moved (c .before .before)) (a .figures) (omega arith),
           taken-multipliers (instance-in (a .numbers .now)) price-key (a .text .now) (a .at) (r .read-row .result) (is-row r) (v .0 .0) (v .1),
         ),
       ),
@@ -78,8 +79,8 @@ returns c =
     let a = s .args in
     let v = c .before .verdict .given in
     let P = instance-in (a .numbers .now) in
-    let A = above-of (P .periods) (a .fixed .now) in
-    node-refused P (a .text .now) (a .at) (a .line) (a .tally) A 0 (v .0 .0)
+    let A = above-of P (a .above .now) in
+    node-refused P (a .text .now) (a .at) (a .line) (a .figures) A 0 (v .0 .0)
     (line-refused P (a .text .now) (a .at) A 0 price-line (s .pre .1 .1 .1) (v .0 .0)
     (row-refused (node-form P price-line) (a .text .now) (a .at) (r .read-row .result) (is-row r) (v .0 .0) (v .1)))
 
@@ -90,8 +91,8 @@ returns-2 c =
     let a = s .args in
     let v = c .before .before .before .verdict2 .given in
     let P = instance-in (a .numbers .now) in
-    let A = above-of (P .periods) (a .fixed .now) in
-    node-price P (a .text .now) (a .at) (a .line) (a .tally) A 0 (take (P .periods) (r .read-row .result .values)) (v .0 .0) (c .read-reserve .result)
+    let A = above-of P (a .above .now) in
+    node-part P (a .text .now) (a .at) (a .line) (a .figures) A 0 (priced (take (P .periods) (r .read-row .result .values))) (v .0 .0) (c .read-reserve .result)
     (price-read P (a .text .now) (a .at) A 0 (s .pre .1 .1 .1) (r .read-row .result) (is-row r) (v .0 .0) (v .1)) (moved (c .before .before .before)) (c .read-reserve .ensures)
 
 pub read-price-spec : {M : Type 1} → statement M

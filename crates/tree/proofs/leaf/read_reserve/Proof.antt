@@ -10,21 +10,22 @@ use mir.Syntax.{w64}
 use mir.Val.{SFits}
 use mir.ValLaws.{toZ-ofZ}
 use Rattle.model.specs.Instance.{_at_}
+use Rattle.model.specs.declared.figures.Bound.the-variants.{Number}
+use Rattle.model.specs.Figures.{add-leaf}
 use Rattle.model.specs.Tree.{Multipliers}
-use Rattle.numbers.specs.Numbers.{instance-in}
-use Rattle.walk.specs.Marks.{all-marks}
-use Rattle.least.specs.LeafLeasts.{leaf-of}
+use Rattle.layout.specs.Numbers.{instance-in}
+use Rattle.walk.specs.Marks.{above-of}
+use Rattle.leaves.specs.LeafLeasts.{leaf-of}
 use Rattle.least.specs.Limits.{GoodPrices}
 use Rattle.text.specs.Lines.{line-at}
 use Rattle.text.specs.Forms.{plain, row-of}
-use Rattle.tree.specs.declared.figures.Bound.the-variants.{Number}
 use Rattle.tree.specs.Rendering.{reserve-key}
-use Rattle.tree.specs.Refusals.{reserve-form}
-use Rattle.tree.specs.Coded.{above-of, one-leaf}
+use Rattle.tree.specs.Places.{Part, priced}
+use Rattle.tree.specs.Refusals.{part-form}
 use Rattle.tree.proofs.Places.{statuses-fit}
-use Rattle.tree.proofs.Rows.{Moved, row-moved, taken-multipliers}
-use Rattle.tree.proofs.WaysThrough.{reserve-refused, reserve-leaf}
-use Rattle.tree.proofs.Leaves.{reserve-line-refused, unit-stuck, value-read}
+use Rattle.tree.proofs.Rows.{Moved, row-refused, row-moved, taken-multipliers}
+use Rattle.tree.proofs.WaysThrough.{part-refused, part-leaf}
+use Rattle.tree.proofs.Leaves.{part-line-refused, unit-stuck, value-read}
 use Rattle.tree.proofs.leaf.read_reserve.Statement.{statement}
 use Rattle.tree.proofs.leaf.read_reserve.Tie as tie
 
@@ -43,10 +44,14 @@ start c = c .before .before .before .before .before .before
 counted : (c : tie.After-read-row) → c .before .before .periods-in .result ≡ instance-in (start c .args .numbers .now) .periods
 counted c = c .before .before .periods-in .ensures
 
+-- the part of the leaf that its price line gave
+abbrev part : tie.Start → Part
+part s = priced (take (instance-in (s .args .numbers .now) .periods) (s .args .t5))
+
 -- the row is that of a reserve line of the problem
 is-row : (c : tie.After-read-row) →
     let a = start c .args in
-    c .read-row .result ≡ row-of (reserve-form (instance-in (a .numbers .now))) (line-at (a .text .now) (a .at)) (a .at)
+    c .read-row .result ≡ row-of (part-form (instance-in (a .numbers .now)) (part (start c))) (line-at (a .text .now) (a .at)) (a .at)
 is-row c =
     let a = start c .args in
     c .read-row .ensures ∙ ap (λ (n : ℕ). row-of (plain reserve-key n 0 1000000000) (line-at (a .text .now) (a .at)) (a .at)) (counted c)
@@ -55,7 +60,7 @@ moved : (c : tie.After-verdict2) → Moved (start (c .before .before) .args .tex
 moved c =
     let r = c .before .before in
     let a = start r .args in
-    row-moved (reserve-form (instance-in (a .numbers .now))) (a .text .now) (a .at) (r .read-row .result) (is-row r) (c .verdict2 .given .0 .0) (c .verdict2 .given .1)
+    row-moved (part-form (instance-in (a .numbers .now)) (part (start r))) (a .text .now) (a .at) (r .read-row .result) (is-row r) (c .verdict2 .given .0 .0) (c .verdict2 .given .1)
 
 -- what the row begins with
 s-good : (c : tie.After-verdict2) →
@@ -123,13 +128,13 @@ leaf-is : (c : tie.After-leaf-value) →
     let a = start r .args in
     let P = instance-in (a .numbers .now) in
     c .leaf-value .result
-    ≡ leaf-of P (all-marks (P .periods) (a .fixed .now)) (λ t. take (P .periods) (a .t5) at t) (λ t. take (P .periods) (r .read-row .result .values) at t)
+    ≡ leaf-of P (above-of P (a .above .now) .marks) (λ t. take (P .periods) (a .t5) at t) (λ t. take (P .periods) (r .read-row .result .values) at t)
 leaf-is c =
     let r = c .before .before .before .before .before .before .before in
     let a = start r .args in
     let P = instance-in (a .numbers .now) in
     c .leaf-value .ensures
-    ∙ ap (λ (n : ℕ). leaf-of P (all-marks (P .periods) (a .fixed .now)) (λ t. take n (a .t5) at t) (λ t. take n (r .read-row .result .values) at t)) (counted r)
+    ∙ ap (λ (n : ℕ). leaf-of P (above-of P (a .above .now) .marks) (λ t. take n (a .t5) at t) (λ t. take n (r .read-row .result .values) at t)) (counted r)
 
 enum-known-least : tie.Need-enum-known-least
 enum-known-least c = search needs
@@ -152,8 +157,8 @@ returns c =
     let v = w .verdict2 .given in
     let P = instance-in (a .numbers .now) in
     let q = take (P .periods) (a .t5) in
-    reserve-refused P (a .text .now) (a .at) (a .line) (a .tally) (above-of (P .periods) (a .fixed .now)) q 35
-    (unit-stuck P (s .pre .0 .well-formed) (a .text .now) (a .at) (a .fixed .now) q (r .read-row .result) (is-row r) (v .0 .0) (v .1)
+    part-refused P (a .text .now) (a .at) (a .line) (a .figures) (above-of P (a .above .now)) (priced q) 35
+    (unit-stuck P (a .text .now) (a .at) (above-of P (a .above .now)) q (r .read-row .result) (is-row r) (v .0 .0) (v .1)
     (sym (c .enum-told .given .1) ∙ leaf-is (c .before .before)))
 
 returns-2 : tie.Need-returns-2
@@ -163,9 +168,10 @@ returns-2 c =
     let a = s .args in
     let v = c .before .verdict .given in
     let P = instance-in (a .numbers .now) in
-    let q = take (P .periods) (a .t5) in
-    reserve-refused P (a .text .now) (a .at) (a .line) (a .tally) (above-of (P .periods) (a .fixed .now)) q (v .0 .0)
-    (reserve-line-refused P (s .pre .0 .well-formed) (a .text .now) (a .at) (a .fixed .now) q (r .read-row .result) (is-row r) (v .0 .0) (v .1))
+    let A = above-of P (a .above .now) in
+    part-refused P (a .text .now) (a .at) (a .line) (a .figures) A (part s) (v .0 .0)
+    (part-line-refused P (a .text .now) (a .at) A (part s) (v .0 .0)
+    (row-refused (part-form P (part s)) (a .text .now) (a .at) (r .read-row .result) (is-row r) (v .0 .0) (v .1)))
 
 returns-3 : tie.Need-returns-3
 returns-3 c =
@@ -178,10 +184,10 @@ returns-3 c =
     let P = instance-in (a .numbers .now) in
     let q = take (P .periods) (a .t5) in
     let fits : SFits w64 (x .0 .0) = search needs in
-    reserve-leaf P (a .text .now) (a .at) (a .line) (a .tally) (above-of (P .periods) (a .fixed .now)) q (Number (x .0 .0)) (v .0 .0) (c .with-leaf .result)
-    (value-read P (s .pre .0 .well-formed) (a .text .now) (a .at) (a .fixed .now) q (r .read-row .result) (is-row r) (v .0 .0) (v .1) (x .0 .0)
+    part-leaf P (a .text .now) (a .at) (a .line) (a .figures) (above-of P (a .above .now)) (priced q) (Number (x .0 .0)) (v .0 .0) (c .with-leaf .result)
+    (value-read P (a .text .now) (a .at) (above-of P (a .above .now)) q (r .read-row .result) (is-row r) (v .0 .0) (v .1) (x .0 .0)
     (sym (x .1) ∙ leaf-is (c .before .before .before .before))) (moved w)
-    (c .with-leaf .ensures ∙ ap (λ (z : ℤ). one-leaf (a .tally) (Number z)) (toZ-ofZ w64 (x .0 .0) fits))
+    (c .with-leaf .ensures ∙ ap (λ (z : ℤ). add-leaf (a .figures) (Number z)) (toZ-ofZ w64 (x .0 .0) fits))
 
 pub read-reserve-spec : {M : Type 1} → statement M
 read-reserve-spec =

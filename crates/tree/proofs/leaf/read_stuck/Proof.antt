@@ -4,18 +4,18 @@ use mathlib.Core.Path.{_≡_, refl, sym, ap, _∙_}
 use Prim.Native.Nat.{ℕ}
 use native.Mathlib.Omega.{arith}
 use lib.ListN.{length}
-use Rattle.numbers.specs.Numbers.{instance-in}
-use Rattle.tree.specs.declared.figures.Bound.the-variants.{Never}
+use Rattle.model.specs.declared.figures.Bound.the-variants.{Never}
+use Rattle.layout.specs.Numbers.{instance-in}
+use Rattle.walk.specs.Marks.{above-of}
 use Rattle.tree.specs.declared.naming.NamedLine.{NamedLine}
 use Rattle.tree.specs.declared.naming.NamedLine.the-variants.{Refused, Names}
 use Rattle.tree.specs.Rendering.{stuck-key}
 use Rattle.tree.specs.Refusals.{stuck-line}
-use Rattle.tree.specs.Coded.{above-of}
 use Rattle.tree.specs.ReadAnswers.{named-line-read}
 use Rattle.tree.proofs.Places.{statuses-fit}
 use Rattle.tree.proofs.Rows.{NamesOne, names-one, names-none}
 use Rattle.tree.proofs.WaysThrough.{node-refused, node-leaf}
-use Rattle.tree.proofs.Leaves.{line-refused, stuck-same, stuck-holds, stuck-fails}
+use Rattle.tree.proofs.Leaves.{line-refused, stuck-holds, stuck-fails}
 use Rattle.tree.proofs.leaf.read_stuck.Statement.{statement}
 use Rattle.tree.proofs.leaf.read_stuck.Tie as tie
 
@@ -74,9 +74,9 @@ returns c =
     let g = f .found2 .given .0 in
     let n = names f in
     let P = instance-in (a .numbers .now) in
-    let A = above-of (P .periods) (a .fixed .now) in
-    node-leaf P (a .text .now) (a .at) (a .line) (a .tally) A 0 Never (g .1 .0) (c .with-leaf .result)
-    (stuck-holds P (a .text .now) (a .at) A 0 (s .pre .1 .1 .1) (n .line-good) (g .0) (n .is-named) (sym (c .before .if1 .taken) ∙ c .before .before .is-unit-stuck .ensures ∙ stuck-same P (a .fixed .now) (g .0)))
+    let A = above-of P (a .above .now) in
+    node-leaf P (a .text .now) (a .at) (a .line) (a .figures) A 0 Never (g .1 .0) (c .with-leaf .result)
+    (stuck-holds P (a .text .now) (a .at) A 0 (s .pre .1 .1 .1) (n .line-good) (g .0) (n .is-named) (sym (c .before .if1 .taken) ∙ c .before .before .is-unit-stuck .ensures))
     (n .moved) (c .with-leaf .ensures)
 
 returns-2 : tie.Need-returns-2
@@ -86,8 +86,8 @@ returns-2 c =
     let a = s .args in
     let n = f .found .given .0 .0 in
     let P = instance-in (a .numbers .now) in
-    let A = above-of (P .periods) (a .fixed .now) in
-    node-refused P (a .text .now) (a .at) (a .line) (a .tally) A 0 n
+    let A = above-of P (a .above .now) in
+    node-refused P (a .text .now) (a .at) (a .line) (a .figures) A 0 n
     (line-refused P (a .text .now) (a .at) A 0 stuck-line (s .pre .1 .1 .1) n (names-none _ _ _ _ n (said (f .before .before) (Refused n) (f .found .given .1))))
 
 returns-3 : tie.Need-returns-3
@@ -97,9 +97,9 @@ returns-3 c =
     let a = s .args in
     let n = names f in
     let P = instance-in (a .numbers .now) in
-    let A = above-of (P .periods) (a .fixed .now) in
-    node-refused P (a .text .now) (a .at) (a .line) (a .tally) A 0 34
-    (stuck-fails P (a .text .now) (a .at) A 0 (s .pre .1 .1 .1) (n .line-good) (f .found2 .given .0 .0) (n .is-named) (sym (c .if1 .left) ∙ c .before .is-unit-stuck .ensures ∙ stuck-same P (a .fixed .now) (f .found2 .given .0 .0)))
+    let A = above-of P (a .above .now) in
+    node-refused P (a .text .now) (a .at) (a .line) (a .figures) A 0 34
+    (stuck-fails P (a .text .now) (a .at) A 0 (s .pre .1 .1 .1) (n .line-good) (f .found2 .given .0 .0) (n .is-named) (sym (c .if1 .left) ∙ c .before .is-unit-stuck .ensures))
 
 pub read-stuck-spec : {M : Type 1} → statement M
 read-stuck-spec =

@@ -1,28 +1,30 @@
 -- A node calls the split reader with one line less unread, the split reader calls the node reader on its own lines: the measures are
 -- twice the unread lines, and one more for the split.
 use borrow.Author.Needs.{needs}
-use mathlib.Core.Path.{_≡_, refl, sym, ap, subst, _∙_}
-use mathlib.Core.Bool.{true, false}
+use mathlib.Core.Path.{_≡_, refl, sym, ap, _∙_}
+use mathlib.Core.Bool.{Bool, true, false}
 use mathlib.Core.List.{List}
 use native.Mathlib.Omega.{arith}
 use lib.ListN.{length, set, length-set}
-use Rattle.model.specs.Above.{fix}
-use Rattle.numbers.specs.Numbers.{instance-in}
+use Rattle.model.specs.Instance.{_at_}
+use Rattle.model.specs.Above.{fixed, status, side}
+use Rattle.layout.specs.Numbers.{instance-in}
 use Rattle.text.specs.Lines.{line-at}
-use Rattle.walk.specs.Marks.{mark-of}
+use Rattle.walk.specs.Marks.{mark-of, above-of}
 use Rattle.tree.specs.Kinds.{line-kind}
-use Rattle.tree.specs.Coded.{above-of}
 use Rattle.tree.specs.declared.leaf.Read.{Read}
+use Rattle.tree.specs.declared.node.NodeKind.{NodeKind}
+use Rattle.tree.specs.declared.node.NodeKind.the-variants.{Short, Stuck, Price}
 use Rattle.tree.specs.NodeLines.{line-kind-of}
-use Rattle.tree.specs.Refusals.{split-line, short-line, stuck-line, price-line}
-use Rattle.tree.specs.ReadAnswers.{node-read, trees-read}
+use Rattle.tree.specs.Refusals.{split-line}
+use Rattle.tree.specs.ReadAnswers.{node-read, leaf-read}
 use Rattle.tree.proofs.Places.{place-inside}
-use Rattle.tree.proofs.Marked.{split-is, set-length, set-over, set-back}
+use Rattle.tree.proofs.Marked.{side-is, set-length, set-back}
 use Rattle.tree.proofs.Rows.{unread}
 use Rattle.tree.proofs.SplitLines.{SplitOn, split-on, split-off}
 use Rattle.tree.proofs.ReadLines.{node-past, moved-placed}
-use Rattle.tree.proofs.Leaves.{leaf-anywhere}
-use Rattle.tree.proofs.WaysThrough.{node-refused, node-split, trees-refused, trees-both}
+use Rattle.tree.proofs.Leaves.{LeafKind, leaf-anywhere}
+use Rattle.tree.proofs.WaysThrough.{node-refused, node-fork, trees-refused, trees-both}
 use Prim.Native.Nat.{ℕ, _+_, _*_, _<_}
 use borrow.Fn.Kinds.{In}
 use borrow.Fn.PlainCycle.{Measures, is, falls, and}
@@ -32,12 +34,12 @@ use Rattle.tree.proofs.node.+read_node+read_split.Lts-read_node as read
 use Rattle.tree.proofs.node.read_split.Reads as read-split
 use Rattle.tree.proofs.node.read_split.Kinds as read-split-kinds
 use Rattle.tree.proofs.node.+read_node+read_split.Lts-read_split as read-split-lts
-use Rattle.tree.proofs.figures.Tally.with_split.Reads as with-split-reads
+use Rattle.model.proofs.figures.TreeFigures.with_split.Reads as with-split-reads
 use Rattle.tree.proofs.leaf.read_price.Reads as read-price-reads
 use Rattle.tree.proofs.leaf.read_short.Reads as read-short-reads
 use Rattle.tree.proofs.leaf.read_stuck.Reads as read-stuck-reads
 use Rattle.tree.proofs.node.find_kind.Reads as find-kind-reads
-use Rattle.numbers.proofs.periods_in.Reads as periods-in-reads
+use Rattle.layout.proofs.periods_in.Reads as periods-in-reads
 use Rattle.tree.proofs.splitting.read_split_line.Reads as read-split-line-reads
 use Rattle.tree.proofs.node.+read_node+read_split.{statement}
 use Rattle.tree.proofs.node.+read_node+read_split.Tie.{close}
@@ -110,9 +112,24 @@ start t c = c .before .before .before .before
 abbrev split-start : (t : ℕ) → AtSplit t → AtStart t
 split-start t c = start t (c .before .before .before .before .before .before)
 
+-- the line is of the kind that was found
+kind-is : (t : ℕ) (c : AtKind t) (k : NodeKind) → c .find-kind .result ≡ k → let a = start t c .args in line-kind-of (line-at (a .text .now) (a .at)) ≡ line-kind k
+kind-is t c k e = sym (c .find-kind .ensures) ∙ ap line-kind e
+
 -- a split line is due there
 is-split : (t : ℕ) (c : AtLine t) → let a = start t (c .before .before .before .before) .args in line-kind-of (line-at (a .text .now) (a .at)) ≡ split-line
-is-split t c = sym (c .before .before .before .before .find-kind .ensures) ∙ ap line-kind (c .before .before .enum-told4 .given .1)
+is-split t c = kind-is t (c .before .before .before .before) _ (c .before .before .enum-told4 .given .1)
+
+-- what a leaf's reader answers is what is read of the node
+leaf-answers : (t : ℕ) (c : AtKind t) (k : NodeKind) → LeafKind (line-kind k) → c .find-kind .result ≡ k → {r : Read} →
+    let a = start t c .args in
+    let P = instance-in (a .numbers .now) in
+    let A = above-of P (a .above .now) in
+    r ≡ leaf-read P (a .text .now) (a .at) (a .line) (a .figures) A → r ≡ node-read P (a .text .now) (a .at) (a .line) (a .figures) A (a .depth)
+leaf-answers t c k y e h =
+    let a = start t c .args in
+    let P = instance-in (a .numbers .now) in
+    h ∙ leaf-anywhere P (a .text .now) (a .at) (a .line) (a .figures) (above-of P (a .above .now)) (a .depth) (line-kind k) y (kind-is t c k e)
 
 -- ---- facts at a split line that is good
 
@@ -121,7 +138,7 @@ split-known : (t : ℕ) (c : AtSplit t) →
     let a = split-start t c .args in
     let P = instance-in (a .numbers .now) in
     let g = c .found2 .given .0 in
-    SplitOn P (a .text .now) (a .at) (above-of (P .periods) (a .fixed .now)) (a .depth) (is-split t (c .before .before)) (g .0) (g .1 .0) (g .1 .1 .0)
+    SplitOn P (a .text .now) (a .at) (above-of P (a .above .now)) (a .depth) (is-split t (c .before .before)) (g .0) (g .1 .0) (g .1 .1 .0)
 split-known t c =
     let l = c .before .before in
     split-on _ _ _ _ _ (is-split t l) _ _ _ (sym (c .found2 .given .1) ∙ l .read-split-line .ensures)
@@ -133,6 +150,20 @@ place-in t c =
     let s = split-start t f in
     let k = split-known t f in
     place-inside (instance-in (s .args .numbers .now)) (s .pre .1 .0 .well-formed) _ _ _ (c .periods-in .ensures) (k .unit) (k .period)
+
+-- a byte there that fixes the status is one side of the split
+is-side : (t : ℕ) (c : AtPlace t) (byte : ℕ) (b : Bool) → mark-of byte ≡ fixed b →
+    let f = c .before .before in
+    let a = split-start t f .args in
+    let g = f .found2 .given .0 in
+    let P = instance-in (a .numbers .now) in
+    above-of P (set (a .above .now) (g .0 * c .periods-in .result + g .1 .0) byte) ≡ side (status (g .0) (g .1 .0)) b (above-of P (a .above .now))
+is-side t c byte b is =
+    let f = c .before .before in
+    let s = split-start t f in
+    let g = f .found2 .given .0 in
+    let k = split-known t f in
+    side-is (instance-in (s .args .numbers .now)) _ (s .args .above .now) (g .0) (g .1 .0) byte b (c .periods-in .ensures) (omega (arith, place-in t c, s .pre .1 .1 .1 .1)) (k .unit) (k .period) is
 
 -- ---- a node
 
@@ -146,7 +177,7 @@ read-node-read-short-requires : (t : ℕ) → read-node-lts.Need-read-short-requ
 read-node-read-short-requires t c κs =
     let f = c .before .before .before in
     let p = start t f .pre .1 in
-    (p .0, (p .1 .1 .1, (p .1 .0, sym (f .find-kind .ensures) ∙ ap line-kind (c .before .enum-told .given .1))))
+    (p .0, (p .1 .1 .1, (p .1 .0, kind-is t f _ (c .before .enum-told .given .1))))
 
 read-node-enum-told-2 : (t : ℕ) → read-node-lts.Need-enum-told-2 (read-node-calls t) (read-node-at t) read-node.Post
 read-node-enum-told-2 t c = search needs
@@ -155,7 +186,7 @@ read-node-read-stuck-requires : (t : ℕ) → read-node-lts.Need-read-stuck-requ
 read-node-read-stuck-requires t c κs =
     let f = c .before .before .before in
     let p = start t f .pre .1 in
-    (p .0, (p .1 .1 .1, (p .1 .0, sym (f .find-kind .ensures) ∙ ap line-kind (c .before .enum-told2 .given .1))))
+    (p .0, (p .1 .1 .1, (p .1 .0, kind-is t f _ (c .before .enum-told2 .given .1))))
 
 read-node-enum-told-3 : (t : ℕ) → read-node-lts.Need-enum-told-3 (read-node-calls t) (read-node-at t) read-node.Post
 read-node-enum-told-3 t c = search needs
@@ -164,7 +195,7 @@ read-node-read-price-requires : (t : ℕ) → read-node-lts.Need-read-price-requ
 read-node-read-price-requires t c κs =
     let f = c .before .before .before in
     let p = start t f .pre .1 in
-    (p .0, (p .1 .1 .1, (p .1 .0, sym (f .find-kind .ensures) ∙ ap line-kind (c .before .enum-told3 .given .1))))
+    (p .0, (p .1 .1 .1, (p .1 .0, kind-is t f _ (c .before .enum-told3 .given .1))))
 
 read-node-enum-told-4 : (t : ℕ) → read-node-lts.Need-enum-told-4 (read-node-calls t) (read-node-at t) read-node.Post
 read-node-enum-told-4 t c = search needs
@@ -216,8 +247,8 @@ read-node-read-split-requires t c κs =
       (
         s .pre .1 .0,
         (
-          moved-placed (a .text .now) (a .at) (a .line) (a .tally) (s .pre .1 .1 .0) (f .found2 .given .0 .1 .1 .0) m (w .with-split .result) (rw e (omega arith)),
-          ((omega (arith, k .depth), s .pre .1 .1 .1 .1), place-in t (c .before .before)),
+          moved-placed (a .text .now) (a .at) (a .line) (a .figures) (s .pre .1 .1 .0) (f .found2 .given .0 .1 .1 .0) m (w .with-split .result) (rw e (omega arith)),
+          ((omega (arith, k .depth), s .pre .1 .1 .1 .1), (place-in t (c .before .before), place-in t (c .before .before))),
         ),
       ),
     )
@@ -227,42 +258,21 @@ read-node-same-length t c = search needs
 
 read-node-returns : (t : ℕ) → read-node-lts.Need-returns (read-node-calls t) (read-node-at t) read-node.Post
 read-node-returns t c =
-    let k = c .before .before .before .before in
-    let a = start t k .args in
-    let P = instance-in (a .numbers .now) in (
-      c .read-short .ensures
-          ∙ leaf-anywhere P (a .text .now) (a .at) (a .line) (a .tally) (above-of (P .periods) (a .fixed .now)) (a .depth) short-line tt
-          (sym (k .find-kind .ensures) ∙ ap line-kind (c .before .before .enum-told .given .1)),
-      refl,
-    )
+    (leaf-answers t (c .before .before .before .before) Short tt (c .before .before .enum-told .given .1) (c .read-short .ensures), refl)
 
 read-node-same-length-2 : (t : ℕ) → read-node-lts.Need-same-length-2 (read-node-calls t) (read-node-at t) read-node.Post
 read-node-same-length-2 t c = search needs
 
 read-node-returns-2 : (t : ℕ) → read-node-lts.Need-returns-2 (read-node-calls t) (read-node-at t) read-node.Post
 read-node-returns-2 t c =
-    let k = c .before .before .before .before in
-    let a = start t k .args in
-    let P = instance-in (a .numbers .now) in (
-      c .read-stuck .ensures
-          ∙ leaf-anywhere P (a .text .now) (a .at) (a .line) (a .tally) (above-of (P .periods) (a .fixed .now)) (a .depth) stuck-line tt
-          (sym (k .find-kind .ensures) ∙ ap line-kind (c .before .before .enum-told2 .given .1)),
-      refl,
-    )
+    (leaf-answers t (c .before .before .before .before) Stuck tt (c .before .before .enum-told2 .given .1) (c .read-stuck .ensures), refl)
 
 read-node-same-length-3 : (t : ℕ) → read-node-lts.Need-same-length-3 (read-node-calls t) (read-node-at t) read-node.Post
 read-node-same-length-3 t c = search needs
 
 read-node-returns-3 : (t : ℕ) → read-node-lts.Need-returns-3 (read-node-calls t) (read-node-at t) read-node.Post
 read-node-returns-3 t c =
-    let k = c .before .before .before .before in
-    let a = start t k .args in
-    let P = instance-in (a .numbers .now) in (
-      c .read-price .ensures
-          ∙ leaf-anywhere P (a .text .now) (a .at) (a .line) (a .tally) (above-of (P .periods) (a .fixed .now)) (a .depth) price-line tt
-          (sym (k .find-kind .ensures) ∙ ap line-kind (c .before .before .enum-told3 .given .1)),
-      refl,
-    )
+    (leaf-answers t (c .before .before .before .before) Price tt (c .before .before .enum-told3 .given .1) (c .read-price .ensures), refl)
 
 read-node-same-length-4 : (t : ℕ) → read-node-lts.Need-same-length-4 (read-node-calls t) (read-node-at t) read-node.Post
 read-node-same-length-4 t c = search needs
@@ -272,9 +282,9 @@ read-node-returns-4 t c =
     let l = c .before .before .before in
     let a = start t (l .before .before .before .before) .args in
     let P = instance-in (a .numbers .now) in
-    let A = above-of (P .periods) (a .fixed .now) in
+    let A = above-of P (a .above .now) in
     let g = c .before .found .given in (
-      node-refused P (a .text .now) (a .at) (a .line) (a .tally) A (a .depth) (g .0 .0)
+      node-refused P (a .text .now) (a .at) (a .line) (a .figures) A (a .depth) (g .0 .0)
           (split-off P (a .text .now) (a .at) A (a .depth) (is-split t l) (g .0 .0) (sym (g .1) ∙ l .read-split-line .ensures)),
       refl,
     )
@@ -289,21 +299,12 @@ read-node-returns-5 t c =
     let w = q .before .before in
     let p = w .before in
     let f = p .before .before in
-    let s = split-start t f in
-    let a = s .args in
+    let a = split-start t f .args in
     let k = split-known t f in
     let g = f .found2 .given .0 in
     let P = instance-in (a .numbers .now) in
-    let T = P .periods in
-    let A = above-of T (a .fixed .now) in
-    let inside : g .0 * T + g .1 .0 < length (a .fixed .now) = omega (arith, place-inside P (s .pre .1 .0 .well-formed) T (g .0) (g .1 .0) refl (k .unit) (k .period), s .pre .1 .1 .1 .1) in
-    let off = split-is T (a .fixed .now) (g .0) (g .1 .0) 1 false inside (k .period) refl in
-    let on = split-is T (a .fixed .now) (g .0) (g .1 .0) 2 true inside (k .period) refl in
-    let both = subst (λ (n : ℕ). q .read-split .result
-    ≡ trees-read P (a .text .now) (g .1 .1 .0) (a .line + 1) (w .with-split .result) (above-of T (set (a .fixed .now) (g .0 * n + g .1 .0) 1)) (above-of T (set (a .fixed .now) (g .0 * n + g .1 .0) 2)) (a .depth + 1))
-    (p .periods-in .ensures) (q .read-split .ensures .0) in
-    let trees = rw (off, on, w .with-split .ensures) at both in (
-      node-split P (a .text .now) (a .at) (a .line) (a .tally) A (a .depth) (fix (g .0) (g .1 .0) false A) (fix (g .0) (g .1 .0) true A) (g .1 .1 .0) (q .read-split .result)
+    let trees = rw (is-side t p 1 false refl, is-side t p 2 true refl, w .with-split .ensures) at (q .read-split .ensures .0) in (
+      node-fork P (a .text .now) (a .at) (a .line) (a .figures) (above-of P (a .above .now)) (a .depth) (status (g .0) (g .1 .0)) (g .1 .1 .0) (q .read-split .result)
           (k .judged) (k .moved) trees,
       q .read-split .ensures .1,
     )
@@ -320,27 +321,44 @@ abbrev trees-start : (t : ℕ) → AtFirst t → read-split-lts.Start (read-spli
 trees-start t c = c .before .before .before .before .before .before
 
 abbrev first-of : (t : ℕ) → AtSecond t → AtFirst t
-first-of t c = c .before .before .before .before .before .before .before
+first-of t c = c .before .before .before .before .before .before .before .before
+
+-- the bytes after the first tree
+abbrev bytes-left : (t : ℕ) → AtFirst t → List ℕ
+bytes-left t c = c .read-node .last .1 .1 .1 .1 .1 .0
 
 -- the first tree, by what was found of it
 first-is : (t : ℕ) (c : AtFirst t) (r : Read) → c .read-node .result ≡ r →
     let a = trees-start t c .args in
     let P = instance-in (a .numbers .now) in
-    r ≡ node-read P (a .text .now) (a .at) (a .line) (a .tally) (above-of (P .periods) (set (a .fixed .now) (a .place) 1)) (a .depth)
+    r ≡ node-read P (a .text .now) (a .at) (a .line) (a .figures) (above-of P (set (a .above .now) (a .first .place) (a .first .byte))) (a .depth)
 first-is t c r e = sym e ∙ c .read-node .ensures .0
 
--- as many statuses after each tree as before
-first-long : (t : ℕ) (c : AtFirst t) → length (c .read-node .last .1 .1 .1 .1 .1 .0) ≡ 1536
-first-long t c = let s = trees-start t c in set-length (s .args .fixed .now) (s .args .place) _ (c .read-node .ensures .1) ∙ s .pre .1 .1 .1 .0 .1
+-- its byte is taken back
+abbrev given-back : (t : ℕ) → AtFirst t → List ℕ
+given-back t c = let a = trees-start t c .args in set (bytes-left t c) (a .first .place) (a .above .now at (a .first .place))
+
+first-back : (t : ℕ) (c : AtFirst t) → given-back t c ≡ trees-start t c .args .above .now
+first-back t c = let a = trees-start t c .args in set-back (a .above .now) (a .first .place) (a .first .byte) (c .read-node .ensures .1)
+
+back-long : (t : ℕ) (c : AtFirst t) → length (given-back t c) ≡ 1536
+back-long t c = ap length (first-back t c) ∙ trees-start t c .pre .1 .1 .1 .0 .1
+
+-- as many bytes after each tree as before
+first-long : (t : ℕ) (c : AtFirst t) → length (bytes-left t c) ≡ 1536
+first-long t c = let s = trees-start t c in set-length (s .args .above .now) (s .args .first .place) (s .args .first .byte) (c .read-node .ensures .1) ∙ s .pre .1 .1 .1 .0 .1
 
 second-long : (t : ℕ) (c : AtSecond t) → length (c .read-node2 .last .1 .1 .1 .1 .1 .0) ≡ 1536
-second-long t c = let b = first-of t c in set-length (b .read-node .last .1 .1 .1 .1 .1 .0) (trees-start t b .args .place) _ (c .read-node2 .ensures .1) ∙ first-long t b
+second-long t c =
+    let b = first-of t c in
+    let s = trees-start t b in
+    set-length (given-back t b) (s .args .second .place) (s .args .second .byte) (c .read-node2 .ensures .1) ∙ back-long t b
 
 read-split-slice-read-was : (t : ℕ) → read-split-lts.Need-slice-read-was (read-split-calls t) (read-split-at t) read-split.Post
 read-split-slice-read-was t c = search needs
 
-read-split-slice-write-fixed : (t : ℕ) → read-split-lts.Need-slice-write-fixed (read-split-calls t) (read-split-at t) read-split.Post
-read-split-slice-write-fixed t c = search needs
+read-split-slice-write-above : (t : ℕ) → read-split-lts.Need-slice-write-above (read-split-calls t) (read-split-at t) read-split.Post
+read-split-slice-write-above t c = search needs
 
 read-split-read-node-requires : (t : ℕ) → read-split-lts.Need-read-node-requires (read-split-calls t) (read-split-at t) read-split.Post
 read-split-read-node-requires t c κs =
@@ -348,61 +366,57 @@ read-split-read-node-requires t c κs =
     let p = s .pre .1 in
     (omega (arith, s .pre .0), (p .0, (p .1 .0, (p .1 .1 .0 .0, simp length-set (p .1 .1 .0 .1)))))
 
+read-split-slice-write-above-2 : (t : ℕ) → read-split-lts.Need-slice-write-above-2 (read-split-calls t) (read-split-at t) read-split.Post
+read-split-slice-write-above-2 t c =
+    let b = c .before .before in
+    omega (arith, first-long t b, trees-start t b .pre .1 .1 .1 .1 .0)
+
 read-split-enum-known-one : (t : ℕ) → read-split-lts.Need-enum-known-one (read-split-calls t) (read-split-at t) read-split.Post
 read-split-enum-known-one t c = search needs
-
-read-split-slice-write-fixed-2 : (t : ℕ) → read-split-lts.Need-slice-write-fixed-2 (read-split-calls t) (read-split-at t) read-split.Post
-read-split-slice-write-fixed-2 t c =
-    let b = c .before .before .before .before .before in
-    let p = trees-start t b .pre .1 .1 .1 in
-    omega (arith, first-long t b, p .1)
 
 read-split-enum-known-one-2 : (t : ℕ) → read-split-lts.Need-enum-known-one-2 (read-split-calls t) (read-split-at t) read-split.Post
 read-split-enum-known-one-2 t c = search needs
 
-read-split-slice-write-fixed-3 : (t : ℕ) → read-split-lts.Need-slice-write-fixed-3 (read-split-calls t) (read-split-at t) read-split.Post
-read-split-slice-write-fixed-3 t c =
-    let b = c .before .before .before .before .before in
-    let p = trees-start t b .pre .1 .1 .1 in
-    omega (arith, first-long t b, p .1)
+read-split-slice-read-was-2 : (t : ℕ) → read-split-lts.Need-slice-read-was-2 (read-split-calls t) (read-split-at t) read-split.Post
+read-split-slice-read-was-2 t c =
+    let b = c .before .before .before .before .before .before in
+    omega (arith, back-long t b, trees-start t b .pre .1 .1 .1 .1 .1)
+
+read-split-slice-write-above-3 : (t : ℕ) → read-split-lts.Need-slice-write-above-3 (read-split-calls t) (read-split-at t) read-split.Post
+read-split-slice-write-above-3 t c =
+    let b = c .before .before .before .before .before .before in
+    omega (arith, back-long t b, trees-start t b .pre .1 .1 .1 .1 .1)
 
 read-split-read-node-requires-2 : (t : ℕ) → read-split-lts.Need-read-node-requires-2 (read-split-calls t) (read-split-at t) read-split.Post
 read-split-read-node-requires-2 t c κs =
-    let o = c .before .before in
+    let o = c .before .before .before in
     let b = o .before .before .before .before in
     let s = trees-start t b in
     let p = s .pre .1 in
     let q = node-past _ _ _ _ _ _ _ (p .1 .0) _ (first-is t b _ (o .one2 .given .1)) in
     (omega (arith, s .pre .0, q .1), (p .0, (q .0, (p .1 .1 .0 .0, simp length-set (first-long t b)))))
 
-read-split-slice-write-fixed-4 : (t : ℕ) → read-split-lts.Need-slice-write-fixed-4 (read-split-calls t) (read-split-at t) read-split.Post
-read-split-slice-write-fixed-4 t c =
+read-split-slice-write-above-4 : (t : ℕ) → read-split-lts.Need-slice-write-above-4 (read-split-calls t) (read-split-at t) read-split.Post
+read-split-slice-write-above-4 t c =
     let b = c .before .before in
-    let p = trees-start t (first-of t b) .pre .1 .1 .1 in
-    omega (arith, second-long t b, p .1)
+    omega (arith, second-long t b, trees-start t (first-of t b) .pre .1 .1 .1 .1 .1)
 
 read-split-same-length : (t : ℕ) → read-split-lts.Need-same-length (read-split-calls t) (read-split-at t) read-split.Post
-read-split-same-length t c =
-    let b = c .before .before .before .before .before in
-    simp length-set (first-long t b ∙ sym (trees-start t b .pre .1 .1 .1 .0 .1))
+read-split-same-length t c = ap length (first-back t (c .before .before .before .before .before))
 
 read-split-returns : (t : ℕ) → read-split-lts.Need-returns (read-split-calls t) (read-split-at t) read-split.Post
 read-split-returns t c =
     let b = c .before .before .before .before .before in
     let a = trees-start t b .args in
     let P = instance-in (a .numbers .now) in
-    let T = P .periods in
-    let A = above-of T (set (a .fixed .now) (a .place) 1) in
     let g = c .before .one .given in (
-      trees-refused P (a .text .now) (a .at) (a .line) (a .tally) A (a .depth) (above-of T (set (a .fixed .now) (a .place) 2)) (g .0 .0) (g .0 .1 .0)
-          (first-is t b _ (g .1)),
-      set-back (a .fixed .now) (a .place) 1 (b .read-node .ensures .1),
+      trees-refused P (a .text .now) (a .at) (a .line) (a .figures) (above-of P (set (a .above .now) (a .first .place) (a .first .byte))) (a .depth)
+          (above-of P (set (a .above .now) (a .second .place) (a .second .byte))) (g .0 .0) (g .0 .1 .0) (first-is t b _ (g .1)),
+      first-back t b,
     )
 
 read-split-same-length-2 : (t : ℕ) → read-split-lts.Need-same-length-2 (read-split-calls t) (read-split-at t) read-split.Post
-read-split-same-length-2 t c =
-    let r = c .before .before in
-    simp length-set (second-long t r ∙ sym (trees-start t (first-of t r) .pre .1 .1 .1 .0 .1))
+read-split-same-length-2 t c = let r = c .before .before in simp length-set (second-long t r ∙ sym (trees-start t (first-of t r) .pre .1 .1 .1 .0 .1))
 
 read-split-returns-2 : (t : ℕ) → read-split-lts.Need-returns-2 (read-split-calls t) (read-split-at t) read-split.Post
 read-split-returns-2 t c =
@@ -410,15 +424,13 @@ read-split-returns-2 t c =
     let b = first-of t r in
     let a = trees-start t b .args in
     let P = instance-in (a .numbers .now) in
-    let T = P .periods in
-    let A = above-of T (set (a .fixed .now) (a .place) 1) in
-    let g = r .before .before .before .one2 .given in
-    let two = r .read-node2 in
-    let changed = set-over (a .fixed .now) (a .place) 1 (b .read-node .ensures .1) 2 in (
-      trees-both P (a .text .now) (a .at) (a .line) (a .tally) A (a .depth) (above-of T (set (a .fixed .now) (a .place) 2)) (g .0 .0) (g .0 .1 .0) (g .0 .1 .1 .0) (two .result)
-          (first-is t b _ (g .1))
-          (two .ensures .0 ∙ ap (λ (x : List ℕ). node-read P (a .text .now) (g .0 .0) (g .0 .1 .0) (g .0 .1 .1 .0) (above-of T x) (a .depth)) changed),
-      set-back (a .fixed .now) (a .place) 2 (two .ensures .1 ∙ changed),
+    let g = r .before .before .before .before .one2 .given in
+    let two = r .read-node2 in (
+      trees-both P (a .text .now) (a .at) (a .line) (a .figures) (above-of P (set (a .above .now) (a .first .place) (a .first .byte))) (a .depth)
+          (above-of P (set (a .above .now) (a .second .place) (a .second .byte))) (g .0 .0) (g .0 .1 .0) (g .0 .1 .1 .0) (two .result) (first-is t b _ (g .1))
+          (two .ensures .0
+          ∙ ap (λ (x : List ℕ). node-read P (a .text .now) (g .0 .0) (g .0 .1 .0) (g .0 .1 .1 .0) (above-of P (set x (a .second .place) (a .second .byte))) (a .depth)) (first-back t b)),
+      set-back (given-back t b) (a .second .place) (a .second .byte) (two .ensures .1) ∙ first-back t b,
     )
 
 pub +read-node+read-split-spec : {M : Type 1} → statement M
@@ -458,14 +470,15 @@ pub +read-node+read-split-spec : {M : Type 1} → statement M
     (read-split-at t)
     read-split.Post
     (read-split-slice-read-was t)
-    (read-split-slice-write-fixed t)
+    (read-split-slice-write-above t)
     (read-split-read-node-requires t)
+    (read-split-slice-write-above-2 t)
     (read-split-enum-known-one t)
-    (read-split-slice-write-fixed-2 t)
     (read-split-enum-known-one-2 t)
-    (read-split-slice-write-fixed-3 t)
+    (read-split-slice-read-was-2 t)
+    (read-split-slice-write-above-3 t)
     (read-split-read-node-requires-2 t)
-    (read-split-slice-write-fixed-4 t)
+    (read-split-slice-write-above-4 t)
     (read-split-same-length t)
     (read-split-returns t)
     (read-split-same-length-2 t)

@@ -10,7 +10,9 @@ use lib.ListN.{length}
 use borrow.Author.Tests.{lt-ltb}
 use Rattle.model.specs.Instance.{Instance, _at_}
 use Rattle.model.specs.Ranges.{WellFormed}
-use Rattle.numbers.specs.Numbers.{instance-in}
+use Rattle.layout.specs.Numbers.{instance-in}
+use Rattle.walk.specs.Marks.{above-of}
+use Rattle.walk.proofs.AboveMarks.{marks-same}
 use Rattle.text.specs.Lines.{line-at}
 use Rattle.text.specs.declared.Verdict.{Verdict}
 use Rattle.text.specs.Forms.{form, row-of, all-below}
@@ -19,9 +21,8 @@ use Rattle.text.proofs.Verdicts.{ruled-refused}
 use Rattle.tree.specs.Rendering.{split-key}
 use Rattle.tree.specs.NodeLines.{is-fixed}
 use Rattle.tree.specs.Refusals.{split-line, node-form}
-use Rattle.tree.specs.Coded.{marks-in, above-of, split-refusal}
+use Rattle.tree.specs.Coded.{split-refusal}
 use Rattle.tree.proofs.Places.{place-inside}
-use Rattle.tree.proofs.Marked.{mark-there}
 use Rattle.tree.proofs.SplitLines.{TwoValues, two-values, split-refused, split-fails, split-good}
 use Rattle.tree.proofs.splitting.read_split_line.Statement.{statement}
 use Rattle.tree.proofs.splitting.read_split_line.Tie as tie
@@ -83,7 +84,7 @@ values c =
 
 inside : (c : tie.After-known-told2) →
     let f = filling c in
-    (numbers c at 0 - 1) * f .before .before .before .before .before .periods-in .result + (numbers c at 1 - 1) < length (start f .args .fixed .now)
+    (numbers c at 0 - 1) * f .before .before .before .before .before .periods-in .result + (numbers c at 1 - 1) < length (start f .args .above .now)
 inside c =
     let s = start (filling c) in
     let w = values c in
@@ -94,15 +95,16 @@ number-is : (c : tie.After-refuse-split) →
     let b = c .before in
     let a = start (filling b) .args in
     c .refuse-split .result
-    ≡ cond (is-fixed (marks-in (instance-in (a .numbers .now) .periods) (a .fixed .now) (numbers b at 0 - 1) (numbers b at 1 - 1))) 31 (cond (ltb 63 (a .depth)) 32 0)
+    ≡ cond (is-fixed (above-of (instance-in (a .numbers .now)) (a .above .now) .marks (numbers b at 0 - 1) (numbers b at 1 - 1))) 31 (cond (ltb 63 (a .depth)) 32 0)
 unfolding split-refusal
 number-is c =
     let b = c .before in
     let a = start (filling b) .args in
-    let T = instance-in (a .numbers .now) .periods in
+    let P = instance-in (a .numbers .now) in
     c .refuse-split .ensures
-    ∙ ap (λ (n : ℕ). split-refusal (a .fixed .now) ((numbers b at 0 - 1) * n + (numbers b at 1 - 1)) (a .depth)) (periods-are (filling b))
-    ∙ ap (λ (m : _). cond (is-fixed m) 31 (cond (ltb 63 (a .depth)) 32 0)) (sym (mark-there T (a .fixed .now) (numbers b at 0 - 1) (numbers b at 1 - 1) (values b .period)))
+    ∙ ap (λ (n : ℕ). split-refusal (a .above .now) ((numbers b at 0 - 1) * n + (numbers b at 1 - 1)) (a .depth)) (periods-are (filling b))
+    ∙ ap (λ (m : _). cond (is-fixed m) 31 (cond (ltb 63 (a .depth)) 32 0))
+    (marks-same (length (P .units)) (P .periods) (a .above .now) (numbers b at 0 - 1) (values b .unit) (numbers b at 1 - 1) (values b .period))
 
 units-in-requires : tie.Need-units-in-requires
 units-in-requires c κs = c .before .before .before .pre .0
@@ -160,7 +162,7 @@ returns : tie.Need-returns
 returns c =
     let b = c .before .before in
     let a = start (filling b) .args in
-    split-fails (instance-in (a .numbers .now)) (a .text .now) (a .at) (above-of (instance-in (a .numbers .now) .periods) (a .fixed .now)) (a .depth) (left b .line-good) (numbers b) (left b .values)
+    split-fails (instance-in (a .numbers .now)) (a .text .now) (a .at) (above-of (instance-in (a .numbers .now)) (a .above .now)) (a .depth) (left b .line-good) (numbers b) (left b .values)
     (c .before .refuse-split .result) (number-is (c .before)) (c .if1 .taken)
 
 returns-2 : tie.Need-returns-2
@@ -169,7 +171,7 @@ returns-2 c =
     let a = start f .args in
     let v = c .before .verdict .given in
     let P = instance-in (a .numbers .now) in
-    split-refused P (a .text .now) (a .at) (above-of (P .periods) (a .fixed .now)) (a .depth) (v .0 .0)
+    split-refused P (a .text .now) (a .at) (above-of P (a .above .now)) (a .depth) (v .0 .0)
     (ruled-refused (node-form P split-line) (line-at (a .text .now) (a .at)) (a .at) (f .fill-line .result) (is-verdict f) (v .0 .0) (v .1))
 
 returns-3 : tie.Need-returns-3
@@ -177,7 +179,7 @@ returns-3 c =
     let b = c .before .before in
     let a = start (filling b) .args in
     let P = instance-in (a .numbers .now) in
-    split-good P (a .text .now) (a .at) (above-of (P .periods) (a .fixed .now)) (a .depth) (left b .line-good) (numbers b) (left b .values)
+    split-good P (a .text .now) (a .at) (above-of P (a .above .now)) (a .depth) (left b .line-good) (numbers b) (left b .values)
     (sym (number-is (c .before)) ∙ c .if1 .left) (b .before .verdict2 .given .0 .0) (left b .next-is)
 
 pub read-split-line-spec : {M : Type 1} → statement M

@@ -1,0 +1,58 @@
+-- A problem laid out is had again, with what stands past its periods and units: each array is read from its place.
+use mathlib.Core.Path.{_≡_, refl, sym, ap, _∙_}
+use mathlib.Core.Bool.{Bool, true, false, not, cond}
+use mathlib.Core.List.{List, [], _++_, append-nil}
+use Prim.Native.Nat.{ℕ, suc, _<_}
+use native.Mathlib.Omega.{arith}
+use lib.Dec.{eqb}
+use lib.ListN.{length, getD, drop}
+use lib.Seq.{take-at, ext-getD}
+use Rattle.model.specs.declared.generator.Generator.{Generator}
+use Rattle.model.specs.declared.arrays.Problem.{Problem}
+use Rattle.model.specs.Held.{view, Valid, blank-generator}
+use Rattle.layout.specs.Numbers.{generator-numbers, all-numbers, laid-out, generator-of, generator-in, generators-in, problem-in, instance-in, Laid}
+use Rattle.layout.proofs.Readings.{generators-long, generators-at, instance-is}
+use Rattle.layout.proofs.Places.{laid-long, from-demand, from-spare, from-unit}
+
+status-back : (b : Bool) → not (eqb (cond b 1 0) 0) ≡ b
+status-back true = refl
+status-back false = refl
+
+generator-back : (g : Generator) (l : List ℕ) → generator-of (generator-numbers g ++ l) ≡ g
+generator-back g l = rw (status-back (g .on)) refl
+
+module _ (p : Problem) (demand-long : length (p .demand) ≡ 48) (spare-long : length (p .spare) ≡ 48) (units-long : length (p .generators) ≡ 32) where
+  module _ (l : List ℕ) where
+    unit-again : (u : ℕ) → u < 32 → generator-in (laid-out p ++ l) u ≡ getD (p .generators) u blank-generator
+    unit-again u h =
+        ap generator-of (from-unit p demand-long spare-long units-long l u h)
+        ∙ generator-back (getD (p .generators) u blank-generator) (all-numbers (drop (suc u) (p .generators)) ++ l)
+
+    generators-again : generators-in (laid-out p ++ l) 0 32 ≡ p .generators
+    generators-again =
+        let v = laid-out p ++ l in
+        ext-getD blank-generator (generators-in v 0 32) (p .generators) (generators-long v 0 32 ∙ sym units-long)
+        (λ u h. let less : u < 32 = omega (arith, generators-long v 0 32) in generators-at v 32 u less ∙ unit-again u less)
+
+    -- the problem, before whatever follows its numbers
+    pub problem-again : problem-in (laid-out p ++ l) ≡ p
+    unfolding problem-in laid-out
+    problem-again =
+        rw (
+          generators-again,
+          from-spare p demand-long spare-long units-long l,
+          from-demand p demand-long spare-long units-long l,
+          take-at (p .demand) (p .spare ++ (all-numbers (p .generators) ++ l)) 48 demand-long,
+          take-at (p .spare) (all-numbers (p .generators) ++ l) 48 spare-long,
+        ) refl
+
+  module _ (valid : Valid p) where
+    pub laid-is : instance-in (laid-out p) ≡ view p
+    unfolding laid-out view
+    laid-is =
+        instance-is (laid-out p) (valid .well-formed .periods-in .1) (valid .units-fit)
+        ∙ ap view (ap problem-in (sym (append-nil (laid-out p))) ∙ problem-again [])
+
+    -- and it is well-formed
+    pub laid : Laid (laid-out p)
+    laid = record { long = laid-long p demand-long spare-long units-long; well-formed = rw laid-is (valid .well-formed) }
