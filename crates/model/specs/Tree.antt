@@ -20,6 +20,7 @@ pub data Leaf : Type 0 where
   stuck : ℕ → Leaf
   price : List ℕ → List ℕ → Leaf
 
+-- a leaf, or a fork with its first tree and its second
 pub data Tree : Type 0 where
   leaf : Leaf → Tree
   fork : Fork → Tree → Tree → Tree
