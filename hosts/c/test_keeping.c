@@ -2,7 +2,7 @@
 #include "test_calls.h"
 
 static void test_sizes(void) {
-    count(docket_rules() == 2, "the rules have number 2");
+    count(docket_rules() == 3, "the rules have number 3");
     count(docket_numbers() == 618, "618 numbers");
     count(docket_rows() == 1536, "1536 rows");
 }

@@ -1,32 +1,52 @@
-//! When a leaf holds and what a price leaf is worth (document 01, "Rules for a leaf").
+//! When a leaf holds and what a price leaf is worth (document 01, "Rules for a leaf"; for counts
+//! document 02, [1]).
 //!
 //! Units and periods count from 0 here.
 
 use std::collections::HashMap;
 
+use crate::above::{Above, Statuses};
 use crate::minimum::{best_output_value, is_stuck, least_value};
 use crate::problem::Problem;
 
-/// The statuses that the splits above a leaf fix, by unit and period.
-pub type Statuses = [Vec<Option<bool>>];
-
-/// The pU of all units not fixed off in a period, free ones among them.
-pub fn open_capacity(problem: &Problem, fixed: &Statuses, period: usize) -> i64 {
-    let mut capacity = 0;
-    for (unit, statuses) in problem.units.iter().zip(fixed) {
+/// The most pU that can be on in a period: that of all units not fixed off, free ones among them, or,
+/// where an upper count stands, of the largest of them, as many as it says.
+pub fn open_capacity(problem: &Problem, above: &Above, period: usize) -> i64 {
+    let mut capacities = Vec::new();
+    for (unit, statuses) in problem.units.iter().zip(&above.fixed) {
         if statuses[period] != Some(false) {
-            capacity += unit.most_output;
+            capacities.push(unit.most_output);
         }
     }
-    capacity
+    capacities.sort();
+    capacities.reverse();
+    let most = above.counts[period].upper.unwrap_or(capacities.len());
+    capacities.iter().take(most).sum()
 }
 
 /// Whether `short` holds for a period.
-pub fn short_holds(problem: &Problem, fixed: &Statuses, period: usize) -> bool {
-    open_capacity(problem, fixed, period) < problem.capacity_needed(period)
+pub fn short_holds(problem: &Problem, above: &Above, period: usize) -> bool {
+    open_capacity(problem, above, period) < problem.capacity_needed(period)
 }
 
-/// Whether `stuck` holds for a unit.
+/// Whether `crowd` holds for a period, by either of its clauses.
+pub fn crowd_holds(above: &Above, period: usize) -> bool {
+    too_many_on(above, period) || too_few_left(above, period)
+}
+
+/// More units are fixed on in a period than the upper count that stands for it.
+pub fn too_many_on(above: &Above, period: usize) -> bool {
+    let upper = above.counts[period].upper;
+    upper.is_some_and(|upper| above.fixed_on(period) > upper)
+}
+
+/// Fewer units are not fixed off in a period than the lower count that stands for it.
+pub fn too_few_left(above: &Above, period: usize) -> bool {
+    let lower = above.counts[period].lower;
+    lower.is_some_and(|lower| above.not_fixed_off(period) < lower)
+}
+
+/// Whether `stuck` holds for a unit. Counts play no part.
 pub fn stuck_holds(problem: &Problem, fixed: &Statuses, unit: usize) -> bool {
     is_stuck(&problem.units[unit], &fixed[unit])
 }
@@ -47,7 +67,7 @@ impl<'a> Pricing<'a> {
     }
 
     /// The value of a price leaf, or `None` if some unit is stuck: the least values of all units
-    /// and, over periods, q·D + s·(D + R).
+    /// and, over periods, q·D + s·(D + R). Counts play no part.
     pub fn value(&mut self, fixed: &Statuses, prices: &[i64], reserves: &[i64]) -> Option<i64> {
         let problem = self.problem;
         let mut value = 0;

@@ -5,12 +5,14 @@
 //! - `generator`, `problem`: what a problem text gives
 //! - `schedule`: the rules for a schedule and its cost
 //! - `minimum`: the least value of one unit under multipliers
+//! - `above`: what the split lines above a node say
 //! - `leaf`: when a leaf holds and what it is worth
 //! - `tree`: nodes and the bound
 //! - `docket`: what is held, and the report
 //! - `listing`: the listing program on bytes
 //! - `inputs`: inputs of the listing program from a seed, to compare with
 
+pub mod above;
 pub mod docket;
 pub mod generator;
 pub mod inputs;

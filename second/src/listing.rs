@@ -25,7 +25,7 @@ pub fn listing(input: &[u8]) -> Vec<u8> {
 }
 
 /// The input cut after each ended line that begins `end=`; what is left over is the last piece.
-fn pieces(input: &[u8]) -> Vec<&[u8]> {
+pub fn pieces(input: &[u8]) -> Vec<&[u8]> {
     let mut pieces = Vec::new();
     let mut start = 0;
     let mut at = 0;

@@ -1,4 +1,5 @@
-//! Refusals: a number and a place (document 01, "Numbers that come from the text" and "... from the docket").
+//! Refusals: a number and a place (document 01, "Numbers that come from the text" and "... from the docket"; 36 and
+//! 37 are in document 02, [1]).
 
 /// Why a text or a report was refused. What does not apply to a number is 0.
 #[derive(Clone, Copy, Debug, PartialEq, Eq)]
@@ -20,7 +21,7 @@ impl Refusal {
         }
     }
 
-    /// 12 to 15 and 31 to 35: the line, counted from 1.
+    /// 12 to 15 and 31 to 37: the line, counted from 1.
     pub fn at_line(number: u32, line: usize) -> Refusal {
         Refusal {
             line,

@@ -1,14 +1,16 @@
-//! Trees: reading, leaves and the bound (document 01, "Texts" and "Rules for a leaf").
+//! Trees: reading, leaves and the bound (document 01, "Texts" and "Rules for a leaf"; document 02,
+//! [1]).
 
 use std::fmt;
 
-use crate::leaf::{short_holds, stuck_holds, Pricing};
+use crate::above::Above;
+use crate::leaf::{crowd_holds, short_holds, stuck_holds, Pricing};
 use crate::problem::Problem;
 use crate::refusal::Refusal;
 use crate::schedule::MOST_WRITER;
 use crate::text::{Line, Reader};
 
-/// A split at a larger depth is refused by 32. The root has depth 0.
+/// A split or count at a larger depth is refused by 32. The root has depth 0.
 const DEEPEST_SPLIT: usize = 63;
 const MOST_MULTIPLIER: i64 = 1_000_000_000;
 
@@ -29,7 +31,7 @@ impl fmt::Display for Bound {
     }
 }
 
-/// An accepted tree: its bound, and its split lines and leaves counted.
+/// An accepted tree: its bound, and its split lines (count lines among them) and leaves counted.
 #[derive(Clone, Copy, Debug, PartialEq, Eq)]
 pub struct Tree {
     pub writer: i64,
@@ -43,7 +45,7 @@ pub fn read(problem: &Problem, reader: &mut Reader) -> Result<Tree, Refusal> {
     let writer = reader.take_one("writer", 1, MOST_WRITER)?;
     let mut walk = Walk {
         problem,
-        fixed: vec![vec![None; problem.periods()]; problem.units.len()],
+        above: Above::root(problem),
         pricing: Pricing::of(problem),
         tree: Tree {
             writer,
@@ -60,8 +62,8 @@ pub fn read(problem: &Problem, reader: &mut Reader) -> Result<Tree, Refusal> {
 /// The reading of one tree.
 struct Walk<'a> {
     problem: &'a Problem,
-    /// Statuses fixed by the splits above the node being read, by unit and period from 0.
-    fixed: Vec<Vec<Option<bool>>>,
+    /// What the split lines above the node being read say.
+    above: Above,
     pricing: Pricing<'a>,
     /// The bound and the counts of what has been read.
     tree: Tree,
@@ -72,10 +74,14 @@ impl Walk<'_> {
         let line = reader.take()?;
         if line.has_key("split") {
             self.read_split(reader, line, depth)
+        } else if line.has_key("count") {
+            self.read_count(reader, line, depth)
         } else if line.has_key("short") {
             self.read_short(line)
         } else if line.has_key("stuck") {
             self.read_stuck(line)
+        } else if line.has_key("crowd") {
+            self.read_crowd(line)
         } else if line.has_key("price") {
             self.read_price(reader, line)
         } else {
@@ -89,7 +95,7 @@ impl Walk<'_> {
         line.check_count(&values, 2)?;
         let unit = self.unit_named(line, values[0])?;
         let period = self.period_named(line, values[1])?;
-        if self.fixed[unit][period].is_some() {
+        if self.above.fixed[unit][period].is_some() {
             return Err(line.refuse(31));
         }
         if depth > DEEPEST_SPLIT {
@@ -97,19 +103,44 @@ impl Walk<'_> {
         }
         self.tree.splits += 1;
         for status in [false, true] {
-            self.fixed[unit][period] = Some(status);
+            self.above.fixed[unit][period] = Some(status);
             self.read_node(reader, depth + 1)?;
         }
-        self.fixed[unit][period] = None;
+        self.above.fixed[unit][period] = None;
         Ok(())
     }
 
-    /// `short=P`: all units that may be on in P together cannot give D + R (else 33).
+    /// `count=P,K`: 12, 14, 13, 32, 37, then the tree with at most K units on in P and the one with
+    /// at least K + 1.
+    fn read_count(&mut self, reader: &mut Reader, line: Line, depth: usize) -> Result<(), Refusal> {
+        let units = self.problem.units.len();
+        let values = line.values("count", None)?;
+        line.check_count(&values, 2)?;
+        let period = self.period_named(line, values[0])?;
+        line.check_range(values[1], 0, units as i64 - 1)?;
+        let most = values[1] as usize;
+        if depth > DEEPEST_SPLIT {
+            return Err(line.refuse(32));
+        }
+        let before = self.above.counts[period];
+        if !before.permitted(units).contains(&most) {
+            return Err(line.refuse(37));
+        }
+        self.tree.splits += 1;
+        for counts in [before.at_most(most), before.above(most)] {
+            self.above.counts[period] = counts;
+            self.read_node(reader, depth + 1)?;
+        }
+        self.above.counts[period] = before;
+        Ok(())
+    }
+
+    /// `short=P`: the units that may be on together in P cannot give D + R (else 33).
     fn read_short(&mut self, line: Line) -> Result<(), Refusal> {
         let values = line.values("short", None)?;
         line.check_count(&values, 1)?;
         let period = self.period_named(line, values[0])?;
-        if !short_holds(self.problem, &self.fixed, period) {
+        if !short_holds(self.problem, &self.above, period) {
             return Err(line.refuse(33));
         }
         self.tree.leaves += 1;
@@ -121,8 +152,20 @@ impl Walk<'_> {
         let values = line.values("stuck", None)?;
         line.check_count(&values, 1)?;
         let unit = self.unit_named(line, values[0])?;
-        if !stuck_holds(self.problem, &self.fixed, unit) {
+        if !stuck_holds(self.problem, &self.above.fixed, unit) {
             return Err(line.refuse(34));
+        }
+        self.tree.leaves += 1;
+        Ok(())
+    }
+
+    /// `crowd=P`: the statuses fixed in P and the counts that stand for it exclude each other (else 36).
+    fn read_crowd(&mut self, line: Line) -> Result<(), Refusal> {
+        let values = line.values("crowd", None)?;
+        line.check_count(&values, 1)?;
+        let period = self.period_named(line, values[0])?;
+        if !crowd_holds(&self.above, period) {
+            return Err(line.refuse(36));
         }
         self.tree.leaves += 1;
         Ok(())
@@ -134,7 +177,7 @@ impl Walk<'_> {
         let prices = line.row("price", periods, 0, MOST_MULTIPLIER)?;
         let line = reader.take()?;
         let reserves = line.row("reserve", periods, 0, MOST_MULTIPLIER)?;
-        let value = self.pricing.value(&self.fixed, &prices, &reserves);
+        let value = self.pricing.value(&self.above.fixed, &prices, &reserves);
         let value = value.ok_or(line.refuse(35))?;
         self.tree.bound = self.tree.bound.min(Bound::Number(value));
         self.tree.leaves += 1;

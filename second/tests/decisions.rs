@@ -1,4 +1,4 @@
-//! The points that document 01 leaves open, one test for each decision, by its number.
+//! The points that documents 01 and 02 leave open, by the numbers of the decisions.
 
 mod common;
 
@@ -505,4 +505,630 @@ fn decision_67_a_price_leaf_leaves_the_ramp_from_p0_out() {
     assert_eq!(lodge(&mut docket, low.as_bytes()), refused(25, 0, 1, 1));
     let least = schedule(4, &["45"]);
     assert_eq!(lodge(&mut docket, least.as_bytes()), held_schedule(45));
+}
+
+/// A problem of one period with units of these pU that may be on or off at will, and this need.
+fn of_capacities(capacities: &[i64], needed: i64) -> String {
+    let units: String = capacities
+        .iter()
+        .map(|most| format!("unit=0,0,0,1,{most},1,1,-1,1,1,0,0,0,0,0\n"))
+        .collect();
+    let count = capacities.len();
+    format!(
+        "kind=problem\nperiods=1\nunits={count}\ndemand=0\nspare={needed}\n{units}end=problem\n"
+    )
+}
+
+/// The answer to a tree on such a problem.
+fn at_capacities(capacities: &[i64], needed: i64, nodes: &str) -> second::Answer {
+    under(&of_capacities(capacities, needed), &tree(1, nodes))
+}
+
+const LEAF: &str = "price=0 reserve=0";
+
+#[test]
+fn decision_87_the_order_of_numbers_on_a_count_line() {
+    for line in [
+        "count",
+        "count=",
+        "count=1",
+        "count=1,",
+        "count=,1",
+        "count=01,0",
+        "count=1,00",
+        "count=1,-1",
+        "count=1,-0",
+        "count=1,+0",
+        "count=1,x",
+        "Count=1,0",
+        "counts=1,0",
+        "count=9,01,1",
+    ] {
+        let number = if line == "count=1" { 14 } else { 12 };
+        assert_eq!(nodes(line), at_line(number, 3), "{line}");
+    }
+    assert_eq!(
+        under(PROBLEM, "kind=tree\nwriter=1\ncount=1,0"),
+        at_line(12, 3)
+    );
+    assert_eq!(nodes("count=9"), at_line(14, 3));
+    assert_eq!(nodes("count=9,9,9"), at_line(14, 3));
+    assert_eq!(nodes("count=1,0,0"), at_line(14, 3));
+    for line in [
+        "count=0,0",
+        "count=3,0",
+        "count=1,2",
+        "count=1,3",
+        "count=3,2",
+    ] {
+        assert_eq!(nodes(line), at_line(13, 3), "{line}");
+    }
+    let huge = "9".repeat(60);
+    assert_eq!(nodes(&format!("count=1,{huge}")), at_line(13, 3));
+    assert_eq!(nodes(&format!("count={huge},1")), at_line(13, 3));
+    // 12, 14 and 13 come before 37: under the first tree of count=1,0 every count of 1 is 37.
+    assert_eq!(nodes("count=1,0 count=1,00"), at_line(12, 4));
+    assert_eq!(nodes("count=1,0 count=1"), at_line(14, 4));
+    assert_eq!(nodes("count=1,0 count=1,2"), at_line(13, 4));
+    assert_eq!(nodes("count=1,0 count=1,1"), at_line(37, 4));
+    assert_eq!(nodes("count=1,0 count=1,0"), at_line(37, 4));
+    // After a count line two trees are due.
+    assert_eq!(nodes("count=1,0"), at_line(12, 4));
+    assert_eq!(nodes("count=1,0 short=1"), at_line(12, 5));
+    assert_eq!(
+        nodes("count=1,0 short=1 price=0,0 reserve=0,0 short=1"),
+        at_line(12, 7)
+    );
+}
+
+#[test]
+fn decision_87_the_period_comes_first_and_k_is_the_number_itself() {
+    // Two periods, four units: K may be 3 where P may not.
+    let problem = one_unit(2, "0,0,0,1,1,1,1,-1,1,1,0,0,0,0,0")
+        .replace("units=1", "units=4")
+        .replace(
+            "end=",
+            &("unit=0,0,0,1,1,1,1,-1,1,1,0,0,0,0,0\n".repeat(3) + "end="),
+        );
+    let leaf = "price=0,0 reserve=0,0";
+    for (line, answer) in [
+        ("count=2,3", held_tree(0, 1, 2)),
+        ("count=2,0", held_tree(0, 1, 2)),
+        ("count=3,2", at_line(13, 3)),
+        ("count=0,2", at_line(13, 3)),
+        ("count=2,4", at_line(13, 3)),
+    ] {
+        let text = tree(1, &format!("{line} {leaf} {leaf}"));
+        assert_eq!(under(&problem, &text), answer, "{line}");
+    }
+    // With one unit K is 0.
+    assert_eq!(
+        at_capacities(&[5], 0, &format!("count=1,0 {LEAF} {LEAF}")),
+        held_tree(0, 1, 2)
+    );
+    assert_eq!(at_capacities(&[5], 0, "count=1,1"), at_line(13, 3));
+}
+
+#[test]
+fn decision_87_the_order_of_numbers_on_a_crowd_line() {
+    for line in [
+        "crowd",
+        "crowd=",
+        "crowd=01",
+        "crowd=-1",
+        "crowd=9,",
+        "crowd=9,01",
+        "Crowd=1",
+        "crowds=1",
+    ] {
+        assert_eq!(nodes(line), at_line(12, 3), "{line}");
+    }
+    assert_eq!(
+        under(PROBLEM, "kind=tree\nwriter=1\ncrowd=1"),
+        at_line(12, 3)
+    );
+    assert_eq!(nodes("crowd=9,9"), at_line(14, 3));
+    assert_eq!(nodes("crowd=1,1"), at_line(14, 3));
+    assert_eq!(nodes("crowd=0"), at_line(13, 3));
+    assert_eq!(nodes("crowd=3"), at_line(13, 3));
+    assert_eq!(nodes("crowd=1"), at_line(36, 3));
+    assert_eq!(nodes("crowd=2"), at_line(36, 3));
+    // The line that 36 carries is its own, and nothing follows a crowd as a part of it.
+    assert_eq!(nodes("count=1,0 short=1 split=1,1 short=2"), at_line(33, 6));
+    assert_eq!(nodes("count=1,0 short=1 split=1,1 crowd=1"), at_line(36, 6));
+}
+
+/// K = I is out of range whatever stands for the period, also too deep.
+#[test]
+fn decision_87_a_k_of_the_number_of_units_is_never_37() {
+    let three = |nodes: &str| at_capacities(&[80, 50, 30], 1, nodes);
+    assert_eq!(three("count=1,3"), at_line(13, 3));
+    assert_eq!(three("count=1,2 count=1,3"), at_line(13, 4));
+    assert_eq!(three("count=1,0 count=1,3"), at_line(13, 4));
+    assert_eq!(
+        three(&format!("count=1,2 {LEAF} count=1,3")),
+        at_line(13, 6)
+    );
+    assert_eq!(
+        three(&format!("count=1,2 {LEAF} count=1,2")),
+        at_line(37, 6)
+    );
+}
+
+/// A problem of 48 periods and three units that may be on or off at will, without any need.
+fn wide() -> String {
+    let unit = "0,0,0,1,1,1,1,-1,1,1,0,0,0,0,0";
+    one_unit(48, unit)
+        .replace("units=1", "units=3")
+        .replace("end=", &format!("unit={unit}\nunit={unit}\nend="))
+}
+
+/// So many count lines, each the second tree of the one before, and their first trees.
+fn counts_on_the_right(lines: usize, leaf: &str) -> String {
+    (0..lines)
+        .map(|depth| format!("count={},{} {leaf} ", depth / 3 + 1, depth % 3))
+        .collect()
+}
+
+#[test]
+fn decision_87_depth_and_numbers_of_a_line_too_deep() {
+    let zeros = vec!["0"; 48].join(",");
+    let leaf = format!("price={zeros} reserve={zeros}");
+    let right = |lines| counts_on_the_right(lines, &leaf);
+    let answer = |nodes: String| under(&wide(), &tree(1, &nodes));
+    assert_eq!(answer(format!("{}{leaf}", right(64))), held_tree(0, 64, 65));
+    assert_eq!(answer(format!("{}{leaf}", right(63))), held_tree(0, 63, 64));
+    let last = 2 + 64 * 3 + 1;
+    for (line, number) in [
+        // Period 21 has all its counts, 22 has that of K = 0 and 23 has none.
+        ("count=23,0", 32),
+        ("count=22,1", 32),
+        ("count=22,0", 32),
+        ("count=21,2", 32),
+        ("count=21,3", 13),
+        ("count=49,0", 13),
+        ("count=21", 14),
+        ("count=21,02", 12),
+        ("split=1,21", 32),
+        ("crowd=21", 36),
+        ("short=21", 33),
+    ] {
+        let nodes = format!("{}{line} {leaf} {leaf}", right(64));
+        assert_eq!(answer(nodes), at_line(number, last), "{line}");
+    }
+    // At depth 63 such a count is 37, or may stand.
+    let before = 2 + 63 * 3 + 1;
+    for line in ["count=21,2", "count=21,0", "count=1,2"] {
+        let nodes = format!("{}{line} {leaf} {leaf}", right(63));
+        assert_eq!(answer(nodes), at_line(37, before), "{line}");
+    }
+    let nodes = format!("{}count=22,2 {leaf} {leaf}", right(63));
+    assert_eq!(answer(nodes), held_tree(0, 64, 65));
+    // Splits and counts make one depth together.
+    let mixed: String = (0..64)
+        .map(|depth| match depth % 2 {
+            0 => format!("count={},1 {leaf} ", depth / 2 + 1),
+            _ => format!("split=1,{} {leaf} ", depth / 2 + 1),
+        })
+        .collect();
+    assert_eq!(answer(format!("{mixed}{leaf}")), held_tree(0, 64, 65));
+    for line in ["count=40,1", "split=1,40"] {
+        let nodes = format!("{mixed}{line} {leaf} {leaf}");
+        assert_eq!(answer(nodes), at_line(32, last), "{line}");
+    }
+    // 31 still comes before 32 under counts.
+    let nodes = format!("{mixed}split=1,1 {leaf} {leaf}");
+    assert_eq!(answer(nodes), at_line(31, last));
+    // On the first side the depth is counted alike.
+    let left: String = (0..64)
+        .map(|depth| format!("count={},{} ", depth / 3 + 1, 2 - depth % 3))
+        .collect();
+    let leaves = vec![leaf.as_str(); 66].join(" ");
+    assert_eq!(
+        answer(format!("{left}{}", &leaves[leaf.len() + 1..])),
+        held_tree(0, 64, 65)
+    );
+    assert_eq!(
+        answer(format!("{left}count=40,0 {leaves}")),
+        at_line(32, 67)
+    );
+}
+
+/// 31 is about statuses: a count never gets it, and 37 never meets a split.
+#[test]
+fn decision_87_statuses_do_not_refuse_counts_nor_counts_splits() {
+    let three = |nodes: &str| at_capacities(&[80, 50, 30], 1, nodes);
+    // All statuses of the period are fixed, and a count may still stand.
+    let all = "split=1,1 split=2,1 split=3,1";
+    assert_eq!(
+        three(&format!("{all} count=1,1 count=1,0 count=1,0")),
+        at_line(37, 8)
+    );
+    // The counts are closed, and every split may still stand.
+    let closed = format!("count=1,0 {all} short=1 short=1 short=1");
+    assert_eq!(three(&format!("{closed} split=1,1")), at_line(31, 10));
+    assert_eq!(
+        three(&format!("{closed} split=3,1 short=1 short=1 {LEAF}")),
+        held_tree(0, 5, 6)
+    );
+}
+
+/// Every K of four units, after every two counts before it on one path.
+#[test]
+fn decision_88_what_37_permits() {
+    let capacities = [1, 1, 1, 1];
+    for first in 0..4 {
+        for first_tree in [true, false] {
+            // The second tree comes after a leaf of two lines.
+            let (skip, lines) = if first_tree {
+                (String::new(), 0)
+            } else {
+                (format!("{LEAF} "), 2)
+            };
+            let (low, high) = if first_tree {
+                (0, first)
+            } else {
+                (first + 1, 4)
+            };
+            for second in 0..4 {
+                let head = format!("count=1,{first} {skip}count=1,{second}");
+                let line = 4 + lines;
+                let refused = second < low || second >= high;
+                let answer = at_capacities(&capacities, 0, &head);
+                let number = if refused {
+                    at_line(37, line)
+                } else {
+                    at_line(12, line + 1)
+                };
+                assert_eq!(answer, number, "{head}");
+                if refused {
+                    continue;
+                }
+                for third in 0..4 {
+                    // Under the first tree of the second count its upper count is `second` and the
+                    // lower one stays; under its second tree it is the other way round.
+                    for (skip, lines, low, high) in [
+                        (String::new(), 0, low, second),
+                        (format!("{LEAF} "), 2, second + 1, high),
+                    ] {
+                        let line = line + 1 + lines;
+                        let nodes = format!("{head} {skip}count=1,{third}");
+                        let refused = third < low || third >= high;
+                        let number = if refused {
+                            at_line(37, line)
+                        } else {
+                            at_line(12, line + 1)
+                        };
+                        assert_eq!(at_capacities(&capacities, 0, &nodes), number, "{nodes}");
+                    }
+                }
+            }
+        }
+    }
+}
+
+#[test]
+fn decision_88_equal_counts_leave_no_room() {
+    let five = [1; 5];
+    // Lower 3, upper 3, in both orders.
+    let down = format!("count=1,2 {LEAF} count=1,3");
+    let up = format!("count=1,3 count=1,2 {LEAF}");
+    for most in 0..5 {
+        let answer = at_capacities(&five, 0, &format!("{down} count=1,{most}"));
+        assert_eq!(answer, at_line(37, 7), "{most}");
+        let answer = at_capacities(&five, 0, &format!("{up} count=1,{most}"));
+        assert_eq!(answer, at_line(37, 7), "{most}");
+    }
+    // At least all of them, or none.
+    for most in 0..5 {
+        let all = at_capacities(&five, 0, &format!("count=1,4 {LEAF} count=1,{most}"));
+        assert_eq!(all, at_line(37, 6), "{most}");
+        let none = at_capacities(&five, 0, &format!("count=1,0 count=1,{most}"));
+        assert_eq!(none, at_line(37, 4), "{most}");
+    }
+}
+
+#[test]
+fn decision_88_periods_do_not_touch_each_other() {
+    // Under the first tree of count=1,0 period 2 is free of counts, for 37, short and crowd.
+    let leaf = "price=0,0 reserve=0,0";
+    let below = format!("count=2,1 {leaf} count=2,0");
+    assert_eq!(nodes(&format!("count=1,0 {below}")), at_line(37, 7));
+    assert_eq!(
+        nodes(&format!("count=1,0 count=2,0 count=1,0 {leaf}")),
+        at_line(37, 5)
+    );
+    assert_eq!(nodes("count=1,0 short=2"), at_line(33, 4));
+    assert_eq!(
+        nodes(&format!("count=1,0 short=1 {leaf}")),
+        held_tree(5, 1, 2)
+    );
+    assert_eq!(nodes("count=1,0 split=1,2 short=2 crowd=2"), at_line(36, 6));
+    assert_eq!(nodes("count=1,0 split=1,1 short=1 crowd=2"), at_line(36, 6));
+    // A status of another period does not count in a crowd.
+    assert_eq!(nodes("count=1,0 split=1,2 short=1 crowd=1"), at_line(36, 6));
+}
+
+/// After the second tree of a count, and after its first, the counts are those above it again.
+#[test]
+fn decision_88_a_count_stands_only_below_its_line() {
+    let three = |nodes: &str| at_capacities(&[80, 50, 30], 131, nodes);
+    // Under the first tree at most 2: 130. Under the second no upper count: 160.
+    assert_eq!(three("count=1,2 short=1 short=1"), at_line(33, 5));
+    // The second tree of the split has no count.
+    let counted = "count=1,2 short=1 split=2,1 short=1 price=0 reserve=0";
+    assert_eq!(
+        three(&format!("split=1,1 {counted} short=1")),
+        at_line(33, 10)
+    );
+    assert_eq!(
+        three(&format!("split=1,1 {counted} crowd=1")),
+        at_line(36, 10)
+    );
+    assert_eq!(
+        three(&format!("split=1,1 {counted} {counted}")),
+        held_tree(0, 5, 6)
+    );
+    // Upper 1 under upper 2 is 2 again under the other tree, which has lower 2 as well.
+    let nested = "count=1,2 count=1,1 short=1 split=1,1 short=1 short=1";
+    assert_eq!(
+        three(&format!("{nested} price=0 reserve=0")),
+        held_tree(0, 3, 4)
+    );
+}
+
+#[test]
+fn decision_88_the_newer_count_replaces_the_older_and_the_other_stays() {
+    // Needs 81, so that one unit is not enough, and 131 two.
+    let short_at = |needed, nodes: &str| at_capacities(&[80, 50, 30], needed, nodes);
+    // Upper 2, then upper 1.
+    assert_eq!(
+        short_at(81, "count=1,2 count=1,1 short=1 short=1"),
+        at_line(33, 6)
+    );
+    assert_eq!(
+        short_at(131, "count=1,2 count=1,1 short=1 short=1 short=1"),
+        at_line(33, 7)
+    );
+    // Lower 1, then lower 2: one unit not fixed off is too few only for the newer.
+    let crowded = "split=1,1 split=2,1 crowd=1";
+    let older = format!("count=1,0 {LEAF} {crowded}");
+    assert_eq!(short_at(0, &older), at_line(36, 8));
+    let newer = format!("count=1,0 {LEAF} count=1,1 {LEAF} {crowded} {LEAF} {LEAF}");
+    assert_eq!(short_at(0, &newer), held_tree(0, 4, 5));
+    // Lower 2 stays under upper 2, and upper 2 under lower 2.
+    let both = format!("count=1,1 {LEAF} count=1,2 {crowded} short=1 split=2,1 short=1 split=3,1");
+    let both = format!("{both} short=1 crowd=1 {LEAF}");
+    assert_eq!(short_at(131, &both), held_tree(0, 6, 7));
+    let both = format!("count=1,2 count=1,1 {LEAF} {crowded} short=1 split=2,1 short=1 split=3,1");
+    let both = format!("{both} short=1 crowd=1 {LEAF}");
+    assert_eq!(short_at(131, &both), held_tree(0, 6, 7));
+}
+
+#[test]
+fn decision_89_short_sums_the_largest() {
+    // By count: 0, 80, 130, 160.
+    for (most, sum) in [(0, 0), (1, 80), (2, 130)] {
+        let nodes = format!("count=1,{most} short=1 {LEAF}");
+        let at = |needed| at_capacities(&[30, 80, 50], needed, &nodes);
+        assert_eq!(at(sum + 1), held_tree(0, 1, 2), "{most}");
+        assert_eq!(at(sum), at_line(33, 4), "{most}");
+    }
+    // Without a count, and under a lower one, all of them.
+    let lower = format!("count=1,1 {LEAF} short=1");
+    assert_eq!(
+        at_capacities(&[30, 80, 50], 161, &lower),
+        held_tree(0, 1, 2)
+    );
+    assert_eq!(at_capacities(&[30, 80, 50], 160, &lower), at_line(33, 6));
+    assert_eq!(
+        at_capacities(&[30, 80, 50], 161, "short=1"),
+        held_never(0, 1)
+    );
+    assert_eq!(at_capacities(&[30, 80, 50], 160, "short=1"), at_line(33, 3));
+}
+
+#[test]
+fn decision_89_units_fixed_on_have_no_precedence() {
+    let nodes = format!("count=1,2 split=3,1 {LEAF} short=1 {LEAF}");
+    assert_eq!(
+        at_capacities(&[80, 50, 30], 131, &nodes),
+        held_tree(0, 2, 3)
+    );
+    for needed in [130, 111, 110] {
+        let answer = at_capacities(&[80, 50, 30], needed, &nodes);
+        assert_eq!(answer, at_line(33, 7), "{needed}");
+    }
+    // Units fixed off are left out: 80 off leaves 50 and 30, or 50 alone.
+    for (most, sum) in [(2, 80), (1, 50), (0, 0)] {
+        let nodes = format!("count=1,{most} split=1,1 short=1 {LEAF} {LEAF}");
+        let at = |needed| at_capacities(&[80, 50, 30], needed, &nodes);
+        assert_eq!(at(sum + 1), held_tree(0, 2, 3), "{most}");
+        assert_eq!(at(sum), at_line(33, 5), "{most}");
+    }
+}
+
+#[test]
+fn decision_89_equal_capacities_and_more_than_there_are() {
+    for (most, sum) in [(0, 0), (1, 40), (2, 80), (3, 110)] {
+        let nodes = format!("count=1,{most} short=1 {LEAF}");
+        let at = |needed| at_capacities(&[40, 30, 40, 30], needed, &nodes);
+        assert_eq!(at(sum + 1), held_tree(0, 1, 2), "{most}");
+        assert_eq!(at(sum), at_line(33, 4), "{most}");
+    }
+    // K at and above the number of units not fixed off, which are 40 and 30: all are summed.
+    for most in [2, 3] {
+        let nodes = format!("count=1,{most} split=1,1 split=2,1 short=1 {LEAF} {LEAF} {LEAF}");
+        let at = |needed| at_capacities(&[40, 30, 40, 30], needed, &nodes);
+        assert_eq!(at(71), held_tree(0, 3, 4), "{most}");
+        assert_eq!(at(70), at_line(33, 6), "{most}");
+    }
+    // All fixed off: nothing is left.
+    let off = format!("count=1,1 split=1,1 split=2,1 short=1 {LEAF} {LEAF} {LEAF}");
+    assert_eq!(at_capacities(&[40, 30], 1, &off), held_tree(0, 3, 4));
+    assert_eq!(at_capacities(&[40, 30], 0, &off), at_line(33, 6));
+}
+
+/// D and R are both needed, and K = 0 leaves nothing.
+#[test]
+fn decision_89_no_unit_at_all() {
+    let nodes = tree(1, &format!("count=1,0 short=1 {LEAF}"));
+    for (demand, spare, holds) in [(0, 0, false), (0, 1, true), (1, 0, true), (1, 1, true)] {
+        let problem =
+            of_capacities(&[5, 5], spare).replace("demand=0", &format!("demand={demand}"));
+        let answer = if holds {
+            held_tree(0, 1, 2)
+        } else {
+            at_line(33, 4)
+        };
+        assert_eq!(under(&problem, &nodes), answer, "{demand} {spare}");
+    }
+}
+
+/// The most units and the largest capacities.
+#[test]
+fn decision_89_the_largest_sum() {
+    let capacities = [10_000; 32];
+    let nodes = format!("count=1,31 short=1 {LEAF}");
+    assert_eq!(
+        at_capacities(&capacities, 310_001, &nodes),
+        held_tree(0, 1, 2)
+    );
+    assert_eq!(at_capacities(&capacities, 310_000, &nodes), at_line(33, 4));
+}
+
+/// Three units: so many fixed on and so many fixed off, under each upper and each lower count.
+#[test]
+fn decision_90_crowd_is_strict_both_ways() {
+    for on in 0..=3 {
+        for off in 0..=3 - on {
+            for most in 0..3 {
+                for upper in [true, false] {
+                    let mut nodes = format!("count=1,{most} ");
+                    let mut after = String::new();
+                    if !upper {
+                        nodes += &format!("{LEAF} ");
+                    } else {
+                        after = format!("{LEAF} ");
+                    }
+                    for unit in 1..=on {
+                        nodes += &format!("split={unit},1 {LEAF} ");
+                    }
+                    for unit in on + 1..=on + off {
+                        nodes += &format!("split={unit},1 ");
+                        after = format!("{LEAF} {after}");
+                    }
+                    let line = 2 + nodes.split_whitespace().count() + 1;
+                    let answer = at_capacities(&[1; 3], 0, &format!("{nodes}crowd=1 {after}"));
+                    let holds = if upper { on > most } else { 3 - off < most + 1 };
+                    let expected = match holds {
+                        true => held_tree(0, 1 + on + off, 2 + on + off),
+                        false => at_line(36, line),
+                    };
+                    assert_eq!(answer, expected, "{nodes}");
+                }
+            }
+        }
+    }
+}
+
+#[test]
+fn decision_90_each_clause_needs_its_own_count() {
+    let three = |nodes: &str| at_capacities(&[1; 3], 1, nodes);
+    // All fixed on, and only a lower count; all fixed off, and only an upper one.
+    let all_on = format!("split=1,1 {LEAF} split=2,1 {LEAF} split=3,1 {LEAF} crowd=1");
+    assert_eq!(
+        three(&format!("count=1,0 {LEAF} {all_on}")),
+        at_line(36, 15)
+    );
+    assert_eq!(
+        three(&format!("count=1,2 {LEAF} {all_on}")),
+        at_line(36, 15)
+    );
+    let all_off = "split=1,1 split=2,1 split=3,1 crowd=1";
+    assert_eq!(three(&format!("count=1,0 {all_off}")), at_line(36, 7));
+    assert_eq!(three(&format!("count=1,2 {all_off}")), at_line(36, 7));
+    // Without any count, whatever is fixed.
+    assert_eq!(three(&all_on), at_line(36, 12));
+    assert_eq!(three(all_off), at_line(36, 6));
+    assert_eq!(three("crowd=1"), at_line(36, 3));
+    // With both, either clause is enough: lower 1, upper 2.
+    let both = format!("count=1,0 {LEAF} count=1,2");
+    let tail = format!("{LEAF} {LEAF} {LEAF} {LEAF}");
+    assert_eq!(
+        three(&format!("{both} {all_off} {tail}")),
+        held_tree(0, 5, 6)
+    );
+    assert_eq!(
+        three(&format!("{both} {all_on} {LEAF}")),
+        held_tree(0, 5, 6)
+    );
+}
+
+/// A crowd is a leaf without a value, as `short` and `stuck` are.
+#[test]
+fn decision_90_a_tree_of_crowds_is_never() {
+    // One unit: on under at most 0, off under at least 1; the other two are short and stuck.
+    let problem = one_unit(1, "0,0,0,1,4,1,2,-1,1,1,0,0,0,0,0").replace("spare=0", "spare=1");
+    let nodes = "count=1,0 split=1,1 short=1 crowd=1 split=1,1 crowd=1 stuck=1";
+    assert_eq!(under(&problem, &tree(1, nodes)), held_never(3, 4));
+}
+
+#[test]
+fn decision_91_price_leaves_take_no_notice_of_counts() {
+    let leaf = "price=10,14 reserve=0,2";
+    assert_eq!(nodes(leaf), held_tree(1940, 0, 1));
+    for most in 0..2 {
+        for period in 1..=2 {
+            let nodes = nodes(&format!("count={period},{most} {leaf} {leaf}"));
+            assert_eq!(nodes, held_tree(1940, 1, 2), "{period} {most}");
+        }
+    }
+    // Unit 2 on in 2 under at most 0, where crowd and short hold, is worth what it is without.
+    let on = "price=10,14 reserve=0,0";
+    assert_eq!(
+        nodes(&format!("split=2,2 short=2 {on}")),
+        held_tree(1980, 1, 2)
+    );
+    let counted = format!("split=2,2 short=2 count=2,0 {on} {on}");
+    assert_eq!(nodes(&counted), held_tree(1980, 2, 3));
+    let excluded = "split=2,2 short=2 count=2,0 crowd=2";
+    assert_eq!(nodes(&format!("{excluded} {on}")), held_tree(1980, 2, 3));
+}
+
+#[test]
+fn decision_91_stuck_and_35_take_no_notice_of_counts() {
+    // Unit 1 may not go off yet: under at most 0 on in period 1 it has no run, yet is not stuck.
+    let bound_to = PROBLEM.replace("80,2,2,3", "80,4,2,3");
+    let text = tree(1, "count=1,0 stuck=1");
+    assert_eq!(under(&bound_to, &text), at_line(34, 4));
+    let text = tree(1, "split=1,1 stuck=1 price=0,0 reserve=0,0");
+    // On in period 1, 300, and off in 2, 5.
+    assert_eq!(under(&bound_to, &text), held_tree(305, 1, 2));
+    // Off in 1 and on in 2 it is, counts or none.
+    let leaf = "price=0,0 reserve=0,0";
+    let stuck = format!("split=1,1 split=1,2 {leaf} stuck=1 {leaf}");
+    assert_eq!(
+        nodes(&format!("count=2,0 {stuck} {leaf}")),
+        held_tree(5, 3, 4)
+    );
+    assert_eq!(
+        nodes(&format!("count=2,0 {leaf} {stuck}")),
+        held_tree(5, 3, 4)
+    );
+    let priced = format!("split=1,1 split=1,2 {leaf} {leaf}");
+    assert_eq!(nodes(&format!("count=2,0 {priced}")), at_line(35, 9));
+}
+
+#[test]
+fn decision_10_count_lines_are_splits() {
+    let leaf = "price=10,14 reserve=0,0";
+    assert_eq!(
+        nodes(&format!("count=2,1 short=2 {leaf}")),
+        held_tree(1880, 1, 2)
+    );
+    assert_eq!(
+        nodes(&format!("count=2,1 short=2 split=2,2 crowd=2 {leaf}")),
+        held_tree(1980, 2, 3)
+    );
 }

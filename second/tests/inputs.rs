@@ -1,5 +1,6 @@
 //! That the generator brings what it is there for: p0 at its limits, ramps from it just kept and
-//! just broken, and unit lines in which it is wrong.
+//! just broken, and unit lines in which it is wrong; count lines as deep as they may stand and one
+//! deeper, at the ends of what K may be and one beyond.
 
 mod common;
 
@@ -7,8 +8,9 @@ use std::collections::BTreeMap;
 
 use common::*;
 use second::inputs::random::Random;
-use second::inputs::{damage, problems, schedules};
-use second::{fresh, lodge};
+use second::inputs::{damage, problems, schedules, trees};
+use second::problem::Problem;
+use second::{fresh, lodge, Answer, Figures};
 
 /// The values of the one unit line that differs, and its number.
 fn changed_line(before: &str, after: &str) -> (usize, Vec<i64>) {
@@ -104,4 +106,102 @@ fn spoiled_schedules_miss_the_ramp_from_the_initial_output_by_one() {
         }
     }
     assert!(rises > 40 && falls > 20, "{rises} {falls}");
+}
+
+/// The keys of a chain's split lines, from the root on.
+fn chain_keys(tree: &str) -> Vec<&str> {
+    let keys = tree.lines().filter_map(|line| line.split('=').next());
+    keys.filter(|&key| key == "split" || key == "count")
+        .collect()
+}
+
+#[test]
+fn chains_of_counts_alone_and_of_both_go_as_deep_as_they_may() {
+    let mut random = Random::new(33);
+    // For depths 62, 63 and 64: counts and splits met there.
+    let mut met = [[0; 2]; 3];
+    for round in 0..40 {
+        let periods = random.between(7, 12) as usize;
+        let problem = problems::planted(&mut random, periods, 10).problem;
+        let count_percent = [100, 50][round % 2];
+        for splits in [63, 64, 65] {
+            let tree = trees::chain_text(&mut random, &problem, 1, splits, count_percent);
+            let keys = chain_keys(&tree);
+            assert_eq!(keys.len(), splits);
+            let counts = keys.iter().filter(|&&key| key == "count").count();
+            assert!(count_percent < 100 || counts == splits, "{tree}");
+            for depth in 62..splits {
+                met[depth - 62][usize::from(keys[depth] == "count")] += 1;
+            }
+            match under(&problems::text(&problem), &tree) {
+                Answer::Held(Figures::Tree { splits: read, .. }) => assert_eq!(read, splits),
+                Answer::Refused(refusal) => assert_eq!((refusal.number, splits), (32, 65)),
+                answer => panic!("{answer:?}"),
+            }
+        }
+    }
+    assert!(met.iter().flatten().all(|&times| times > 5), "{met:?}");
+}
+
+/// Where the K of the last count line lies, among those that the problem has units for.
+fn k_place(problem: &Problem, tree: &str) -> &'static str {
+    let line = tree.lines().rfind(|line| line.starts_with("count="));
+    let most: usize = line.unwrap().split(',').nth(1).unwrap().parse().unwrap();
+    let units = problem.units.len();
+    match most {
+        0 => "0",
+        _ if most + 1 == units => "I - 1",
+        _ if most == units => "I",
+        _ if most > units => "above I",
+        _ => "between",
+    }
+}
+
+#[test]
+fn counts_have_a_k_at_the_ends_of_its_range_and_beyond() {
+    let mut random = Random::new(34);
+    let mut seen: BTreeMap<&str, usize> = BTreeMap::new();
+    for _ in 0..3_000 {
+        let problem = problems::planted(&mut random, 3, 4).problem;
+        let tree = trees::text(&mut random, &problem, 1);
+        if tree.contains("count=") {
+            *seen.entry(k_place(&problem, &tree)).or_default() += 1;
+        }
+    }
+    assert_eq!(seen.len(), 5, "{seen:?}");
+    assert!(seen.values().all(|&count| count > 5), "{seen:?}");
+}
+
+#[test]
+fn count_and_crowd_lines_are_damaged_as_others_are() {
+    let mut random = Random::new(35);
+    let problem = PROBLEM.to_string();
+    let tree = tree(
+        1,
+        "count=2,1 short=2 split=2,2 crowd=2 price=10,14 reserve=0,0",
+    );
+    assert_eq!(under(&problem, &tree), held_tree(1980, 2, 3));
+    let mut seen: BTreeMap<(u32, usize), usize> = BTreeMap::new();
+    for _ in 0..3_000 {
+        let damaged = damage::damaged(&mut random, &tree);
+        let mut docket = holding(&problem);
+        if let Answer::Refused(refusal) = lodge(&mut docket, &damaged) {
+            *seen.entry((refusal.number, refusal.line)).or_default() += 1;
+        }
+    }
+    // The count line is line 3 and the crowd line 6.
+    for place in [
+        (12, 3),
+        (13, 3),
+        (14, 3),
+        (12, 6),
+        (13, 6),
+        (14, 6),
+        (36, 6),
+    ] {
+        assert!(
+            seen.get(&place).is_some_and(|&times| times > 5),
+            "{place:?}"
+        );
+    }
 }

@@ -239,6 +239,7 @@ fn meets_needs(problem: &Problem, rows: &[Vec<i64>]) -> bool {
 fn no_schedule_beats_a_bound() {
     let mut random = Random::new(22);
     let (mut numbers, mut nevers, mut reached) = (0, 0, 0);
+    let (mut counted_numbers, mut counted_nevers) = (0, 0);
     for _ in 0..250 {
         let (periods, units) = random.pick(&[(1, 1), (2, 2), (3, 2), (2, 3), (4, 1)]);
         let mut problem = planted(&mut random, periods, units).problem;
@@ -254,6 +255,7 @@ fn no_schedule_beats_a_bound() {
         lodge(&mut docket, text(&problem).as_bytes());
         for _ in 0..40 {
             let tree = trees::text(&mut random, &problem, 1);
+            let counted = usize::from(tree.contains("count="));
             let (Answer::Held(figures) | Answer::Passed(figures)) =
                 lodge(&mut docket, tree.as_bytes())
             else {
@@ -268,6 +270,7 @@ fn no_schedule_beats_a_bound() {
                     least,
                 ) => {
                     nevers += 1;
+                    counted_nevers += counted;
                     assert_eq!(least, None, "{tree}");
                 }
                 (
@@ -278,6 +281,7 @@ fn no_schedule_beats_a_bound() {
                     Some(least),
                 ) => {
                     numbers += 1;
+                    counted_numbers += counted;
                     reached += usize::from(bound == least);
                     assert!(bound <= least, "{bound} above {least}\n{tree}");
                 }
@@ -288,5 +292,9 @@ fn no_schedule_beats_a_bound() {
     assert!(
         numbers > 2_000 && nevers > 100 && reached > 20,
         "{numbers} {nevers} {reached}"
+    );
+    assert!(
+        counted_numbers > 500 && counted_nevers > 100,
+        "{counted_numbers} {counted_nevers}"
     );
 }

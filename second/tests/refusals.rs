@@ -724,6 +724,47 @@ fn a_price_leaf_with_a_stuck_unit_is_35_at_its_reserve_line() {
 }
 
 #[test]
+fn a_crowd_that_does_not_hold_is_36() {
+    assert_eq!(nodes("crowd=2"), at_line(36, 3));
+    // One unit may be on in 2 and one is fixed on there; both fixed on are too many.
+    assert_eq!(nodes("count=2,1 split=1,2 short=2 crowd=2"), at_line(36, 6));
+    let leaf = "price=0,0 reserve=0,0";
+    assert_eq!(
+        nodes(&format!(
+            "count=2,1 split=1,2 short=2 split=2,2 short=2 crowd=2 {leaf}"
+        )),
+        held_tree(5, 3, 4)
+    );
+    // Both must be on in 2 and one is left; with one fixed on there are still two. Unit 1 on in 2
+    // has to be on in 1 too: 600.
+    assert_eq!(
+        nodes(&format!("count=2,1 short=2 split=1,2 crowd=2 {leaf}")),
+        held_tree(600, 2, 3)
+    );
+    assert_eq!(
+        nodes("count=2,1 short=2 split=1,2 crowd=2 crowd=2"),
+        at_line(36, 7)
+    );
+}
+
+#[test]
+fn a_count_outside_those_that_stand_is_37() {
+    assert_eq!(nodes("count=2,1 count=2,1"), at_line(37, 4));
+    assert_eq!(nodes("count=2,0 count=2,0"), at_line(37, 4));
+    assert_eq!(nodes("count=2,0 count=2,1"), at_line(37, 4));
+    assert_eq!(nodes("count=2,0 short=2 count=2,0"), at_line(37, 5));
+    let leaf = "price=0,0 reserve=0,0";
+    assert_eq!(
+        nodes(&format!("count=2,1 count=2,0 short=2 short=2 {leaf}")),
+        held_tree(5, 2, 3)
+    );
+    assert_eq!(
+        nodes(&format!("count=2,0 short=2 count=2,1 short=2 {leaf}")),
+        held_tree(5, 2, 3)
+    );
+}
+
+#[test]
 fn a_second_problem_is_41() {
     assert_eq!(under(PROBLEM, PROBLEM), refused(41, 0, 0, 0));
     assert_eq!(under(PROBLEM, "kind=problem\n"), refused(41, 0, 0, 0));

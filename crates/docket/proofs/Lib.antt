@@ -23,6 +23,7 @@ pub mod AnyDocket
 pub mod NeverHeld
 pub mod Contracts
 pub mod Promises
+pub mod CountLines
 pub mod Midnight
 pub mod Requested
 pub mod Interleaved

@@ -18,7 +18,6 @@ use Rattle.model.specs.Breach.{Breach}
 use Rattle.model.specs.Broken.{Of, OffRamp, Broken, limits, demand, spare, updown, ramps, midnight, Lower}
 use Rattle.model.specs.Unread.{AlikeButMidnight}
 use Rattle.model.proofs.Lowest.{breach-is}
-use Rattle.refusal.specs.declared.Refusal.{Refusal}
 use Rattle.refusal.specs.Refusals.{line-refusal}
 use Rattle.text.specs.Lines.{Line, ended, line-at, kind-of, kind-schedule, kind-tree}
 use Rattle.text.specs.LineRefused.{Renders}
@@ -31,14 +30,14 @@ use Rattle.schedule.specs.Acceptance.{rule-refusal, BreaksFirst, by-line, by-ru
 use Rattle.schedule.proofs.Wholes.{render-is-schedule}
 use Rattle.tree.proofs.Unread.{judged-unread}
 use Rattle.answer.specs.StatedAnswers.{AnswerValues, refused as answered-refused, Carries}
-use Rattle.docket.specs.Verdicts.{Verdict, refused, problem, schedule, tree}
+use Rattle.docket.specs.Verdicts.{Verdict, refused}
 use Rattle.docket.specs.Texts.{Short, Begins, refused-line, Is, Are, too-long, no-kind, second-problem, schedule-early, tree-early, problem-refused, a-problem, schedule-refused, tree-refused, a-schedule, a-tree}
 use Rattle.docket.specs.declared.Docket.{Docket}
 use Rattle.docket.specs.declared.admission.Admission.the-variants as admission
 use Rattle.docket.specs.Lodging.{refuse-whole, admit, by-tree, verdict-by, text-judged}
 use Rattle.docket.specs.Promised.{answer, given, ScheduleText, Long, JudgesBy}
 use Rattle.docket.specs.Requested.{Midnight, in-period-1, UnitLineDue}
-use Rattle.docket.proofs.OneVerdict.{Fine, verdict-of, is-verdict, verdict-is}
+use Rattle.docket.proofs.OneVerdict.{part, Fine, verdict-of, is-verdict, verdict-is}
 use Rattle.docket.proofs.AnyDocket.{fine-by}
 use Rattle.docket.proofs.EachText as each
 
@@ -65,13 +64,6 @@ of-the-unit P s u b (updown v t l h) e = absurd (omega (arith, ap (λ (c : Breac
 of-the-unit P s u b (ramps v t l h) e = absurd (omega (arith, ap (λ (c : Breach). c .period) e))
 of-the-unit P s u b (midnight v l h) e =
     subst (λ (n : ℕ). Of n (λ g r. OffRamp g (g .on) (g .p0) (r at 0)) (P .units) s) (suc-inj (ap (λ (c : Breach). c .unit) e)) h
-
--- a number of a refusal, 0 where nothing is refused
-abbrev part : (Refusal → ℕ) → Verdict → ℕ
-part f (refused r) = f r
-part f (problem P) = 0
-part f (schedule c) = 0
-part f (tree F) = 0
 
 -- a schedule's text that is refused so breaks it first
 breaks-first : (P : Instance) (text : List ℕ) (u : ℕ) (v : Verdict) → Is (some P) text v → v ≡ refused (rule-refusal (in-period-1 u))

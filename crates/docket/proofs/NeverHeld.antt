@@ -5,7 +5,7 @@ use mathlib.Core.List.{List, [], _∷_}
 use mathlib.Core.Option.{none, some}
 use Rattle.model.specs.Instance.{Instance}
 use Rattle.model.specs.Ranges.{midnight-ordered, ordered}
-use Rattle.model.specs.Leaf.{units-available, available, is-stuck}
+use Rattle.model.specs.Leaf.{usable, available, is-stuck}
 use Rattle.model.specs.declared.figures.Bound.the-variants.{Never as never}
 use Rattle.model.specs.Figures.{tree-gives}
 use Rattle.model.specs.Tree.{leaf-bound}
@@ -46,7 +46,7 @@ unfolding text-judged admit kind-of problem-course.problem-judged judged-from pr
 gives = refl
 
 gives-never : verdict-of (some little) short-tree ≡ verdict.tree (bounded 9 (tree-gives never 0 1))
-unfolding text-judged admit kind-of tree-course.tree-judged judged-from tree-course.judge tree-course.tests tree-course.next-due tree-course.after-node line-kind-of malformed wrong-count outside-range kind-tests leaf-bound available units-available is-stuck refusal-of carries-line carries-unit carries-period specimens.tree-text
+unfolding text-judged admit kind-of tree-course.tree-judged judged-from tree-course.judge tree-course.tests tree-course.next-due tree-course.after-node line-kind-of malformed wrong-count outside-range kind-tests leaf-bound available usable is-stuck refusal-of carries-line carries-unit carries-period specimens.tree-text
 gives-never = refl
 
 pub never-held : after (too-little ∷ short-tree ∷ []) .held .bound ≡ held-bound.Never (record { writer = 9 })

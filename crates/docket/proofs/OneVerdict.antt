@@ -34,9 +34,16 @@ use Rattle.tree.specs.Rendering as trees-rendered
 use Rattle.tree.proofs.Written.{render-cut}
 use Rattle.tree.proofs.Acceptance as trees-answered
 use Rattle.tree.proofs.ReadAnswers as trees-read
-use Rattle.docket.specs.Verdicts.{Verdict, refused, schedule, tree}
+use Rattle.docket.specs.Verdicts.{Verdict, refused, problem, schedule, tree}
 use Rattle.docket.specs.Texts.{Short, Begins, refused-line, Is, Accepted, too-long, no-kind, second-problem, schedule-early, tree-early, problem-refused, a-problem, schedule-refused, a-schedule, tree-refused, a-tree}
 use Rattle.docket.specs.Lodging.{admit-kind, admit, by-problem, by-schedule, by-tree, verdict-by, text-judged}
+
+-- a number of a refusal, 0 where nothing is refused
+abbrev pub part : (Refusal → ℕ) → Verdict → ℕ
+part f (refused r) = f r
+part f (problem P) = 0
+part f (schedule c) = 0
+part f (tree F) = 0
 
 -- a problem that an accepted text gave is well-formed
 abbrev pub Fine : Option Instance → Type 0

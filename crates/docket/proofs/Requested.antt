@@ -2,11 +2,11 @@
 -- the texts of a list are is `Is` and `Are` (specs/Texts.antt). What a request changes in problems, rules and refusals is in the definitions of which
 -- Promises.antt speaks.
 use mathlib.Core.Path.{_≡_, refl}
-use mathlib.Core.Bool.{Bool, false}
+use mathlib.Core.Bool.{Bool, true, false}
 use mathlib.Core.List.{List, [], _∷_, _++_, map}
 use mathlib.Core.Logic.{_↔_}
 use mathlib.Core.Option.{none, some}
-use Prim.Native.Nat.{ℕ, suc, _+_, _<_}
+use Prim.Native.Nat.{ℕ, suc, _+_, _-_, _≤_, _<_}
 use native.Mathlib.Omega.{arith}
 use lib.Dec.{lit<, lit≤}
 use lib.IntN.{pos}
@@ -20,32 +20,147 @@ use Rattle.model.specs.Rules.{FirstRamp, MeetsPrinted, Meets}
 use Rattle.model.specs.Cost.{cost}
 use Rattle.model.specs.Breach.{Breach}
 use Rattle.model.specs.Broken.{Of, OffRamp, Broken, Lower}
+use Rattle.model.specs.Above.{Above, root, count, side}
+use Rattle.model.specs.Largest.{total, LargestSum}
+use Rattle.model.specs.Leaf.{usable, available, Crowded, those}
+use Rattle.model.specs.Tree.{short, crowd, stuck, price, Tree, leaf, fork, Narrows, GoodFork, GoodLeaf, LeafHolds, leaf-bound, Limits, tree-figures}
+use Rattle.model.specs.Agreement.{running, Agrees, LeafOf, OneLeaf}
+use Rattle.model.specs.Possible.{Possible, possible, NodeOf, above-node, counts-above}
 use Rattle.model.specs.Unread.{AlikeButMidnight}
+use Rattle.model.proofs.Sides as sides
+use Rattle.model.proofs.Leaves as leaves
+use Rattle.model.proofs.Capacities as capacities
+use Rattle.model.proofs.Ignored as ignored
+use Rattle.model.proofs.Narrowing as narrowing
 use Rattle.model.proofs.Unread as unread
-use Rattle.text.specs.Lines.{Line, ended, kind-tree, end-problem}
+use Rattle.text.specs.Lines.{Line, ended, later, lines-of, kind-tree, end-problem}
+use Rattle.text.specs.Rendering.{plain-line}
 use Rattle.text.specs.LineRefused.{Renders}
 use Rattle.problem.specs.Units.{unit-line, unit-form}
 use Rattle.problem.specs.Rendering.{lines-after}
 use Rattle.text.specs.Strings.{bytes}
 use Rattle.problem.specs.Refusals.{unit}
 use Rattle.problem.proofs.Examples.{example, example-formed}
+use Rattle.tree.specs.Rendering.{short-key, crowd-key, fork-line, node-lines, is-split-line}
+use Rattle.tree.specs.Places.{first-line, in-first, HoldsAmong}
+use Rattle.tree.specs.Refusals.{count-line, node-form, NodeBreaks, BrokenAt}
+use Rattle.tree.specs.WellFormed as tree-lines
+use Rattle.tree.proofs.SplitCounts.{split-lines}
 use Rattle.answer.specs.StatedAnswers.{AnswerValues, refused, Carries}
 use Rattle.docket.specs.declared.Docket.{Docket}
 use Rattle.docket.specs.declared.held.BoundBy.{BoundBy}
 use Rattle.docket.specs.declared.held.HeldBound.the-variants as bound
-use Rattle.docket.specs.Verdicts.{Verdict}
-use Rattle.docket.specs.Texts.{Short, Begins, Is, Are, no-more}
+use Rattle.docket.specs.Verdicts.{Verdict, problem}
+use Rattle.docket.specs.Texts.{Short, Begins, Is, Are, no-more, then}
 use Rattle.docket.specs.Lodging.{lodge-of}
 use Rattle.docket.specs.Promised.{after, answer, given, ScheduleText, Long, JudgesBy}
-use Rattle.docket.specs.Specimens.{problem-of, specimens, Answered}
-use Rattle.docket.specs.Requested.{Midnight, in-period-1, UnitLineDue}
+use Rattle.docket.specs.Specimens.{problem-of, listed-problem, tree-text, count-twice, specimens, Answered}
+use Rattle.docket.specs.Requested.{NodeLineDue, Midnight, in-period-1, UnitLineDue}
+use Rattle.docket.proofs.SpecimenTexts.{is-listed-problem}
 use Rattle.docket.proofs.SpecimenList.{specimens-answered}
+use Rattle.docket.proofs.CountLines as count-lines
 use Rattle.docket.proofs.Midnight as midnight
 use Rattle.docket.proofs.Promises as promises
+
+-- ---- [1] Splitting on how many units are on
+
+-- The tree of a text, what stands above its nodes and which schedules agree with that are definitions of crates/model/specs (Above, Agreement, Tree)
+
+-- Where a count line may stand, under its first tree are exactly the schedules of those above it with at most K units on in its period, under its second those with
+-- K + 1 or more. How many are on is (23) of the source, and to agree with the counts above a node is to keep (27) and (28) (`running-is`, `agrees-is`,
+-- crates/source/proofs/Counts.antt)
+pub count-splits : (P : Instance) (A : Above) (t K : ℕ) → GoodFork P A (count t K) → (s : Schedule)
+    → (Agrees (side (count t K) false A) s ↔ (Agrees A s × (running s t ≤ K))) × (Agrees (side (count t K) true A) s ↔ (Agrees A s × (K < running s t)))
+count-splits = sides.count-sides
+
+-- So, statuses and counts together, every schedule agrees with exactly one leaf of every tree within the limits
+pub one-leaf : (P : Instance) (t : Tree) → Limits P root 0 t → (s : Schedule) → OneLeaf root t s
+one-leaf = leaves.one-leaf
+
+-- Where an upper count K stands `short` sums the K largest pU of the units not fixed off: the largest sum that K of them have, or all if they are fewer. Where none
+-- stands it sums them all, as it did
+pub short-sums : (P : Instance) (A : Above) (t : ℕ)
+    → ((K : ℕ) → A .most t ≡ some K → LargestSum K (usable (P .units) (A .marks) t) (available P A t))
+    × (A .most t ≡ none → available P A t ≡ total (usable (P .units) (A .marks) t))
+short-sums P A t = (capacities.available-counted P A t, capacities.available-free P A t)
+
+-- Where a `short` or a `crowd` leaf holds, no schedule that meets the rules agrees with what stands above it
+pub leaves-exclude : (P : Instance) (s : Schedule) → MeetsPrinted P s → (A : Above) → Agrees A s → (t : ℕ) → (LeafHolds P A (short t) → ⊥) × (LeafHolds P A (crowd t) → ⊥)
+unfolding LeafHolds
+leaves-exclude P s M A a t = (λ h. capacities.short-excludes P s M A a t (h .0) (h .1), λ h. capacities.crowd-excludes P s M A a t (h .1))
+
+-- Price leaves do not read counts, nor do `stuck` and 35: under the same statuses they are the same whatever counts stand. That a bound is a lower bound
+-- is `bounds-below` below and `none-exists` of Promises.antt, for every tree
+pub counts-unread : (P : Instance) (A B : Above) → A .marks ≡ B .marks
+    → ((q s : List ℕ) → (leaf-bound P A (price q s) ≡ leaf-bound P B (price q s)) × (LeafHolds P A (price q s) ≡ LeafHolds P B (price q s)))
+    × ((U : ℕ) → LeafHolds P A (stuck U) ≡ LeafHolds P B (stuck U))
+counts-unread P A B e = (λ q s. (ignored.prices-ignore P A B e q s, ignored.prices-hold-alike P A B e q s), ignored.stuck-holds-alike P A B e)
+
+-- The splits of the answer are the lines of the tree that begin with split= or count=
+pub count-is-split : (P : Instance) (t : Tree) → tree-figures P t .splits ≡ length (those is-split-line (node-lines t))
+count-is-split P t = split-lines t
+
+-- 37 is among the numbers of a well-formed tree, as 31 and 32 are: where it breaks a line at its place the text is none. 36 is not, as no leaf's number is: the well-formed
+-- texts are those of the trees within the limits, whether their leaves hold or not (`well-formed-tree` of Promises.antt)
+pub thirty-seven-unformed : (P : Instance) (text : List ℕ) (m : ℕ) → BrokenAt P 37 m (later (lines-of text)) → tree-lines.WellFormed P text → ⊥
+thirty-seven-unformed P text m b w = w .unbroken 37 m refl b
+
+module _ (P : Instance) (W : WellFormed P) where
+  module _ (t : Tree) (limits : Limits P root 0 t) where
+    -- Above every node the numbers of units on that are possible in a period, between the counts that stand, are `possible` in a row, and one at least
+    pub counts-possible : (n : NodeOf t) (v : ℕ) → (1 ≤ possible P (above-node root t n) v)
+        × ((k : ℕ) → Possible P (above-node root t n) v k ↔ ((above-node root t n .least v ≤ k) × (k < above-node root t n .least v + possible P (above-node root t n) v)))
+    counts-possible n v = (narrowing.node-possible P (W .units-in .0) t limits n v, narrowing.node-numbers P (W .units-in .0) t limits n v)
+
+    -- so at most I counts of a period stand above a leaf,
+    pub counts-within : (i : LeafOf t) (v : ℕ) → counts-above t i v ≤ length (P .units)
+    counts-within = narrowing.counts-within P (W .units-in .0) t limits
+
+  -- since a count leaves fewer of its period on either side, and of no other fewer or more
+  pub counts-narrow : (A : Above) (t K : ℕ) → GoodFork P A (count t K) → (b : Bool)
+      → (possible P (side (count t K) b A) t < possible P A t) × ((v : ℕ) → (t ≡ v → ⊥) → possible P (side (count t K) b A) v ≡ possible P A v)
+  counts-narrow A t K g b = (narrowing.counts-narrow P (W .units-in .0) A t K g b, narrowing.others-keep P A t K b)
 
 -- For every list of texts, lodged in turn in a fresh docket: vs is what they are, `given vs` the problem that they gave, `answer texts text` the answer to
 -- one text more
 module _ (texts : List (List ℕ)) (vs : List Verdict) (are : Are none texts vs) where
+  -- ---- [1] again: the numbers, at the line which is their place. Where a node is due at depth d with A above it,
+
+  module _ (P : Instance) (known : given vs ≡ some P) (text : List ℕ) (before : List Line) (A : Above) (d : ℕ) where
+    -- the numbers that refuse the line there are those of `NodeBreaks` (tree/specs/Refusals.antt), and no others: for a count line 12, 14, 13, 32, 37, for a crowd line
+    -- 12, 14, 13, 36
+    pub node-refused : (x : Line) → NodeLineDue P text before x A d → (n : ℕ) → (answer texts text ≡ refused n (2 + length before) 0 0) ↔ NodeBreaks P A d x n
+    node-refused = count-lines.node-refused texts vs are P known text before A d
+
+    -- So a count line with another count of values than two is 14
+    pub count-two-values : (x : Line) (neg : Bool) (ns : List ℕ) → NodeLineDue P text before x A d → Renders (node-form P count-line) x neg ns → (length ns ≡ 2 → ⊥)
+        → answer texts text ≡ refused 14 (2 + length before) 0 0
+    count-two-values = count-lines.count-gets-14 texts vs are P known text before A d
+
+    -- of two, one with a K of I or more is 13
+    pub count-below-units : (x : Line) (neg : Bool) (ns : List ℕ) → NodeLineDue P text before x A d → Renders (node-form P count-line) x neg ns → length ns ≡ 2
+        → length (P .units) ≤ ns at 1 → answer texts text ≡ refused 13 (2 + length before) 0 0
+    count-below-units = count-lines.count-gets-13 texts vs are P known text before A d
+
+    module _ (t K : ℕ) (u : NodeLineDue P text before (ended (fork-line (count t K))) A d) (h : t < P .periods) (k : K ≤ length (P .units) - 1) where
+      -- one in range is 32 exactly below depth 63, whatever K is
+      pub thirty-two-exactly : (answer texts text ≡ refused 32 (2 + length before) 0 0) ↔ (63 < d)
+      thirty-two-exactly = count-lines.count-gets-32 texts vs are P known text before A d t K u h k
+
+      -- and else 37 exactly where K is below the lower count that stands for its period, or not below the upper
+      pub thirty-seven-exactly : d ≤ 63 → (answer texts text ≡ refused 37 (2 + length before) 0 0) ↔ (Narrows A t K → ⊥)
+      thirty-seven-exactly = count-lines.count-gets-37 texts vs are P known text before A d t K u h k
+
+    -- A short line in range is 33 exactly where what `short` sums reaches demand and spare
+    pub thirty-three-exactly : (t : ℕ) → NodeLineDue P text before (ended (plain-line short-key (suc t ∷ []))) A d → t < P .periods
+        → (answer texts text ≡ refused 33 (2 + length before) 0 0) ↔ (available P A t < P .demand at t + P .spare at t → ⊥)
+    thirty-three-exactly = count-lines.short-gets-33 texts vs are P known text before A d
+
+    -- A crowd line in range is 36 exactly where neither more units are fixed on than the upper count, nor fewer not fixed off than the lower
+    pub thirty-six-exactly : (t : ℕ) → NodeLineDue P text before (ended (plain-line crowd-key (suc t ∷ []))) A d → t < P .periods
+        → (answer texts text ≡ refused 36 (2 + length before) 0 0) ↔ (Crowded P A t → ⊥)
+    thirty-six-exactly = count-lines.crowd-gets-36 texts vs are P known text before A d
+
   -- ---- [3] Yesterday's last output
 
   -- Where a unit line is due, one with another count of values than fifteen, so one of fourteen, is 14 at its line
@@ -101,7 +216,7 @@ pub p0-unread : (P P′ : Instance) → AlikeButMidnight P P′
     × ((s : Schedule) → (cost P s ≡ cost P′ s) × (MeetsPrinted P s ↔ MeetsPrinted P′ s))
 p0-unread P P′ a = (midnight.tree-unread P P′ a, λ s. (unread.cost-unread P P′ a s, unread.printed-unread P P′ a s))
 
--- ---- Witnesses: the specimens, with 60 and 0 at midnight for document 01's units and 0 for the others, have document 01's answers; and those of p0 theirs
+-- ---- Witnesses: the specimens, with 60 and 0 at midnight for document 01's units and 0 for the others, have document 01's answers; and those of p0 and of counts theirs
 
 pub specimens-stand : All (Answered lodge-of) specimens
 specimens-stand = specimens-answered
@@ -136,3 +251,35 @@ old-renders = record { some = lit< tt; sign = λ e. absurd (let z : _≡_ {A = �
 
 pub old-refused : answer [] old-problem ≡ refused 14 6 0 0
 old-refused = fifteen-numbers [] [] no-more refl old-problem lines-before (ended old-line) false _ old-due old-renders (λ e. omega (arith, e))
+
+-- ---- A witness: the second count line of a text stands where a node is due, in the first tree of the same count. It is 37
+
+lines-counted : List Line
+lines-counted = map ended (bytes "writer=3" ∷ bytes "count=2,1" ∷ [])
+
+twice-due : NodeLineDue example count-twice lines-counted (ended (fork-line (count 1 1))) (side (count 1 1) false root) 1
+unfolding lines-counted tree-text node-lines digits digits-by Limits GoodLeaf HoldsAmong
+twice-due = record {
+  short = lit≤ tt;
+  begins = refl;
+  rest = map ended (bytes "short=2" ∷ bytes "short=2" ∷ bytes "short=2" ∷ bytes "end=tree" ∷ []);
+  lines = refl;
+  some-tree = record { writer = 3; tree = fork (count 1 1) (leaf (short 1)) (leaf (short 1)) };
+  beginning = record {
+    more = map ended (bytes "short=2" ∷ bytes "short=2" ∷ bytes "end=tree" ∷ []);
+    whole = refl;
+    within = (
+      ((lit≤ tt, lit≤ tt), ((lit< tt, lit≤ tt, (lit≤ tt, tt)), lit≤ tt, lit< tt, lit< tt)),
+      ((λ h. absurd (omega (arith, h))), (λ h. absurd (omega (arith, h)))),
+    );
+  };
+  nodes-before = 1;
+  after-writer = refl;
+  place = in-first first-line;
+}
+
+pub twice-refused : answer (listed-problem ∷ []) count-twice ≡ refused 37 4 0 0
+unfolding lines-counted
+twice-refused =
+    thirty-seven-exactly (listed-problem ∷ []) (problem example ∷ []) (then is-listed-problem no-more) example refl count-twice lines-counted (side (count 1 1) false root) 1 1 1 twice-due
+    (lit< tt) (lit≤ tt) (lit≤ tt) .1 (λ n. omega (arith, n .1))

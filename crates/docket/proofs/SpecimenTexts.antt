@@ -14,7 +14,9 @@ use Rattle.model.specs.Ranges.{midnight-ordered, ordered}
 use Rattle.model.specs.Rules.{output, capacity}
 use Rattle.model.specs.Cost.{cost, row-cost}
 use Rattle.model.specs.Breach.{first-breach}
-use Rattle.model.specs.Tree.{short, leaf}
+use Rattle.model.specs.Above.{count}
+use Rattle.model.specs.Tree.{short, crowd, leaf, fork}
+use Rattle.model.specs.CountExamples.{by-count, by-both}
 use Rattle.refusal.specs.Refusals.{refusal-of, carries-line, carries-unit, carries-period}
 use Rattle.text.specs.Lines.{missing, ended, kind-of, kind-problem, kind-schedule, kind-tree}
 use Rattle.text.specs.Forms.{malformed, wrong-count, outside-range}
@@ -30,9 +32,9 @@ use Rattle.tree.specs.Rendering as trees
 use Rattle.docket.specs.Verdicts.{Verdict, refused, problem, schedule, tree}
 use Rattle.docket.specs.Texts.{refused-line, Is, no-kind, tree-early}
 use Rattle.docket.specs.Lodging.{admit, text-judged}
-use Rattle.docket.specs.Specimens.{problem-of, listed-problem, schedule-text, listed-schedule, tree-text, listed-tree, lone-leaf, lone-short, start-problem, off-two, off-three, down-problem}
+use Rattle.docket.specs.Specimens.{problem-of, listed-problem, schedule-text, listed-schedule, tree-text, listed-tree, lone-leaf, lone-short, counted-tree, crowded-tree, lone-crowd, count-twice, start-problem, off-two, off-three, down-problem}
 use Rattle.docket.proofs.OneVerdict.{verdict-of}
-use Rattle.docket.proofs.Specimens.{rows, one-split, lone-price, figures, is-problem, is-cheap, is-tree, is-lone-price, is-not-short}
+use Rattle.docket.proofs.Specimens.{rows, one-split, lone-price, figures, is-problem, is-cheap, is-tree, is-lone-price, is-not-short, is-counted, is-crowded, is-not-crowd, is-no-narrower}
 
 -- ---- the listing's texts are those of its problem, schedule and tree
 
@@ -63,6 +65,23 @@ is-lone-leaf = written (leaves-rendered .0) is-lone-price
 
 pub is-lone-short : Is (some example) lone-short (refused-line 33 3)
 is-lone-short = written (leaves-rendered .1) is-not-short
+
+counts-rendered : (counted-tree ≡ trees.render 3 by-count) × (crowded-tree ≡ trees.render 3 by-both) × (lone-crowd ≡ trees.render 3 (leaf (crowd 1)))
+    × (count-twice ≡ trees.render 3 (fork (count 1 1) (fork (count 1 1) (leaf (short 1)) (leaf (short 1))) (leaf (short 1))))
+unfolding tree-text trees.render trees.node-lines digits digits-by
+counts-rendered = (refl, refl, refl, refl)
+
+pub is-counted-tree : Is (some example) counted-tree (tree (figures 3 1880 1 2))
+is-counted-tree = written (counts-rendered .0) is-counted
+
+pub is-crowded-tree : Is (some example) crowded-tree (tree (figures 3 1980 2 3))
+is-crowded-tree = written (counts-rendered .1) is-crowded
+
+pub is-lone-crowd : Is (some example) lone-crowd (refused-line 36 3)
+is-lone-crowd = written (counts-rendered .2) is-not-crowd
+
+pub is-count-twice : Is (some example) count-twice (refused-line 37 4)
+is-count-twice = written (counts-rendered .3) is-no-narrower
 
 -- ---- in a fresh docket
 

@@ -10,11 +10,13 @@ use Rattle.model.specs.Instance.{Instance, Schedule}
 use Rattle.model.specs.Rules.{output, capacity}
 use Rattle.model.specs.Cost.{cost, row-cost}
 use Rattle.model.specs.Breach.{first-breach}
-use Rattle.model.specs.Leaf.{units-available, available, is-stuck}
+use Rattle.model.specs.Above.{count}
+use Rattle.model.specs.Leaf.{usable, available, fixed-on, is-stuck}
 use Rattle.model.specs.declared.figures.Bound.{Bound}
 use Rattle.model.specs.declared.figures.Bound.the-variants.{Number as number}
 use Rattle.model.specs.Figures.{tree-gives}
-use Rattle.model.specs.Tree.{short, stuck, Tree, leaf, GoodLeaf, LeafHolds, Limits, Holds, splits, leaves, tree-figures}
+use Rattle.model.specs.Tree.{short, crowd, stuck, Tree, leaf, fork, GoodLeaf, LeafHolds, Limits, Holds, splits, leaves, tree-figures}
+use Rattle.model.specs.CountExamples.{by-count, by-both, count-bounds, count-limits, count-holds}
 use Rattle.model.proofs.BoundExamples.{example-tree, lone-leaf, example-limits, example-holds, example-bound, lone-bound}
 use Rattle.refusal.specs.Refusals.{refusal-of, carries-line, carries-unit, carries-period}
 use Rattle.text.specs.Lines.{kind-of, kind-problem}
@@ -116,7 +118,7 @@ is-lone-price =
 
 -- a lone short=2: 33, line 3; a lone stuck=1: 34, line 3
 leaves-judged : (verdict-of (some example) (trees.render 3 (leaf (short 1))) ≡ refused-line 33 3) × (verdict-of (some example) (trees.render 3 (leaf (stuck 0))) ≡ refused-line 34 3)
-unfolding text-judged admit kind-of tree-course.tree-judged judged-from tree-course.judge tree-course.tests tree-course.next-due tree-course.after-node line-kind-of malformed wrong-count outside-range kind-tests available units-available is-stuck refusal-of carries-line carries-unit carries-period trees.render trees.node-lines digits digits-by
+unfolding text-judged admit kind-of tree-course.tree-judged judged-from tree-course.judge tree-course.tests tree-course.next-due tree-course.after-node line-kind-of malformed wrong-count outside-range kind-tests available usable is-stuck refusal-of carries-line carries-unit carries-period trees.render trees.node-lines digits digits-by
 leaves-judged = (refl, refl)
 
 pub is-not-short : Is (some example) (trees.render 3 (leaf (short 1))) (refused-line 33 3)
@@ -124,3 +126,34 @@ is-not-short = judged-as (some example) example-formed _ _ (leaves-judged .0)
 
 pub is-not-stuck : Is (some example) (trees.render 3 (leaf (stuck 0))) (refused-line 34 3)
 is-not-stuck = judged-as (some example) example-formed _ _ (leaves-judged .1)
+
+-- ---- document 02, [1]: trees that split on how many units are on
+
+is-by-count : Is (some example) (trees.render 3 by-count) (tree (bounded 3 (tree-figures example by-count)))
+unfolding trees.render trees.node-lines digits digits-by
+is-by-count = a-tree 3 by-count (lit≤ tt) refl (lit≤ tt, lit≤ tt) (count-limits .0) (count-holds .0)
+
+is-by-both : Is (some example) (trees.render 3 by-both) (tree (bounded 3 (tree-figures example by-both)))
+unfolding trees.render trees.node-lines digits digits-by
+is-by-both = a-tree 3 by-both (lit≤ tt) refl (lit≤ tt, lit≤ tt) (count-limits .1) (count-holds .1)
+
+-- 1880, with one split line and two leaves; 1980, with two and three
+pub is-counted : Is (some example) (trees.render 3 by-count) (tree (figures 3 1880 1 2))
+unfolding splits leaves
+is-counted = subst (λ (b : Bound). Is (some example) (trees.render 3 by-count) (tree (bounded 3 (tree-gives b 1 2)))) (count-bounds .0) is-by-count
+
+pub is-crowded : Is (some example) (trees.render 3 by-both) (tree (figures 3 1980 2 3))
+unfolding splits leaves
+is-crowded = subst (λ (b : Bound). Is (some example) (trees.render 3 by-both) (tree (bounded 3 (tree-gives b 2 3)))) (count-bounds .1) is-by-both
+
+-- a lone crowd=2: 36, line 3; a count in the first tree of the same one: 37, line 4
+counts-judged : (verdict-of (some example) (trees.render 3 (leaf (crowd 1))) ≡ refused-line 36 3)
+    × (verdict-of (some example) (trees.render 3 (fork (count 1 1) (fork (count 1 1) (leaf (short 1)) (leaf (short 1))) (leaf (short 1)))) ≡ refused-line 37 4)
+unfolding text-judged admit kind-of tree-course.tree-judged judged-from tree-course.judge tree-course.tests tree-course.next-due tree-course.after-node line-kind-of malformed wrong-count outside-range kind-tests fixed-on usable refusal-of carries-line carries-unit carries-period trees.render trees.node-lines digits digits-by
+counts-judged = (refl, refl)
+
+pub is-not-crowd : Is (some example) (trees.render 3 (leaf (crowd 1))) (refused-line 36 3)
+is-not-crowd = judged-as (some example) example-formed _ _ (counts-judged .0)
+
+pub is-no-narrower : Is (some example) (trees.render 3 (fork (count 1 1) (fork (count 1 1) (leaf (short 1)) (leaf (short 1))) (leaf (short 1)))) (refused-line 37 4)
+is-no-narrower = judged-as (some example) example-formed _ _ (counts-judged .1)

@@ -9,12 +9,31 @@ use Rattle.model.specs.declared.generator.Generator.{Generator}
 use Rattle.model.specs.Instance.{Instance}
 use Rattle.model.specs.Ranges.{Between}
 use Rattle.model.specs.Breach.{Breach}
-use Rattle.text.specs.Lines.{Line, later, lines-of, kind-problem}
+use Rattle.model.specs.Above.{Above, root}
+use Rattle.text.specs.Lines.{Line, later, lines-of, kind-problem, kind-tree}
 use Rattle.text.specs.LineRefused.{Beginning}
 use Rattle.problem.specs.Units.{unit-form}
 use Rattle.problem.specs.Rendering.{lines-after}
 use Rattle.problem.specs.Refusals.{FormAt, InLimits}
+use Rattle.tree.specs.Places.{node-at, LineAt}
+use Rattle.tree.specs.Refusals.{WrittenTree, written-lines, HoldsSoFar}
 use Rattle.docket.specs.Texts.{Short, Begins}
+
+-- ---- [1] Splitting on how many units are on
+
+-- the line x of a tree's text stands where a node is due at depth d with A above it: the lines between the first and it begin the text of some writer and some
+-- tree within the limits, whose leaves, as far as they end there, meet their rules
+pub record NodeLineDue (P : Instance) (text : List ℕ) (before : List Line) (x : Line) (A : Above) (d : ℕ) : Type 0 where
+  pub short : Short text
+  pub begins : Begins text kind-tree
+  pub rest : List Line
+  pub lines : later (lines-of text) ≡ before ++ (x ∷ rest)
+  pub some-tree : WrittenTree
+  pub beginning : Beginning written-lines (HoldsSoFar P) before some-tree
+  -- after the writer's line, which of the tree's lines
+  pub nodes-before : ℕ
+  pub after-writer : length before ≡ suc nodes-before
+  pub place : LineAt root 0 (some-tree .tree) nodes-before (node-at A d)
 
 -- ---- [3] Yesterday's last output
 

@@ -59,6 +59,20 @@ lone-leaf = tree-text ("writer=4" ∷ "price=10,14" ∷ "reserve=0,2" ∷ [])
 abbrev pub lone-short : List ℕ
 lone-short = tree-text ("writer=3" ∷ "short=2" ∷ [])
 
+-- ---- document 02, [1]: trees that split on how many units are on
+
+abbrev pub counted-tree : List ℕ
+counted-tree = tree-text ("writer=3" ∷ "count=2,1" ∷ "short=2" ∷ "price=10,14" ∷ "reserve=0,0" ∷ [])
+
+abbrev pub crowded-tree : List ℕ
+crowded-tree = tree-text ("writer=3" ∷ "count=2,1" ∷ "short=2" ∷ "split=2,2" ∷ "crowd=2" ∷ "price=10,14" ∷ "reserve=0,0" ∷ [])
+
+abbrev pub lone-crowd : List ℕ
+lone-crowd = tree-text ("writer=3" ∷ "crowd=2" ∷ [])
+
+abbrev pub count-twice : List ℕ
+count-twice = tree-text ("writer=3" ∷ "count=2,1" ∷ "count=2,1" ∷ "short=2" ∷ "short=2" ∷ "short=2" ∷ [])
+
 -- ---- problems of one unit, with nothing demanded and no cost but that of a start: Hsc is 20 and Csc 60
 
 -- one period, TD 1 and Tcold 1: Tini says how long the unit has been off
@@ -113,6 +127,12 @@ specimens =
     ∷ (problem-of "unit=100,10,0,20,80,2,2,3,30,30,50,90,1,5" "unit=40,14,0,10,50,1,1,-2,50,50,20,60,0,0,0" ∷ [], refused 14 6 0 0)
     ∷ (problem-of "unit=100,10,0,20,80,2,2,3,30,30,50,90,1,5,19" "unit=40,14,0,10,50,1,1,-2,50,50,20,60,0,0,0" ∷ [], refused 15 6 0 0)
     ∷ (problem-of "unit=100,10,0,20,80,2,2,3,30,30,50,90,1,5,60" "unit=40,14,0,10,50,1,1,-2,50,50,20,60,0,0,1" ∷ [], refused 15 7 0 0)
+    -- document 02, [1]: at most one unit on in period 2 is short, and the price leaf is worth 1880; with two or more unit 2 cannot be off, and with it on the leaf is worth 1980
+    ∷ (listed-problem ∷ counted-tree ∷ [], held (its-bound (tree-gives (number (pos 1880)) 1 2)))
+    ∷ (listed-problem ∷ crowded-tree ∷ [], held (its-bound (tree-gives (number (pos 1980)) 2 3)))
+    -- a lone crowd=2: 36, line 3; count=2,1 in the first tree of another: 37, line 4
+    ∷ (listed-problem ∷ lone-crowd ∷ [], refused 36 3 0 0)
+    ∷ (listed-problem ∷ count-twice ∷ [], refused 37 4 0 0)
     ∷ []
 
 -- ---- what is said of a pair

@@ -56,7 +56,7 @@ pub data Is : Option Instance → List ℕ → Verdict → Type 0 where
   a-schedule : {P : Instance} {text : List ℕ} (w : ℕ) (s : Schedule) → Short text → text ≡ schedules.render w s
       → GoodWriter w → GoodRows P s → Meets P s
       → Is (some P) text (schedule (record { writer = w; cost = cost P s; rows = s }))
-  -- a tree: 12 to 14 or 31 to 35 at a line; else the text is that of a tree within the limits, every leaf of which meets its rule
+  -- a tree: 12 to 14 or 31 to 37 at a line; else the text is that of a tree within the limits, every leaf of which meets its rule
   tree-refused : {P : Instance} {text : List ℕ} (n l : ℕ) → Short text → Begins text kind-tree → of-tree.RefusedAt P text n l → Is (some P) text (refused-line n l)
   a-tree : {P : Instance} {text : List ℕ} (w : ℕ) (t : Tree) → Short text → text ≡ trees.render w t
       → GoodWriter w → Limits P root 0 t → Holds P root t

@@ -19,7 +19,7 @@ pub const NO_DOCKET: usize = 18446744073709551614;
 pub extern "C" fn docket_rules() -> usize
     ensures { λ r. ⌜ r ≡ rules ⌝ }
 {
-    2
+    3
 }
 
 // How many numbers the first slice of a state has.

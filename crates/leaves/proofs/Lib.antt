@@ -4,3 +4,5 @@ pub mod Units
 pub mod Requirements
 pub mod LeafAnswers
 pub mod Shorts
+pub mod Falling
+pub mod Crowds

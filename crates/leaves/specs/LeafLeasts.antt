@@ -1,13 +1,14 @@
--- What a leaf answers: that a unit is stuck, or a least value, which only a leaf without a stuck unit has (document 01, Rules for
--- a leaf).
-use mathlib.Core.Bool.{Bool, cond}
+-- What a leaf answers: that a unit is stuck, or a least value, which only a leaf without a stuck unit has; whether the units are short, or a
+-- crowd (document 01, Rules for a leaf; document 02, [1]).
+use mathlib.Core.Bool.{Bool, false, cond, _||_}
 use mathlib.Core.List.{List}
+use mathlib.Core.Option.{Option, none, some}
 use Prim.Native.Nat.{ℕ, _+_}
 use lib.Dec.{ltb}
 use Rattle.model.specs.declared.generator.Generator.{Generator}
 use Rattle.model.specs.Instance.{Instance, _at_}
 use Rattle.model.specs.Above.{Marks, Above}
-use Rattle.model.specs.Leaf.{available, any-stuck, units-least, leaf-value}
+use Rattle.model.specs.Leaf.{available, fixed-on, not-off, any-stuck, units-least, leaf-value}
 use Rattle.least.specs.declared.unit.Least.{Least}
 use Rattle.least.specs.declared.unit.Least.the-variants.{Stuck, Value}
 
@@ -22,3 +23,12 @@ leaf-of P m q s = cond (any-stuck (P .periods) (P .units) m) Stuck (Value (leaf-
 -- whether `short` holds: what is available in period t is below D + R
 abbrev pub short-at : Instance → Above → ℕ → Bool
 short-at P A t = ltb (available P A t) (P .demand at t + P .spare at t)
+
+-- whether n is above the upper count, if one stands
+abbrev pub above-most : ℕ → Option ℕ → Bool
+above-most n none = false
+above-most n (some K) = ltb K n
+
+-- whether `crowd` holds: the upper count of period t is below the number of units fixed on, or its lower count above that of the units not fixed off
+abbrev pub crowd-at : Instance → Above → ℕ → Bool
+crowd-at P A t = above-most (fixed-on (P .units) (A .marks) t) (A .most t) || ltb (not-off (P .units) (A .marks) t) (A .least t)

@@ -1,3 +1,6 @@
-// The rules for a tree's leaves over all units: the value of a price leaf, and whether the units are short.
+// The rules for a tree's leaves over all units: the value of a price leaf, whether the units are short, and whether they are a crowd.
+pub mod counts;
+pub mod crowd;
+mod largest;
 pub mod price;
 pub mod short;

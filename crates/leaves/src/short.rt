@@ -1,11 +1,15 @@
 // Whether the units that may be on are short of a period's demand and spare.
 ghost use mathlib.Core.Path.{_≡_};
+ghost use mathlib.Core.List.{[]};
 ghost use Prim.Native.Nat.{_*_, _≤_, _<_};
 ghost use lib.ListN.{length};
-ghost use Rattle.model.specs.Leaf.{available, unless-off};
+ghost use Rattle.model.specs.Largest.{total};
+ghost use Rattle.model.specs.Leaf.{unless-off, usable, available};
 ghost use Rattle.layout.specs.Numbers.{instance-in, Laid};
-ghost use Rattle.walk.specs.Marks.{mark-of, above-of};
+ghost use Rattle.walk.specs.Marks.{mark-of, above-of, above-length};
 ghost use Rattle.leaves.specs.LeafLeasts.{short-at};
+use crate::counts::UPPER;
+use crate::largest::sum_largest;
 use layout::demand_at;
 use layout::pU_at;
 use layout::periods_in;
@@ -13,8 +17,8 @@ use layout::spare_at;
 use layout::units_in;
 
 // pU, but 0 for a unit that is fixed off.
-fn available_of(mark: u8, high: u64) -> u64
-    ensures { λ r. ⌜ r ≡ unless-off (mark-of mark) high ⌝ }
+fn usable_of(mark: u8, high: u64) -> u64
+    ensures { λ r. ⌜ r ≡ total (unless-off (mark-of mark) high []) ⌝ }
 {
     if mark == 1 {
         return 0;
@@ -23,11 +27,11 @@ fn available_of(mark: u8, high: u64) -> u64
 }
 
 // The sum of the pU of all units that are free or fixed on in period t.
-fn sum_available(numbers: &[u64], t: usize, above: &[u8]) -> u64
+fn sum_usable(numbers: &[u64], t: usize, above: &[u8]) -> u64
     requires { ⌜ Laid (now numbers) ⌝ }
     requires { ⌜ t < instance-in (now numbers) .periods ⌝ }
     requires { ⌜ length (instance-in (now numbers) .units) * instance-in (now numbers) .periods ≤ length (now above) ⌝ }
-    ensures { λ r. ⌜ r ≡ available (instance-in (now (numbers .entry))) (above-of (instance-in (now (numbers .entry))) (now (above .entry))) t ⌝ }
+    ensures { λ r. ⌜ r ≡ total (usable (instance-in (now (numbers .entry)) .units) (above-of (instance-in (now (numbers .entry))) (now (above .entry)) .marks) t) ⌝ }
 {
     let n = periods_in(numbers);
     let units = units_in(numbers);
@@ -35,18 +39,32 @@ fn sum_available(numbers: &[u64], t: usize, above: &[u8]) -> u64
     let mut begin = 0;
     let mut u = 0;
     while u < units {
-        sum += available_of(above[begin + t], pU_at(numbers, u));
+        sum += usable_of(above[begin + t], pU_at(numbers, u));
         begin += n;
         u += 1;
     }
     sum
 }
 
-// Whether the units not fixed off are short of demand and spare in period t.
+// What can be on in period t: all those units, or the largest of them where an upper count stands.
+fn sum_available(numbers: &[u64], t: usize, above: &[u8]) -> u64
+    requires { ⌜ Laid (now numbers) ⌝ }
+    requires { ⌜ t < instance-in (now numbers) .periods ⌝ }
+    requires { ⌜ length (now above) ≡ above-length ⌝ }
+    ensures { λ r. ⌜ r ≡ available (instance-in (now (numbers .entry))) (above-of (instance-in (now (numbers .entry))) (now (above .entry))) t ⌝ }
+{
+    let upper = above[UPPER + t];
+    if upper == 0 {
+        return sum_usable(numbers, t, above);
+    }
+    sum_largest(numbers, t, above, (upper - 1) as usize)
+}
+
+// Whether what can be on in period t is short of demand and spare.
 pub fn is_short(numbers: &[u64], t: usize, above: &[u8]) -> bool
     requires { ⌜ Laid (now numbers) ⌝ }
     requires { ⌜ t < instance-in (now numbers) .periods ⌝ }
-    requires { ⌜ length (instance-in (now numbers) .units) * instance-in (now numbers) .periods ≤ length (now above) ⌝ }
+    requires { ⌜ length (now above) ≡ above-length ⌝ }
     ensures { λ r. ⌜ r ≡ short-at (instance-in (now (numbers .entry))) (above-of (instance-in (now (numbers .entry))) (now (above .entry))) t ⌝ }
 {
     sum_available(numbers, t, above) < demand_at(numbers, t) + spare_at(numbers, t)

@@ -53,11 +53,11 @@ SmallVerdict (problem P) = Unit {0}
 SmallVerdict (schedule s) = SmallValues (its-cost (s .cost))
 SmallVerdict (tree F) = SmallValues (its-bound (F .figures))
 
--- a number that carries its line is one of 11 to 35
+-- a number that carries its line is one of 11 to 37
 number-small : (n l : ℕ) → refusal-of n (suc l) 0 0 ≡ line-refusal n (suc l) → n < 100
-number-small n l e = go (decLt n 36)
+number-small n l e = go (decLt n 38)
   where
-    go : Dec (n < 36) → n < 100
+    go : Dec (n < 38) → n < 100
     go (yes h) = omega (arith, h)
     go (no h) =
         let z : 0 ≡ suc l = ap (λ (r : Refusal). r .line) (nothing-high n (suc l) 0 0 (omega (arith, h)) ∙ e) in

@@ -10,7 +10,7 @@ use Rattle.model.specs.declared.generator.Generator.{Generator}
 use Rattle.model.specs.Instance.{Instance, _at_, sum}
 use Rattle.model.specs.Ranges.{GoodUnit, WellFormed, in-range, costs-in-range, outputs-in-range, times-in-range, midnight-ordered, ordered}
 use Rattle.model.specs.Above.{root, status, side}
-use Rattle.model.specs.Leaf.{units-available, available, is-stuck, minℤ, requirement}
+use Rattle.model.specs.Leaf.{usable, available, is-stuck, minℤ, requirement}
 use Rattle.model.specs.declared.figures.Bound.the-variants.{Number as number}
 use Rattle.model.specs.Tree.{short, price, Tree, leaf, fork, GoodLeaf, LeafHolds, leaf-bound, Limits, Holds, bound, splits, leaves}
 use Rattle.model.specs.Walk.{plus, lesser, back, walk}
@@ -67,7 +67,7 @@ example-limits = (
 )
 
 pub example-holds : Holds example root example-tree
-unfolding Holds LeafHolds available units-available is-stuck
+unfolding Holds LeafHolds available usable is-stuck
 example-holds = ((lit< tt, lit< tt), tt)
 
 pub example-counts : (splits example-tree ≡ 1) × (leaves example-tree ≡ 2)
@@ -96,7 +96,7 @@ smallest-bound =
 
 -- free units are not off: a lone `short=2` does not hold, 130 being no less than 110
 pub lone-short : Holds example root (leaf (short 1)) → ⊥
-unfolding Holds LeafHolds available units-available
+unfolding Holds LeafHolds available usable
 lone-short h = omega (arith, h .1)
 
 -- s·R counts: without it the lone leaf's requirement would be 20 less

@@ -3,7 +3,8 @@
 use mathlib.Core.Path.{_≡_}
 use mathlib.Core.Bool.{Bool, true, false}
 use mathlib.Core.List.{List, [], _∷_}
-use Prim.Native.Nat.{ℕ, zero, suc, _*_, _≤_, _<_}
+use mathlib.Core.Option.{Option, none, some}
+use Prim.Native.Nat.{ℕ, zero, suc, _+_, _*_, _≤_, _<_}
 use native.Mathlib.Nat.{mul-le-mul}
 use native.Mathlib.Omega.{arith}
 use lib.ListN.{length, length-map}
@@ -13,10 +14,12 @@ use Rattle.model.specs.Ranges.{All, GoodUnit, GoodOutput, WellFormed, Go
 use Rattle.model.specs.Rules.{on, if-on, statuses, spent, Within, output, capacity, Row, MeetsPrinted}
 use Rattle.model.specs.Cost.{switch-costs, fuel-cost, row-cost, cost}
 use Rattle.model.specs.Above.{Mark, free, fixed, Marks, Above, rest}
-use Rattle.model.specs.Leaf.{unless-off, units-available, available}
+use Rattle.model.specs.Largest.{total}
+use Rattle.model.specs.Leaf.{unless-off, usable, summed, available}
 use Rattle.model.proofs.PeriodSums.{sum-most}
 use Rattle.model.proofs.WalkSizes.{switch-cost-fits}
 use Rattle.model.proofs.LeafSizes.{all-at}
+use Rattle.model.proofs.Largest.{largest-below}
 
 -- ---- one row
 
@@ -121,16 +124,24 @@ module _ (P : Instance) (W : WellFormed P) where
 
   -- the pU of the units not fixed off
   pub available-fits : (A : Above) (t : ℕ) → available P A t ≤ 320_000
-  unfolding available units-available
-  available-fits A t =
-      let k : length (P .units) ≤ 32 = W .units-in .1 in
-      omega (arith, go (P .units) (W .units-good) (A .marks))
+  unfolding available usable
+  available-fits A t = summed-most (A .most t)
     where
-      at-most : (x : Mark) (g : Generator) → GoodUnit g → unless-off x (g .pU) ≤ 10_000
-      at-most free g G = G .in-range .pU-in .1
-      at-most (fixed true) g G = G .in-range .pU-in .1
-      at-most (fixed false) g G = omega arith
+      at-most : (x : Mark) (g : Generator) (l : List ℕ) → GoodUnit g → total (unless-off x (g .pU) l) ≤ 10_000 + total l
+      at-most free g l G = omega (arith, G .in-range .pU-in .1)
+      at-most (fixed true) g l G = omega (arith, G .in-range .pU-in .1)
+      at-most (fixed false) g l G = omega arith
 
-      go : (gs : List Generator) → All GoodUnit gs → (m : Marks) → units-available gs m t ≤ length gs * 10_000
+      go : (gs : List Generator) → All GoodUnit gs → (m : Marks) → total (usable gs m t) ≤ length gs * 10_000
       go [] G m = omega arith
-      go (g ∷ gs) G m = omega (arith, at-most (m 0 t) g (G .0), go gs (G .1) (rest m))
+      go (g ∷ gs) G m = omega (arith, at-most (m 0 t) g (usable gs (rest m) t) (G .0), go gs (G .1) (rest m))
+
+      l : List ℕ
+      l = usable (P .units) (A .marks) t
+
+      all : total l ≤ 320_000
+      all = let k : length (P .units) ≤ 32 = W .units-in .1 in omega (arith, go (P .units) (W .units-good) (A .marks))
+
+      summed-most : (o : Option ℕ) → summed o l ≤ 320_000
+      summed-most none = all
+      summed-most (some K) = omega (arith, all, largest-below K l)

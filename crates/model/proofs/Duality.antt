@@ -3,7 +3,7 @@
 use mathlib.Core.Path.{_≡_, refl, _∙_}
 use mathlib.Core.Bool.{Bool, true, false}
 use mathlib.Core.List.{List, [], _∷_, map, List·Memᴰ, List·Memᴰ·head, List·Memᴰ·tail, Memᴰ·map}
-use Prim.Native.Nat.{ℕ, zero, suc, _+_, _*_, _-_, _≤_, _<_}
+use Prim.Native.Nat.{ℕ, zero, suc, _+_, _*_, _-_, _≤_}
 use native.Mathlib.Nat.{mul-le-mul-left}
 use native.Mathlib.Omega.{arith}
 use lib.Dec.{T}
@@ -14,8 +14,8 @@ use Rattle.model.specs.declared.generator.Generator.{Generator}
 use Rattle.model.specs.Instance.{Instance, Schedule, _at_, sum-units, Each}
 use Rattle.model.specs.Rules.{on, if-on, statuses, Within, output, capacity, keeps, Row, MeetsPrinted}
 use Rattle.model.specs.Cost.{row-cost, cost}
-use Rattle.model.specs.Above.{Mark, free, fixed, Marks, Above, rest, allows, agrees, obeys}
-use Rattle.model.specs.Leaf.{unless-off, units-available, available, words, outputs, runs, rows-of, is-stuck, stuck-at, revenue, value, unit-least, units-least, requirement, leaf-value}
+use Rattle.model.specs.Above.{Mark, Marks, Above, rest, allows, agrees, obeys}
+use Rattle.model.specs.Leaf.{words, outputs, runs, rows-of, is-stuck, stuck-at, revenue, value, unit-least, units-least, requirement, leaf-value}
 use Rattle.model.proofs.Integers.{up, down, le→nat, nat→le, +ℤ-nat, -ℤ-nat, least-le}
 use Rattle.model.proofs.Tests.{T-and}
 use Rattle.model.proofs.Sums.{sum-le, exchange}
@@ -82,22 +82,6 @@ units-below n q s (g ∷ gs) m (r ∷ rs) e h =
       units-below n q s gs (rest m) rs (e .1) (λ u. h (suc u)),
     )
 
-pub capacity-below : (gs : List Generator) (m : Marks) (rs : Schedule) (t : ℕ) → Follows m rs
-    → sum-units (λ g r. if-on (on (r at t)) (g .pU)) gs rs ≤ units-available gs m t
-unfolding units-available
-capacity-below [] m rs t h = omega arith
-capacity-below (g ∷ gs) m [] t h = omega arith
-capacity-below (g ∷ gs) m (r ∷ rs) t h =
-    omega (arith, one (m 0 t) (on (r at t)) (h 0 t), capacity-below gs (rest m) rs t (λ u. h (suc u)))
-  where
-    one : (m : Mark) (b : Bool) → T (allows m b) → if-on b (g .pU) ≤ unless-off m (g .pU)
-    one free true k = omega arith
-    one free false k = omega arith
-    one (fixed true) true k = omega arith
-    one (fixed true) false k = absurd k
-    one (fixed false) true k = absurd k
-    one (fixed false) false k = omega arith
-
 pub none-stuck : (n : ℕ) (gs : List Generator) (m : Marks) (rs : Schedule) (U : ℕ) → Each (Row n) gs rs → Follows m rs
     → T (stuck-at n gs m U) → ⊥
 none-stuck n [] m rs U e h k = k
@@ -145,14 +129,9 @@ module _ (P : Instance) (sch : Schedule) (M : MeetsPrinted P sch) (A : Above) (h
         arith,
         +ℤ-nat x (pos (requirement P q s)),
         duality P sch M q s,
-        units-below (P .periods) q s (P .units) (A .marks) sch (M .rows) h,
+        units-below (P .periods) q s (P .units) (A .marks) sch (M .rows) (h .follows),
       ))
-
-  -- no short leaf holds: the capacity is there
-  pub short-excludes : (t : ℕ) → t < P .periods → available P A t < P .demand at t + P .spare at t → ⊥
-  unfolding capacity available
-  short-excludes t l k = omega (arith, M .meets-spare t l, capacity-below (P .units) (A .marks) sch t h)
 
   -- no stuck leaf holds: the unit's statuses are a run that obeys and agrees
   pub stuck-excludes : (U : ℕ) → T (stuck-at (P .periods) (P .units) (A .marks) U) → ⊥
-  stuck-excludes U k = none-stuck (P .periods) (P .units) (A .marks) sch U (M .rows) h k
+  stuck-excludes U k = none-stuck (P .periods) (P .units) (A .marks) sch U (M .rows) (h .follows) k

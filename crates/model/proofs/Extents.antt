@@ -1,9 +1,10 @@
--- Marks matter only at the problem's units and periods, so that an array of them will do: what a leaf says is a function of walks
+-- Marks and counts matter only at the problem's units and periods, so that an array of them will do: what a leaf says is a function of walks
 -- and sums, and these look no further.
-use mathlib.Core.Path.{_≡_, refl, sym, _∙_, ap, ap₂}
+use mathlib.Core.Path.{_≡_, refl, sym, _∙_, ap, ap₂, transport}
 use mathlib.Core.Bool.{Bool, true, false, cond, _||_}
 use mathlib.Core.Option.{none, some}
 use mathlib.Core.List.{List, [], _∷_}
+use mathlib.Core.Logic.{_⊎_}
 use Prim.Native.Nat.{ℕ, zero, suc, _+_, _*_, _<_}
 use native.Mathlib.Omega.{arith}
 use lib.Dec.{T, eqb}
@@ -12,10 +13,10 @@ use lib.IntN.{ℤ, pos, _+ℤ_}
 use Rattle.model.specs.declared.generator.Generator.{Generator}
 use Rattle.model.specs.Instance.{Instance, _at_}
 use Rattle.model.specs.Ranges.{All, GoodUnit}
-use Rattle.model.specs.Above.{Mark, Marks, rest, Above}
-use Rattle.model.specs.Leaf.{unless-off, units-available, available, is-stuck, stuck-at, any-stuck, unit-least, units-least, requirement, leaf-value}
+use Rattle.model.specs.Above.{Mark, Marks, rest, Above, AboveMost}
+use Rattle.model.specs.Leaf.{unless-off, usable, summed, available, if-fixed-on, fixed-on, Crowded, is-stuck, stuck-at, any-stuck, unit-least, units-least, requirement, leaf-value}
 use Rattle.model.specs.declared.figures.Bound.the-variants.{Number as number}
-use Rattle.model.specs.Tree.{Leaf, short, stuck, price, LeafHolds, leaf-bound}
+use Rattle.model.specs.Tree.{Leaf, short, crowd, stuck, price, LeafHolds, leaf-bound}
 use Rattle.model.specs.Prices.{offset, decoded}
 use Rattle.model.proofs.PeriodSums.{sum-eq}
 use Rattle.model.proofs.Stuck.{is-stuck-is}
@@ -79,13 +80,17 @@ module _ (n : ℕ) where
   any-stuck-ext (g ∷ gs) m m′ h =
       ap₂ _||_ (is-stuck-ext n g (m 0) (m′ 0) (h 0 (omega arith))) (any-stuck-ext gs (rest m) (rest m′) (λ u l. h (suc u) (omega arith)))
 
-  pub units-available-ext : (gs : List Generator) (m m′ : Marks) → SameMarks (length gs) n m m′ → (t : ℕ) → t < n
-      → units-available gs m t ≡ units-available gs m′ t
-  unfolding units-available
-  units-available-ext [] m m′ h t l = refl
-  units-available-ext (g ∷ gs) m m′ h t l =
-      ap₂ _+_ (ap (λ (x : Mark). unless-off x (g .pU)) (h 0 (omega arith) t l))
-      (units-available-ext gs (rest m) (rest m′) (λ u i. h (suc u) (omega arith)) t l)
+  pub usable-ext : (gs : List Generator) (m m′ : Marks) → SameMarks (length gs) n m m′ → (t : ℕ) → t < n → usable gs m t ≡ usable gs m′ t
+  unfolding usable
+  usable-ext [] m m′ h t l = refl
+  usable-ext (g ∷ gs) m m′ h t l =
+      ap₂ (λ (x : Mark) (k : List ℕ). unless-off x (g .pU) k) (h 0 (omega arith) t l) (usable-ext gs (rest m) (rest m′) (λ u i. h (suc u) (omega arith)) t l)
+
+  pub fixed-on-ext : (gs : List Generator) (m m′ : Marks) → SameMarks (length gs) n m m′ → (t : ℕ) → t < n → fixed-on gs m t ≡ fixed-on gs m′ t
+  unfolding fixed-on
+  fixed-on-ext [] m m′ h t l = refl
+  fixed-on-ext (g ∷ gs) m m′ h t l =
+      ap₂ _+_ (ap if-fixed-on (h 0 (omega arith) t l)) (fixed-on-ext gs (rest m) (rest m′) (λ u i. h (suc u) (omega arith)) t l)
 
   pub units-least-ext : (gs : List Generator) → All GoodUnit gs → (m m′ : Marks) → SameMarks (length gs) n m m′ → (q q′ s s′ : ℕ → ℕ) → Same n q q′ → Same n s s′
       → units-least n q s gs m ≡ units-least n q′ s′ gs m′
@@ -98,12 +103,20 @@ module _ (n : ℕ) where
 -- ---- a leaf
 
 -- the same above a node, as far as the problem goes
-abbrev pub SameAbove : Instance → Above → Above → Type 0
-SameAbove P A A′ = SameMarks (length (P .units)) (P .periods) (A .marks) (A′ .marks)
+pub record SameAbove (P : Instance) (A A′ : Above) : Type 0 where
+  pub marks : SameMarks (length (P .units)) (P .periods) (A .marks) (A′ .marks)
+  pub most : Same (P .periods) (A .most) (A′ .most)
+  pub least : Same (P .periods) (A .least) (A′ .least)
 
-pub available-ext : (P : Instance) (A A′ : Above) → SameAbove P A A′ → (t : ℕ) → t < P .periods → available P A t ≡ available P A′ t
-unfolding available
-available-ext P A A′ h t l = units-available-ext (P .periods) (P .units) (A .marks) (A′ .marks) h t l
+module _ (P : Instance) (A A′ : Above) (h : SameAbove P A A′) (t : ℕ) (l : t < P .periods) where
+  pub available-ext : available P A t ≡ available P A′ t
+  unfolding available
+  available-ext = ap₂ summed (h .most t l) (usable-ext (P .periods) (P .units) (A .marks) (A′ .marks) (h .marks) t l)
+
+  pub crowded-ext : Crowded P A t ≡ Crowded P A′ t
+  crowded-ext =
+      ap₂ _⊎_ (ap₂ AboveMost (fixed-on-ext (P .periods) (P .units) (A .marks) (A′ .marks) (h .marks) t l) (h .most t l))
+      (ap₂ _<_ (ap length (usable-ext (P .periods) (P .units) (A .marks) (A′ .marks) (h .marks) t l)) (h .least t l))
 
 module _ (P : Instance) (G : All GoodUnit (P .units)) where
   pub leaf-value-ext : (m m′ : Marks) → SameMarks (length (P .units)) (P .periods) m m′ → (q q′ s s′ : ℕ → ℕ) → Same (P .periods) q q′ → Same (P .periods) s s′
@@ -116,12 +129,14 @@ module _ (P : Instance) (G : All GoodUnit (P .units)) where
   pub leaf-bound-ext : (A A′ : Above) → SameAbove P A A′ → (l : Leaf) → leaf-bound P A l ≡ leaf-bound P A′ l
   unfolding leaf-bound
   leaf-bound-ext A A′ h (short t) = refl
+  leaf-bound-ext A A′ h (crowd t) = refl
   leaf-bound-ext A A′ h (stuck U) = refl
   leaf-bound-ext A A′ h (price q s) =
-      ap number (leaf-value-ext (A .marks) (A′ .marks) h (λ t. q at t) (λ t. q at t) (λ t. s at t) (λ t. s at t) (λ t l. refl) (λ t l. refl))
+      ap number (leaf-value-ext (A .marks) (A′ .marks) (h .marks) (λ t. q at t) (λ t. q at t) (λ t. s at t) (λ t. s at t) (λ t l. refl) (λ t l. refl))
 
   pub leaf-holds-ext : (A A′ : Above) → SameAbove P A A′ → (l : Leaf) → LeafHolds P A l → LeafHolds P A′ l
   unfolding LeafHolds
   leaf-holds-ext A A′ h (short t) k = (k .0, omega (arith, available-ext P A A′ h t (k .0), k .1))
-  leaf-holds-ext A A′ h (stuck U) k = rw (stuck-at-ext (P .periods) (P .units) (A .marks) (A′ .marks) h U) at k
-  leaf-holds-ext A A′ h (price q s) k = rw (any-stuck-ext (P .periods) (P .units) (A .marks) (A′ .marks) h) at k
+  leaf-holds-ext A A′ h (crowd t) k = (k .0, transport (crowded-ext P A A′ h t (k .0)) (k .1))
+  leaf-holds-ext A A′ h (stuck U) k = rw (stuck-at-ext (P .periods) (P .units) (A .marks) (A′ .marks) (h .marks) U) at k
+  leaf-holds-ext A A′ h (price q s) k = rw (any-stuck-ext (P .periods) (P .units) (A .marks) (A′ .marks) (h .marks)) at k

@@ -14,7 +14,7 @@ use Rattle.model.specs.Above.{Marks, rest, Above}
 use Rattle.model.specs.Leaf.{unit-least, units-least, requirement, leaf-value}
 use Rattle.model.specs.declared.figures.Bound.{Bound}
 use Rattle.model.specs.declared.figures.Bound.the-variants.{Never as never, Number as number}
-use Rattle.model.specs.Tree.{Leaf, short, stuck, price, GoodLeaf, leaf-bound}
+use Rattle.model.specs.Tree.{Leaf, short, crowd, stuck, price, GoodLeaf, leaf-bound}
 use Rattle.model.specs.Prices.{price-walks, offsets}
 use Rattle.model.proofs.Integers.{up, down, +ℤ-nat}
 use Rattle.model.proofs.PeriodSums.{sum-most}
@@ -99,6 +99,7 @@ Fits (number z) = (up z < 1_000_000_000_000_000_000) × (down z < 1_000_000_000_
 pub leaf-bound-fits : (P : Instance) → WellFormed P → (A : Above) (l : Leaf) → GoodLeaf P l → Fits (leaf-bound P A l)
 unfolding leaf-bound GoodLeaf
 leaf-bound-fits P W A (short t) h = tt
+leaf-bound-fits P W A (crowd t) h = tt
 leaf-bound-fits P W A (stuck U) h = tt
 leaf-bound-fits P W A (price q s) h =
     let fits =

@@ -2,6 +2,7 @@
 pub mod Integers
 pub mod Tests
 pub mod Sums
+pub mod Largest
 pub mod Members
 pub mod Every
 pub mod RangeTests
@@ -9,11 +10,14 @@ pub mod Held
 pub mod Valid
 pub mod Lists
 pub mod Duality
+pub mod Capacities
 pub mod Sides
 pub mod LeafSound
 pub mod Soundness
 pub mod Leaves
 pub mod EveryLeaf
+pub mod Narrowing
+pub mod Ignored
 pub mod Counts
 pub mod OneUnit
 pub mod Searches
@@ -23,6 +27,7 @@ pub mod Lowest
 pub mod Failures
 pub mod Judging
 pub mod Witnesses
+pub mod CountWitnesses
 pub mod PeriodSums
 pub mod Coded
 pub mod WalkRuns

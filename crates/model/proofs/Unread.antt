@@ -3,8 +3,8 @@
 use mathlib.Core.Path.{_≡_, refl, sym, _∙_, ap, ap₂, transport}
 use mathlib.Core.Bool.{Bool, true, false, not, _&&_, _||_}
 use mathlib.Core.List.{List, [], _∷_, map}
-use mathlib.Core.Logic.{_↔_, Iff·rfl, Iff·symm, Iff·trans}
-use Prim.Native.Nat.{ℕ, zero, suc, _+_, _≤_, _<_}
+use mathlib.Core.Logic.{_⊎_, _↔_, Iff·rfl, Iff·symm, Iff·trans}
+use Prim.Native.Nat.{ℕ, zero, suc, _+_, _-_, _≤_, _<_}
 use lib.Dec.{T}
 use lib.IntN.{ℤ, pos, _+ℤ_, _-ℤ_}
 use lib.ListN.{length}
@@ -12,11 +12,11 @@ use Rattle.model.specs.declared.generator.Generator.{Generator}
 use Rattle.model.specs.Instance.{Instance, Schedule, _at_, sum, sum-units, Each}
 use Rattle.model.specs.Rules.{on, if-on, statuses, output, capacity, permits, spent, keeps, Row, MeetsPrinted}
 use Rattle.model.specs.Cost.{switch-cost, switch-costs, fuel-cost, row-cost, cost}
-use Rattle.model.specs.Above.{free, Mark, Marks, rest, Above, Fork, status, side, agrees}
-use Rattle.model.specs.Leaf.{unless-off, units-available, available, words, those, none-of, outputs, runs, rows-of, is-stuck, stuck-at, any-stuck, least, revenue, value, unit-least, units-least, requirement, leaf-value}
+use Rattle.model.specs.Above.{free, Mark, Marks, rest, Above, Fork, status, count, side, AboveMost, agrees}
+use Rattle.model.specs.Leaf.{unless-off, usable, summed, available, if-fixed-on, fixed-on, Crowded, words, those, none-of, outputs, runs, rows-of, is-stuck, stuck-at, any-stuck, least, revenue, value, unit-least, units-least, requirement, leaf-value}
 use Rattle.model.specs.declared.figures.Bound.the-variants.{Number as number}
 use Rattle.model.specs.Figures.{lower}
-use Rattle.model.specs.Tree.{Leaf, short, stuck, price, Tree, leaf, fork, GoodFork, GoodLeaf, LeafHolds, leaf-bound, Limits, Holds, bound}
+use Rattle.model.specs.Tree.{Leaf, short, crowd, stuck, price, Tree, leaf, fork, Narrows, GoodFork, GoodLeaf, LeafHolds, leaf-bound, Limits, Holds, bound}
 use Rattle.model.specs.Examples.{unit1, unit2, example}
 use Rattle.model.specs.Unread.{with-p0, AlikeUnits, AlikeButMidnight}
 
@@ -95,10 +95,15 @@ pub count-without : (gs : List Generator) → length (map (with-p0 0) gs) ≡ le
 count-without [] = refl
 count-without (g ∷ gs) = ap suc (count-without gs)
 
-units-available-without : (gs : List Generator) (m : Marks) (t : ℕ) → units-available (map (with-p0 0) gs) m t ≡ units-available gs m t
-unfolding units-available
-units-available-without [] m t = refl
-units-available-without (g ∷ gs) m t = ap (λ (x : ℕ). unless-off (m 0 t) (g .pU) + x) (units-available-without gs (rest m) t)
+pub usable-without : (gs : List Generator) (m : Marks) (t : ℕ) → usable (map (with-p0 0) gs) m t ≡ usable gs m t
+unfolding usable
+usable-without [] m t = refl
+usable-without (g ∷ gs) m t = ap (unless-off (m 0 t) (g .pU)) (usable-without gs (rest m) t)
+
+pub fixed-on-without : (gs : List Generator) (m : Marks) (t : ℕ) → fixed-on (map (with-p0 0) gs) m t ≡ fixed-on gs m t
+unfolding fixed-on
+fixed-on-without [] m t = refl
+fixed-on-without (g ∷ gs) m t = ap (λ (x : ℕ). if-fixed-on (m 0 t) + x) (fixed-on-without gs (rest m) t)
 
 pub stuck-at-without : (n : ℕ) (gs : List Generator) (m : Marks) (U : ℕ) → stuck-at n (map (with-p0 0) gs) m U ≡ stuck-at n gs m U
 stuck-at-without n [] m U = refl
@@ -131,6 +136,7 @@ module _ (P : Instance) where
   pub leaf-bound-without : (A : Above) (l : Leaf) → leaf-bound (without-p0 P) A l ≡ leaf-bound P A l
   unfolding leaf-bound
   leaf-bound-without A (short t) = refl
+  leaf-bound-without A (crowd t) = refl
   leaf-bound-without A (stuck U) = refl
   leaf-bound-without A (price q s) = ap number (leaf-value-without (A .marks) (λ t. q at t) (λ t. s at t))
 
@@ -141,10 +147,12 @@ module _ (P : Instance) where
 
   good-fork-without : (A : Above) (f : Fork) → GoodFork (without-p0 P) A f ≡ GoodFork P A f
   good-fork-without A (status U t) = λ i. (U < count-without (P .units) i) × (t < P .periods) × (A .marks U t ≡ free)
+  good-fork-without A (count t K) = λ i. (t < P .periods) × (K ≤ count-without (P .units) i - 1) × Narrows A t K
 
   good-leaf-without : (l : Leaf) → GoodLeaf (without-p0 P) l ≡ GoodLeaf P l
   unfolding GoodLeaf
   good-leaf-without (short t) = refl
+  good-leaf-without (crowd t) = refl
   good-leaf-without (stuck U) = λ i. U < count-without (P .units) i
   good-leaf-without (price q s) = refl
 
@@ -156,11 +164,16 @@ module _ (P : Instance) where
 
   pub available-without : (A : Above) (t : ℕ) → available (without-p0 P) A t ≡ available P A t
   unfolding available
-  available-without A t = units-available-without (P .units) (A .marks) t
+  available-without A t = ap (summed (A .most t)) (usable-without (P .units) (A .marks) t)
+
+  crowded-without : (A : Above) (t : ℕ) → Crowded (without-p0 P) A t ≡ Crowded P A t
+  crowded-without A t =
+      λ i. AboveMost (fixed-on-without (P .units) (A .marks) t i) (A .most t) ⊎ (length (usable-without (P .units) (A .marks) t i) < A .least t)
 
   leaf-holds-without : (A : Above) (l : Leaf) → LeafHolds (without-p0 P) A l ≡ LeafHolds P A l
   unfolding LeafHolds
   leaf-holds-without A (short t) = λ i. (t < P .periods) × (available-without A t i < P .demand at t + P .spare at t)
+  leaf-holds-without A (crowd t) = λ i. (t < P .periods) × crowded-without A t i
   leaf-holds-without A (stuck U) = λ i. T (stuck-at-without (P .periods) (P .units) (A .marks) U i)
   leaf-holds-without A (price q s) = λ i. T (not (any-stuck-without (P .periods) (P .units) (A .marks) i))
 

@@ -12,7 +12,7 @@ use Rattle.model.specs.Rules.{output, capacity, MeetsPrinted, Meets}
 use Rattle.model.specs.Cost.{row-cost, cost}
 use Rattle.model.specs.Above.{root, status}
 use Rattle.model.specs.Breach.{Breach, first-breach}
-use Rattle.model.specs.Leaf.{units-available, available, rows-of, is-stuck, revenue, value, unit-least, units-least, requirement, leaf-value}
+use Rattle.model.specs.Leaf.{usable, available, rows-of, is-stuck, revenue, value, unit-least, units-least, requirement, leaf-value}
 use Rattle.model.specs.declared.figures.Bound.the-variants.{Never as never, Number as number}
 use Rattle.model.specs.Tree.{short, stuck, price, Tree, leaf, fork, GoodLeaf, LeafHolds, leaf-bound, Limits, Holds, bound}
 use Rattle.model.specs.Broken.{Broken, Lower}
@@ -70,7 +70,7 @@ unfolding Limits GoodLeaf
 priced-limits = ((lit< tt, lit< tt, refl), lit≤ tt, lit< tt, ((refl, ((lit≤ tt, lit≤ tt), tt)), (refl, ((lit≤ tt, lit≤ tt), tt))))
 
 priced-holds : Holds free-to-stop root (fork (status 0 0) (leaf (short 0)) priced)
-unfolding Holds LeafHolds available units-available is-stuck
+unfolding Holds LeafHolds available usable is-stuck
 priced-holds = ((lit< tt, lit< tt), tt)
 
 priced-bound : bound free-to-stop root (fork (status 0 0) (leaf (short 0)) priced) ≡ number (pos 5)
@@ -99,7 +99,7 @@ two-leaf = one-leaf free-to-stop (fork (status 0 0) (leaf (short 0)) priced) pri
 -- ---- never
 
 short-holds : Holds too-much root (leaf (short 0))
-unfolding Holds LeafHolds available units-available
+unfolding Holds LeafHolds available usable
 short-holds = (lit< tt, lit< tt)
 
 short-bound : bound too-much root (leaf (short 0)) ≡ never

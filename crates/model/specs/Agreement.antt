@@ -1,15 +1,15 @@
--- When a schedule agrees with the statuses fixed above a node, when a row does, and what the leaves of a tree are.
+-- When a schedule agrees with what stands above a node, when a row agrees with its marks, and what the leaves of a tree are.
 use mathlib.Core.Path.{_≡_}
 use mathlib.Core.Bool.{Bool, true, false}
-use mathlib.Core.List.{List, []}
+use mathlib.Core.List.{List, [], _∷_}
 use mathlib.Core.Logic.{_⊎_, inl, inr}
-use Prim.Native.Nat.{ℕ, _<_}
-use lib.Dec.{T}
+use Prim.Native.Nat.{ℕ, _+_, _≤_, _<_}
+use lib.Dec.{T, ltb}
 use lib.ListN.{length, getD}
 use Rattle.model.specs.declared.generator.Generator.{Generator}
 use Rattle.model.specs.Instance.{Schedule, _at_}
-use Rattle.model.specs.Rules.{on, statuses, Within}
-use Rattle.model.specs.Above.{Mark, Marks, Above, Fork, status, side, allows, obeys}
+use Rattle.model.specs.Rules.{on, if-on, statuses, Within}
+use Rattle.model.specs.Above.{Mark, Marks, Above, Fork, status, count, side, AtMost, allows, obeys}
 use Rattle.model.specs.Tree.{Leaf, Tree, leaf, fork}
 
 -- unit u's output in period t, both counted from 0; 0 where there is none
@@ -20,9 +20,16 @@ out s u t = getD s u [] at t
 abbrev pub Follows : Marks → Schedule → Type 0
 Follows m s = (u t : ℕ) → T (allows (m u t) (on (out s u t)))
 
--- it agrees with all that stands above a node
-abbrev pub Agrees : Above → Schedule → Type 0
-Agrees A s = Follows (A .marks) s
+-- (23): how many units run in period t
+abbrev pub running : Schedule → ℕ → ℕ
+running [] t = 0
+running (r ∷ s) t = if-on (on (r at t)) 1 + running s t
+
+-- it agrees with all that stands above a node: the statuses, and in every period the lower count (27) and the upper (28)
+pub record Agrees (A : Above) (s : Schedule) : Type 0 where
+  pub follows : Follows (A .marks) s
+  pub enough : (t : ℕ) → A .least t ≤ running s t
+  pub few : (t : ℕ) → AtMost (running s t) (A .most t)
 
 -- a row over which a price leaf's least is taken: n whole outputs that obey (4), a run that obeys (5) to (10) and agrees with the marks
 pub record Candidate (n : ℕ) (g : Generator) (m : ℕ → Mark) (r : List ℕ) : Type 0 where
@@ -33,6 +40,7 @@ pub record Candidate (n : ℕ) (g : Generator) (m : ℕ → Mark) (r : List ℕ)
 -- the side of a fork on which a schedule lies: whether it is above the second tree
 abbrev pub takes : Fork → Schedule → Bool
 takes (status U t) s = on (out s U t)
+takes (count t K) s = ltb K (running s t)
 
 -- the leaves of a tree: those of a fork's first tree and those of its second
 abbrev pub LeafOf : Tree → Type 0

@@ -1,30 +1,59 @@
--- Document 01, Rules for a leaf: short, stuck, and the value of a price leaf.
+-- Document 01, Rules for a leaf, and document 02, [1]: short, crowd, stuck, and the value of a price leaf.
 use mathlib.Core.Bool.{Bool, true, false, not, cond, _&&_, _||_}
 use mathlib.Core.List.{List, [], _∷_, _++_, map}
-use Prim.Native.Nat.{ℕ, zero, suc, _+_, _*_, _-_}
+use mathlib.Core.Logic.{_⊎_}
+use mathlib.Core.Option.{Option, none, some}
+use Prim.Native.Nat.{ℕ, zero, suc, _+_, _*_, _-_, _<_}
 use lib.IntN.{ℤ, pos, _+ℤ_, _-ℤ_}
+use lib.ListN.{length}
 use lib.Signed.{leZ}
 use Rattle.model.specs.declared.generator.Generator.{Generator}
 use Rattle.model.specs.Instance.{Instance, _at_, sum}
 use Rattle.model.specs.Rules.{on, if-on, statuses}
 use Rattle.model.specs.Cost.{row-cost}
-use Rattle.model.specs.Above.{Mark, free, fixed, Marks, Above, rest, obeys}
+use Rattle.model.specs.Above.{Mark, free, fixed, Marks, Above, rest, obeys, AboveMost}
+use Rattle.model.specs.Largest.{total, largest}
 
 -- ---- short
 
-abbrev pub unless-off : Mark → ℕ → ℕ
-unless-off free x = x
-unless-off (fixed true) x = x
-unless-off (fixed false) x = 0
+-- x before the others, unless it is a unit's that is fixed off
+abbrev pub unless-off : Mark → ℕ → List ℕ → List ℕ
+unless-off free x l = x ∷ l
+unless-off (fixed true) x l = x ∷ l
+unless-off (fixed false) x l = l
 
--- the sum of the pU of all units that are free or fixed on in period t
-unfoldable pub units-available : List Generator → Marks → ℕ → ℕ
-units-available [] m t = 0
-units-available (g ∷ gs) m t = unless-off (m 0 t) (g .pU) + units-available gs (rest m) t
+-- the pU of the units not fixed off in period t, by unit number
+unfoldable pub usable : List Generator → Marks → ℕ → List ℕ
+usable [] m t = []
+usable (g ∷ gs) m t = unless-off (m 0 t) (g .pU) (usable gs (rest m) t)
 
--- what may be on in period t, with A above
+-- all of them, or the largest K where an upper count K stands
+abbrev pub summed : Option ℕ → List ℕ → ℕ
+summed none l = total l
+summed (some K) l = largest K l
+
+-- what can be on in period t, with A above
 unfoldable pub available : Instance → Above → ℕ → ℕ
-available P A t = units-available (P .units) (A .marks) t
+available P A t = summed (A .most t) (usable (P .units) (A .marks) t)
+
+-- ---- crowd
+
+abbrev pub if-fixed-on : Mark → ℕ
+if-fixed-on free = 0
+if-fixed-on (fixed true) = 1
+if-fixed-on (fixed false) = 0
+
+-- how many units are fixed on in period t, and how many are not fixed off
+unfoldable pub fixed-on : List Generator → Marks → ℕ → ℕ
+fixed-on [] m t = 0
+fixed-on (g ∷ gs) m t = if-fixed-on (m 0 t) + fixed-on gs (rest m) t
+
+abbrev pub not-off : List Generator → Marks → ℕ → ℕ
+not-off gs m t = length (usable gs m t)
+
+-- more are fixed on than the upper count, or fewer not fixed off than the lower
+abbrev pub Crowded : Instance → Above → ℕ → Type 0
+Crowded P A t = AboveMost (fixed-on (P .units) (A .marks) t) (A .most t) ⊎ (not-off (P .units) (A .marks) t < A .least t)
 
 -- ---- all runs of statuses, all rows of outputs
 

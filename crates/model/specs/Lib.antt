@@ -7,6 +7,7 @@ pub mod Cost
 pub mod Breach
 pub mod Broken
 pub mod Above
+pub mod Largest
 pub mod Leaf
 pub mod Walk
 pub mod Prices
@@ -14,7 +15,9 @@ pub mod Table
 pub mod Figures
 pub mod Tree
 pub mod Agreement
+pub mod Possible
 pub mod Best
 pub mod Unread
 pub mod Examples
 pub mod TreeExamples
+pub mod CountExamples

@@ -1,14 +1,14 @@
--- Document 01, Texts and Rules for a leaf: trees, their limits, their leaves' rules, their bound and counts.
+-- Document 01, Texts and Rules for a leaf, and document 02, [1]: trees, their limits, their leaves' rules, their bound and counts.
 use mathlib.Core.Path.{_≡_}
 use mathlib.Core.Bool.{true, false, not}
 use mathlib.Core.List.{List}
-use Prim.Native.Nat.{ℕ, suc, _+_, _≤_, _<_, max}
+use Prim.Native.Nat.{ℕ, suc, _+_, _-_, _≤_, _<_, max}
 use lib.Dec.{T}
 use lib.ListN.{length}
 use Rattle.model.specs.Instance.{Instance, _at_}
 use Rattle.model.specs.Ranges.{All, GoodPrice}
-use Rattle.model.specs.Above.{free, Above, root, Fork, status, side}
-use Rattle.model.specs.Leaf.{available, stuck-at, any-stuck, leaf-value}
+use Rattle.model.specs.Above.{free, Above, root, Fork, status, count, side, BelowMost}
+use Rattle.model.specs.Leaf.{available, Crowded, stuck-at, any-stuck, leaf-value}
 use Rattle.model.specs.declared.figures.Bound.{Bound}
 use Rattle.model.specs.declared.figures.Bound.the-variants.{Never as never, Number as number}
 use Rattle.model.specs.declared.figures.TreeFigures.{TreeFigures}
@@ -17,6 +17,7 @@ use Rattle.model.specs.Figures.{lower, tree-gives}
 -- units and periods count from 0; a price leaf has a price multiplier and a reserve multiplier for each period
 pub data Leaf : Type 0 where
   short : ℕ → Leaf
+  crowd : ℕ → Leaf
   stuck : ℕ → Leaf
   price : List ℕ → List ℕ → Leaf
 
@@ -27,9 +28,14 @@ pub data Tree : Type 0 where
 
 -- ---- a fork, and a leaf, with A above it
 
--- the unit and the period in range, and the status not split above (31)
+-- K is not below the lower count that stands for period t, and below the upper (37)
+abbrev pub Narrows : Above → ℕ → ℕ → Type 0
+Narrows A t K = (A .least t ≤ K) × BelowMost K (A .most t)
+
+-- the unit and the period in range, and the status not split above (31); the period from 1 to T and the count from 0 to I - 1, and the count narrower
 abbrev pub GoodFork : Instance → Above → Fork → Type 0
 GoodFork P A (status U t) = (U < length (P .units)) × (t < P .periods) × (A .marks U t ≡ free)
+GoodFork P A (count t K) = (t < P .periods) × (K ≤ length (P .units) - 1) × Narrows A t K
 
 -- T multipliers in range
 abbrev pub Multipliers : Instance → List ℕ → Type 0
@@ -38,18 +44,21 @@ Multipliers P l = (length l ≡ P .periods) × All GoodPrice l
 -- the period, the unit or the multipliers in range
 unfoldable pub GoodLeaf : Instance → Leaf → Type 0
 GoodLeaf P (short t) = t < P .periods
+GoodLeaf P (crowd t) = t < P .periods
 GoodLeaf P (stuck U) = U < length (P .units)
 GoodLeaf P (price q s) = Multipliers P q × Multipliers P s
 
--- the leaf's rule (33, 34, 35)
+-- the leaf's rule (33, 36, 34, 35)
 unfoldable pub LeafHolds : Instance → Above → Leaf → Type 0
 LeafHolds P A (short t) = (t < P .periods) × (available P A t < P .demand at t + P .spare at t)
+LeafHolds P A (crowd t) = (t < P .periods) × Crowded P A t
 LeafHolds P A (stuck U) = T (stuck-at (P .periods) (P .units) (A .marks) U)
 LeafHolds P A (price q s) = T (not (any-stuck (P .periods) (P .units) (A .marks)))
 
 -- a price leaf's value; never, of any other
 unfoldable pub leaf-bound : Instance → Above → Leaf → Bound
 leaf-bound P A (short t) = never
+leaf-bound P A (crowd t) = never
 leaf-bound P A (stuck U) = never
 leaf-bound P A (price q s) = number (leaf-value P (A .marks) (λ t. q at t) (λ t. s at t))
 

@@ -10,7 +10,7 @@ use lib.ListN.{getD, replicate}
 use Rattle.model.specs.Instance.{Instance, _at_}
 use Rattle.model.specs.Cost.{row-cost}
 use Rattle.model.specs.Above.{Mark, free, fixed, root, status, side}
-use Rattle.model.specs.Leaf.{units-available, available, rows-of, is-stuck, revenue, value, unit-least, units-least, requirement, leaf-value}
+use Rattle.model.specs.Leaf.{usable, available, rows-of, is-stuck, revenue, value, unit-least, units-least, requirement, leaf-value}
 use Rattle.model.specs.declared.figures.Bound.the-variants.{Never as never, Number as number}
 use Rattle.model.specs.Tree.{short, stuck, price, Tree, leaf, fork, GoodLeaf, LeafHolds, leaf-bound, Limits, Holds, bound, splits, leaves, depth}
 use Rattle.model.specs.Best.{higher, FirstLeast}
@@ -21,12 +21,12 @@ use Rattle.model.specs.Examples.{line, with-spare, example, timed, squar
 -- in period 2, nothing fixed, unit 2 fixed off, fixed on; and in period 1 with unit 2 off in period 2: a free unit counts
 short-sums : (map (λ A. available example A 1) (root ∷ side (status 1 1) false root ∷ side (status 1 1) true root ∷ []) ≡ 130 ∷ 80 ∷ 130 ∷ [])
     × (available example (side (status 1 1) false root) 0 ≡ 130)
-unfolding available units-available
+unfolding available usable
 short-sums = (refl, refl)
 
 -- document 01, Specimens: a lone `short=2` does not hold, nor one with 130 to be had and D + R = 130
 not-short : (LeafHolds example root (short 1) → ⊥) × (LeafHolds (with-spare 30) root (short 1) → ⊥)
-unfolding LeafHolds available units-available
+unfolding LeafHolds available usable
 not-short = ((λ h. lt→ltb 130 110 (h .1)), (λ h. lt→ltb 130 130 (h .1)))
 
 -- TD 3 and Tini -1: nothing fixed, on in period 2, on in period 3, off in all
@@ -125,7 +125,7 @@ unfolding bound leaf-bound leaf-value units-least unit-least value revenue requi
 specimen-bounds = refl
 
 tree-holds : Holds example root tree
-unfolding Holds LeafHolds available units-available is-stuck
+unfolding Holds LeafHolds available usable is-stuck
 tree-holds = ((lit< tt, lit< tt), tt)
 
 -- the smallest leaf may be the last or the first, and below 0; without a price leaf the bound is never

@@ -3,7 +3,7 @@ use Prim.Native.Nat.{ℕ, _+_}
 use native.Mathlib.Omega.{arith}
 use mathlib.Core.Path.{_≡_, refl, sym, ap, subst, _∙_}
 use mathlib.Core.Bool.{Bool}
-use mathlib.Core.List.{List, [], _∷_, _++_}
+use mathlib.Core.List.{List, _∷_, _++_}
 use mathlib.Core.Logic.{_↔_}
 use lib.ListN.{length}
 use Rattle.model.specs.declared.generator.Generator.{Generator}
@@ -12,6 +12,7 @@ use Rattle.model.specs.Ranges.{InRange, Ordered, WellFormed}
 use Rattle.text.specs.Lines.{Line, ended, due, later, lines-of, end-problem}
 use Rattle.text.specs.Forms.{Form}
 use Rattle.text.specs.LineRefused.{Renders, InRanges, Unfit, shows-none, miscounted, out-of-range, Beginning, Refuses, at-numbers, at-last, behind-last}
+use Rattle.text.proofs.WhichLine.{same-cut}
 use Rattle.problem.specs.Units.{unit-numbers, generator, unit-line, unit-lows, unit-highs, unit-form, unit-of}
 use Rattle.problem.specs.Rendering.{lines-after}
 use Rattle.problem.specs.Refusals.{FormAt, Breaks, unfit, disordered, RefusedAt, InLimits}
@@ -85,12 +86,6 @@ module _ (P : Instance) (k : ℕ) (F : FormAt P k unit-form) where
 
 -- ---- a text, whatever stands after the line
 
-same-left : (a b c d : List Line) → length a ≡ length b → a ++ c ≡ b ++ d → c ≡ d
-same-left [] [] c d e q = q
-same-left [] (y ∷ b) c d e q = absurd (omega (arith, e))
-same-left (x ∷ a) [] c d e q = absurd (omega (arith, e))
-same-left (x ∷ a) (y ∷ b) c d e q = same-left a b c d (omega (arith, e)) (let r : a ++ c ≡ b ++ d = cc in r)
-
 module _ (text : List ℕ) (before rest : List Line) (x : Line) (lines : later (lines-of text) ≡ before ++ (x ∷ rest)) (P : Instance)
     (b : Beginning lines-after InLimits before P) where
   pub line-refused : (n : ℕ) → Breaks P (length before) x n → RefusedAt text n (2 + length before)
@@ -101,7 +96,7 @@ module _ (text : List ℕ) (before rest : List Line) (x : Line) (lines : later (
       → RefusedAt text 15 (2 + length before) ↔ (Ordered g → ⊥)
   fifteen-is g e R F = (
     λ r. ordered-not (r .value) (length (r .before)) (r .left)
-        (same-left (r .before) before (r .left) (x ∷ rest) (omega (arith, r .place)) (sym (r .parts) ∙ lines)) 15 (r .refuses) refl,
+        (same-cut (r .before) before (r .left) (x ∷ rest) (omega (arith, r .place)) (sym (r .parts) ∙ lines) .1) 15 (r .refuses) refl,
     λ n. line-refused 15 (disordered F g e R n),
   )
     where

@@ -26,3 +26,16 @@ short-leaf = refl
 no-problem : refusal-of 42 1 1 1 ≡ record { number = 42; line = 0; unit = 0; period = 0 }
 unfolding refusal-of carries-line carries-unit carries-period
 no-problem = refl
+
+-- document 02, [1]: a crowd without a count, 36, and a second count that is no narrower, 37, each at its line; no number after them carries one
+crowd-leaf : refusal-of 36 3 1 1 ≡ record { number = 36; line = 3; unit = 0; period = 0 }
+unfolding refusal-of carries-line carries-unit carries-period
+crowd-leaf = refl
+
+count-line : refusal-of 37 4 1 1 ≡ record { number = 37; line = 4; unit = 0; period = 0 }
+unfolding refusal-of carries-line carries-unit carries-period
+count-line = refl
+
+beyond : refusal-of 38 4 1 1 ≡ record { number = 38; line = 0; unit = 0; period = 0 }
+unfolding refusal-of carries-line carries-unit carries-period
+beyond = refl

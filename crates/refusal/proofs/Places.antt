@@ -32,14 +32,14 @@ module _ (n line unit period : ℕ) where
   line-low h k =
       placed true false false (simp (inside 11 15 n (omega arith) (omega arith))) (simp (under 21 25 n (omega arith))) (under 21 25 n (omega arith))
 
-  pub line-high : 31 ≤ n → n < 36 → record { number = n; line = line; unit = 0; period = 0 } ≡ refusal-of n line unit period
+  pub line-high : 31 ≤ n → n < 38 → record { number = n; line = line; unit = 0; period = 0 } ≡ refusal-of n line unit period
   unfolding carries-line carries-unit carries-period
   line-high h k =
-      placed true false false (simp (over 11 15 n (omega arith), inside 31 35 n (omega arith) (omega arith))) (simp (over 21 25 n (omega arith))) (over 21 25 n (omega arith))
+      placed true false false (simp (over 11 15 n (omega arith), inside 31 37 n (omega arith) (omega arith))) (simp (over 21 25 n (omega arith))) (over 21 25 n (omega arith))
 
   no-line : 16 ≤ n → n < 31 → carries-line n ≡ false
   unfolding carries-line
-  no-line h k = simp (over 11 15 n (omega arith), under 31 35 n (omega arith))
+  no-line h k = simp (over 11 15 n (omega arith), under 31 37 n (omega arith))
 
   pub period-only : 22 ≤ n → n < 24 → record { number = n; line = 0; unit = 0; period = period } ≡ refusal-of n line unit period
   unfolding carries-unit carries-period
@@ -65,7 +65,7 @@ module _ (n line unit period : ℕ) where
 
   pub nothing-low : n < 11 → record { number = n; line = 0; unit = 0; period = 0 } ≡ refusal-of n line unit period
   unfolding carries-line
-  nothing-low h = nothing (simp (under 11 15 n h, under 31 35 n (omega arith))) (under 21 25 n (omega arith))
+  nothing-low h = nothing (simp (under 11 15 n h, under 31 37 n (omega arith))) (under 21 25 n (omega arith))
 
   pub nothing-between : 16 ≤ n → n < 21 → record { number = n; line = 0; unit = 0; period = 0 } ≡ refusal-of n line unit period
   nothing-between h k = nothing (no-line h (omega arith)) (under 21 25 n (omega arith))
@@ -73,9 +73,9 @@ module _ (n line unit period : ℕ) where
   pub nothing-after : 26 ≤ n → n < 31 → record { number = n; line = 0; unit = 0; period = 0 } ≡ refusal-of n line unit period
   nothing-after h k = nothing (no-line (omega arith) k) (over 21 25 n (omega arith))
 
-  pub nothing-high : 36 ≤ n → record { number = n; line = 0; unit = 0; period = 0 } ≡ refusal-of n line unit period
+  pub nothing-high : 38 ≤ n → record { number = n; line = 0; unit = 0; period = 0 } ≡ refusal-of n line unit period
   unfolding carries-line
-  nothing-high h = nothing (simp (over 11 15 n (omega arith), over 31 35 n (omega arith))) (over 21 25 n (omega arith))
+  nothing-high h = nothing (simp (over 11 15 n (omega arith), over 31 37 n (omega arith))) (over 21 25 n (omega arith))
 
 -- where a number carries a line and nothing else is given
 pub line-only : (n line : ℕ) → carries-line n ≡ true → refusal-of n line 0 0 ≡ line-refusal n line

@@ -4,14 +4,14 @@ use mathlib.Core.Bool.{Bool, true, false, not, _&&_, _||_}
 use lib.Dec.{leb}
 use Rattle.refusal.specs.declared.Refusal.{Refusal}
 
--- ---- document 01, Numbers that come from the text: what each number carries
+-- ---- document 01, Numbers that come from the text, and document 02, [1]: what each number carries
 
 abbrev pub between : ℕ → ℕ → ℕ → Bool
 between lo n hi = leb lo n && leb n hi
 
--- 11 to 15 and 31 to 35
+-- 11 to 15 and 31 to 37
 unfoldable pub carries-line : ℕ → Bool
-carries-line n = between 11 n 15 || between 31 n 35
+carries-line n = between 11 n 15 || between 31 n 37
 
 -- 21 to 25
 unfoldable pub carries-period : ℕ → Bool

@@ -15,7 +15,7 @@ pub fn refuse(number: u64, line: usize, unit: usize, period: usize) -> Refusal
     ensures { λ r. ⌜ r ≡ refusal-of number line unit period ⌝ }
 {
     match number {
-        11..=15 | 31..=35 => Refusal {
+        11..=15 | 31..=37 => Refusal {
             number,
             line,
             unit: 0,

@@ -9,6 +9,7 @@ pub mod Rows
 pub mod Schedules
 pub mod Horizon
 pub mod Leaves
+pub mod Counts
 -- the costs, (13) to (20), and (1)
 pub mod Downtime
 pub mod Charges

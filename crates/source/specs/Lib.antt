@@ -4,3 +4,4 @@ pub mod Midnight
 pub mod Sentences
 pub mod Least
 pub mod Leaves
+pub mod Counts

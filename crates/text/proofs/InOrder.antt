@@ -5,9 +5,9 @@ use Rattle.text.specs.Lines.{Line}
 use Rattle.text.specs.Forms.{Form, form-tests, word-tests, nothing-tests}
 use Rattle.text.specs.Tests.{Test, _if_}
 
--- after those of the form: 15, and 31 to 35
+-- after those of the form: 15, and 31 to 37
 abbrev pub after-form : List ℕ
-after-form = 15 ∷ 31 ∷ 32 ∷ 33 ∷ 34 ∷ 35 ∷ []
+after-form = 15 ∷ 31 ∷ 32 ∷ 33 ∷ 34 ∷ 35 ∷ 36 ∷ 37 ∷ []
 
 abbrev pub paper-order : List ℕ
 paper-order = 12 ∷ 14 ∷ 13 ∷ after-form

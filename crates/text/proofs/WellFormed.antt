@@ -11,7 +11,7 @@ use Rattle.text.specs.Tests.{Test, _if_, None, StopsAt, AllPassed}
 use Rattle.text.specs.WellFormed.{of-form}
 use Rattle.text.proofs.Courses as courses
 
--- of the tests of a line those of 12 to 15, 31 and 32
+-- of the tests of a line those of 12 to 15, 31, 32 and 37
 abbrev pub form-only : List Test → List Test
 form-only [] = []
 form-only (n if b ∷ ts) = cond (of-form n) (n if b ∷ form-only ts) (form-only ts)

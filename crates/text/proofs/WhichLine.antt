@@ -3,7 +3,7 @@
 -- is refused as LineRefused.antt says; and with the refused line the lines begin no text.
 use Prim.Native.Nat.{ℕ, suc, _+_, _<_}
 use native.Mathlib.Omega.{arith}
-use mathlib.Core.Path.{_≡_, refl, sym, subst, _∙_}
+use mathlib.Core.Path.{_≡_, refl, sym, ap₂, subst, _∙_}
 use mathlib.Core.Bool.{Bool}
 use mathlib.Core.List.{List, [], _∷_, _++_}
 use mathlib.Core.Logic.{_↔_, _⊎_}
@@ -14,6 +14,17 @@ use Rattle.text.specs.Forms.{Form, form-tests, word-tests, nothing-tests
 use Rattle.text.specs.Tests.{Test, _if_, FirstTrue, this, after, None, Passed, none-yet, one-more, tests-before, StopsAt}
 use Rattle.text.specs.LineRefused.{Unfit, Beginning, Refuses, at-numbers, at-last, behind-last, LineRefused}
 use Rattle.text.proofs.Unfit.{Fits, numbers-first, word-first, nothing-first}
+
+-- two ways to cut lines after as many are one
+pub same-cut : (a b c d : List Line) → length a ≡ length b → a ++ c ≡ b ++ d → (a ≡ b) × (c ≡ d)
+same-cut [] [] c d e q = (refl, q)
+same-cut [] (y ∷ b) c d e q = absurd (omega (arith, e))
+same-cut (x ∷ a) [] c d e q = absurd (omega (arith, e))
+same-cut (x ∷ a) (y ∷ b) c d e q =
+    let heads : x ≡ y = cc in
+    let tails : a ++ c ≡ b ++ d = cc in
+    let r = same-cut a b c d (omega (arith, e)) tails in
+    (ap₂ _∷_ heads (r .0), r .1)
 
 none-first : (n : ℕ) (ts : List Test) → None ts → FirstTrue n ts → ⊥
 none-first n (m if b ∷ ts) h (this e) = let k = h .0 in let z : _≡_ {A = ℕ} 0 1 = cc in omega arith
@@ -85,6 +96,24 @@ module _ {S R : Type 0} (tests : S → Line → List Test) (next-due : S → Lin
         where
           refuted : {s u : S} → Passed tests next-due s (x ∷ []) u → FirstTrue n (tests s x) → ⊥
           refuted {s} (one-more h k p) f = none-first n (tests s x) h f
+
+      -- where lines that begin v stand before, it is the number of v's next line that refuses the line after them, and no other value's
+      pub refused-there : (v : Value) (before left : List Line) → ls ≡ before ++ left → Beginning lines InLimits before v → m ≡ 2 + length before
+          → LineRefused lines last InLimits Breaks n m ls ↔ Refuses lines last InLimits Breaks v (length before) left n
+      refused-there v before left parts b place = (
+        forth,
+        λ r. record { value = v; before = before; left = left; parts = parts; begins = b; place = place; refuses = r },
+      )
+        where
+          forth : LineRefused lines last InLimits Breaks n m ls → Refuses lines last InLimits Breaks v (length before) left n
+          forth r =
+              let t = by-tests r in
+              let cut = same-cut (t .before) before (t .rest) left (omega (arith, t .place, place)) (sym (t .parts) ∙ parts) in
+              let p = F .passes v before b in
+              let passed = subst (λ (l : List Line). Passed tests next-due start l (t .stands)) (cut .0) (t .passed) in
+              let first = subst (λ (l : List Line). FirstTrue n (tests-before tests next-due end (t .stands) l)) (cut .1) (t .first) in
+              F .refuses v (length before) (p .0) (p .1) left n .0
+              (subst (λ (s : S). FirstTrue n (tests-before tests next-due end s left)) (passed-once before passed (p .2)) first)
 
     -- ---- the number where line k of v is due, by what is due there: a line of numbers, which may have other tests; the last line; nothing
 

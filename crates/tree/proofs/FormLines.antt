@@ -10,8 +10,8 @@ use lib.ListN.{length}
 use borrow.Author.Tests.{ltb-false, not-false}
 use Rattle.model.specs.Instance.{Instance, _at_}
 use Rattle.model.specs.Ranges.{GoodWriter}
-use Rattle.model.specs.Above.{Above, root, Fork, status, side}
-use Rattle.model.specs.Tree.{Leaf, short, stuck, price, Tree, leaf, fork, GoodFork, GoodLeaf, Limits}
+use Rattle.model.specs.Above.{Above, root, Fork, status, count, side}
+use Rattle.model.specs.Tree.{Leaf, short, crowd, stuck, price, Tree, leaf, fork, GoodFork, GoodLeaf, Limits}
 use Rattle.text.specs.Lines.{Line, ended, is-line, end-tree}
 use Rattle.text.specs.Course.{good}
 use Rattle.text.specs.Forms.{numbers-of}
@@ -25,16 +25,16 @@ use Rattle.text.proofs.Tests.{good-none}
 use Rattle.text.proofs.Verdicts.{form-passes}
 use Rattle.text.proofs.WellFormed.{form-only, none-of-form}
 use Rattle.text.proofs.Words.{word-is}
-use Rattle.tree.specs.Rendering.{short-key, stuck-key, price-key, reserve-key, fork-line, leaf-lines, node-lines}
+use Rattle.tree.specs.Rendering.{short-key, crowd-key, stuck-key, price-key, reserve-key, fork-line, leaf-lines, node-lines}
 use Rattle.tree.specs.Places.{Part, priced}
-use Rattle.tree.specs.NodeLines.{line-kind-of, named, kind-tests, node-tests, leaf-tests}
-use Rattle.tree.specs.Refusals.{LineKind, split-line, short-line, stuck-line, price-line, node-form, part-form}
+use Rattle.tree.specs.NodeLines.{line-kind-of, named, counted, kind-tests, node-tests, leaf-tests}
+use Rattle.tree.specs.Refusals.{LineKind, split-line, count-line, short-line, crowd-line, stuck-line, price-line, node-form, part-form}
 use Rattle.tree.specs.Course.{with-split, Pending, pending, Due, writer-due, nodes-due, part-due, nothing-due, tests, after-fork, after-leaf, after-node, after-part, next-due, judge, end}
 use Rattle.tree.specs.Acceptance.{Bounded}
 use Rattle.tree.proofs.Bounds.{add}
 use Rattle.tree.proofs.Lines.{multipliers-fit, was-multipliers, one-fits, was-one}
 use Rattle.tree.proofs.Written.{map-both}
-use Rattle.tree.proofs.NodeLines.{free-mark, was-split, part-lines, GoodPart, fork-good, price-good}
+use Rattle.tree.proofs.NodeLines.{free-mark, narrows-is, was-split, was-count, part-lines, GoodPart, fork-good, price-good}
 use Rattle.tree.proofs.Correct.{forest-lines}
 
 -- these lines pass the tests of the form, each at its place
@@ -116,10 +116,21 @@ module _ (P : Instance) (F : Bounded) (p : Pending) (ps : List Pending) (x : Lin
       let r = was-split P x (g .0) in
       fork-before (status (named (node-form P split-line) x 0) (named (node-form P split-line) x 1)) (r .line) (r .unit, r .period, free-mark _ (g .1 .0))
       (ltb-false 63 (p .depth) (g .1 .1 .0)) w
+  node-before count-line n w =
+      let f = node-form P count-line in
+      let g = form-passes f x (kind-tests P (p .above) (p .depth) count-line x) .0 n in
+      let r = was-count P x (g .0) in
+      fork-before (count (named f x 0) (counted f x)) (r .line)
+      (r .period, r .few, narrows-is (p .above) (named f x 0) (counted f x) .0 (not-false _ (g .1 .1 .0)))
+      (ltb-false 63 (p .depth) (g .1 .0)) w
   node-before short-line n w =
       let r = was-one short-key (P .periods) x (form-passes (node-form P short-line) x [] .0 n .0) in
       let t = named (node-form P short-line) x 0 in
       leaf-before (short t) (plain-line short-key (suc t ∷ [])) [] ls refl (r .line) refl (r .range) w
+  node-before crowd-line n w =
+      let r = was-one crowd-key (P .periods) x (form-passes (node-form P crowd-line) x [] .0 n .0) in
+      let t = named (node-form P crowd-line) x 0 in
+      leaf-before (crowd t) (plain-line crowd-key (suc t ∷ [])) [] ls refl (r .line) refl (r .range) w
   node-before stuck-line n w =
       let r = was-one stuck-key (length (P .units)) x (form-passes (node-form P stuck-line) x [] .0 n .0) in
       let U = named (node-form P stuck-line) x 0 in
@@ -190,6 +201,11 @@ module _ (P : Instance) (some : 1 ≤ P .periods) where
       let w = one-fits short-key (P .periods) t g in
       one-more (form-passes f (ended (plain-line short-key (suc t ∷ []))) [] .1 (rendered-good f false (suc t ∷ []) w, tt))
       (ap (λ (vs : List ℕ). after-leaf P F A ps (short (pred (vs at 0)))) (rendered-numbers f false (suc t ∷ []) w)) none-yet
+  leaf-passes A d F ps (crowd t) g =
+      let f = node-form P crowd-line in
+      let w = one-fits crowd-key (P .periods) t g in
+      one-more (form-passes f (ended (plain-line crowd-key (suc t ∷ []))) [] .1 (rendered-good f false (suc t ∷ []) w, tt))
+      (ap (λ (vs : List ℕ). after-leaf P F A ps (crowd (pred (vs at 0)))) (rendered-numbers f false (suc t ∷ []) w)) none-yet
   leaf-passes A d F ps (stuck U) g =
       let f = node-form P stuck-line in
       let w = one-fits stuck-key (length (P .units)) U g in

@@ -17,7 +17,7 @@ use Rattle.text.proofs.Tests.{Every, first-every}
 use Rattle.text.proofs.WellFormed.{form-only}
 use Rattle.tree.specs.Places.{Part, priced}
 use Rattle.tree.specs.NodeLines.{line-kind-of, kind-tests, node-tests, leaf-tests, part-tests}
-use Rattle.tree.specs.Refusals.{LineKind, split-line, short-line, stuck-line, price-line, node-form, part-form}
+use Rattle.tree.specs.Refusals.{LineKind, split-line, count-line, short-line, crowd-line, stuck-line, price-line, node-form, part-form}
 use Rattle.tree.specs.Course.{Due, writer-due, nodes-due, part-due, nothing-due, tests, next-due, end}
 use Rattle.tree.specs.Acceptance.{Bounded}
 
@@ -58,7 +58,9 @@ module _ (P : Instance) (A : Above) (x : Line) (n : ℕ) where
   kind-first : (d : ℕ) (k : LineKind) → FirstTrue n (form-only (node-tests P A d k x)) ↔ ((of-form n ≡ true) × FirstTrue n (node-tests P A d k x))
   unfolding kind-tests
   kind-first d split-line = first-of-form [] tt (node-tests P A d split-line x) (refl, (refl, (refl, (refl, (refl, tt))))) n
+  kind-first d count-line = first-of-form [] tt (node-tests P A d count-line x) (refl, (refl, (refl, (refl, (refl, tt))))) n
   kind-first d short-line = first-of-form (kind-tests P A d short-line x) (refl, tt) (form-tests (node-form P short-line) x []) (refl, (refl, (refl, tt))) n
+  kind-first d crowd-line = first-of-form (kind-tests P A d crowd-line x) (refl, tt) (form-tests (node-form P crowd-line) x []) (refl, (refl, (refl, tt))) n
   kind-first d stuck-line = first-of-form (kind-tests P A d stuck-line x) (refl, tt) (form-tests (node-form P stuck-line) x []) (refl, (refl, (refl, tt))) n
   kind-first d price-line = first-of-form [] tt (node-tests P A d price-line x) (refl, (refl, (refl, tt))) n
 

@@ -8,14 +8,16 @@ use Rattle.text.specs.Writer.{writer-form}
 use Rattle.text.proofs.InOrder.{after-form, InTurn, no-more, taken, left-out, numbers, InOrder, form-in-order, word-in-order, nothing-in-order}
 use Rattle.tree.specs.Places.{Part, priced}
 use Rattle.tree.specs.NodeLines.{line-kind-of, kind-tests, leaf-tests}
-use Rattle.tree.specs.Refusals.{LineKind, split-line, short-line, stuck-line, price-line, node-form, part-form}
+use Rattle.tree.specs.Refusals.{LineKind, split-line, count-line, short-line, crowd-line, stuck-line, price-line, node-form, part-form}
 use Rattle.tree.specs.Course.{Due, writer-due, nodes-due, part-due, nothing-due, tests}
 
--- a node line by its kind: 31 and 32, 33, 34, or none
+-- a node line by its kind: 31 and 32, 32 and 37, 33, 36, 34, or none
 kind-in-turn : (P : Instance) (A : Above) (d : ℕ) (k : LineKind) (l : Line) → InTurn (numbers (kind-tests P A d k l)) after-form
 unfolding kind-tests
 kind-in-turn P A d split-line l = left-out (taken (taken no-more))
+kind-in-turn P A d count-line l = left-out (left-out (taken (left-out (left-out (left-out (left-out (taken no-more)))))))
 kind-in-turn P A d short-line l = left-out (left-out (left-out (taken no-more)))
+kind-in-turn P A d crowd-line l = left-out (left-out (left-out (left-out (left-out (left-out (taken no-more))))))
 kind-in-turn P A d stuck-line l = left-out (left-out (left-out (left-out (taken no-more))))
 kind-in-turn P A d price-line l = no-more
 

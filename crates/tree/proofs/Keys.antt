@@ -9,9 +9,9 @@ use lib.ListN.{drop}
 use borrow.Author.Tests.{not-true, ne-eqb}
 use Rattle.text.specs.Lines.{Line, missing, unended, ended, bytes-of, due, longer, cut-at, lines-of, line-at, one-line, begins}
 use Rattle.text.proofs.Cuts.{and-both}
-use Rattle.tree.specs.Rendering.{split-key, short-key, stuck-key}
+use Rattle.tree.specs.Rendering.{split-key, count-key, short-key, crowd-key, stuck-key}
 use Rattle.tree.specs.NodeLines.{node-keys, kind-among, line-kind-of}
-use Rattle.tree.specs.Refusals.{LineKind, split-line, short-line, stuck-line, price-line}
+use Rattle.tree.specs.Refusals.{LineKind, split-line, count-line, short-line, crowd-line, stuck-line, price-line}
 
 longer-bytes : (b : ℕ) (l : Line) → bytes-of (longer b l) ≡ b ∷ bytes-of l
 longer-bytes b missing = refl
@@ -42,20 +42,35 @@ among-due (k ∷ ks) t o = λ i. cond (begins-due (k .0) t (o .0) i) (k .1) (amo
 
 -- what `find_kind` answers at each return
 module _ (text : List ℕ) (here : ℕ) where
+  -- the text from there on begins with the key, or does not
+  abbrev pub Begins : List ℕ → Bool → Type 0
+  Begins key b = begins key (drop here text) ≡ b
+
+  abbrev pub Stands : LineKind → Type 0
+  Stands k = k ≡ line-kind-of (line-at text here)
+
   by-keys : line-kind-of (line-at text here) ≡ kind-among node-keys (drop here text)
   unfolding line-kind-of
-  by-keys = among-due node-keys (drop here text) (refl, (refl, (refl, tt)))
+  by-keys = among-due node-keys (drop here text) (refl, (refl, (refl, (refl, (refl, tt)))))
 
-  pub split-there : begins split-key (drop here text) ≡ true → split-line ≡ line-kind-of (line-at text here)
-  split-there e = sym (by-keys ∙ rw e refl)
+  pub split-there : Begins split-key true → Stands split-line
+  split-there a = sym (by-keys ∙ rw a refl)
 
-  module _ (e : begins split-key (drop here text) ≡ false) where
-    pub short-there : begins short-key (drop here text) ≡ true → short-line ≡ line-kind-of (line-at text here)
-    short-there f = sym (by-keys ∙ rw (e, f) refl)
+  module _ (a : Begins split-key false) where
+    pub count-there : Begins count-key true → Stands count-line
+    count-there b = sym (by-keys ∙ rw (a, b) refl)
 
-    module _ (f : begins short-key (drop here text) ≡ false) where
-      pub stuck-there : begins stuck-key (drop here text) ≡ true → stuck-line ≡ line-kind-of (line-at text here)
-      stuck-there g = sym (by-keys ∙ rw (e, f, g) refl)
+    module _ (b : Begins count-key false) where
+      pub short-there : Begins short-key true → Stands short-line
+      short-there c = sym (by-keys ∙ rw (a, b, c) refl)
 
-      pub price-there : begins stuck-key (drop here text) ≡ false → price-line ≡ line-kind-of (line-at text here)
-      price-there g = sym (by-keys ∙ rw (e, f, g) refl)
+      module _ (c : Begins short-key false) where
+        pub crowd-there : Begins crowd-key true → Stands crowd-line
+        crowd-there d = sym (by-keys ∙ rw (a, b, c, d) refl)
+
+        module _ (d : Begins crowd-key false) where
+          pub stuck-there : Begins stuck-key true → Stands stuck-line
+          stuck-there e = sym (by-keys ∙ rw (a, b, c, d, e) refl)
+
+          pub price-there : Begins stuck-key false → Stands price-line
+          price-there e = sym (by-keys ∙ rw (a, b, c, d, e) refl)

@@ -21,11 +21,14 @@ use Rattle.text.specs.declared.Verdict.the-variants.{Good}
 use Rattle.text.specs.Tests.{Test, _if_, found}
 use Rattle.text.proofs.Verdicts.{form-found}
 use Rattle.least.specs.declared.unit.Least.the-variants.{Stuck, Value}
-use Rattle.leaves.specs.LeafLeasts.{short-at, leaf-of}
+use Rattle.leaves.specs.LeafLeasts.{short-at, crowd-at, leaf-of}
 use Rattle.tree.specs.Rendering.{price-key, reserve-key}
 use Rattle.tree.specs.Places.{Part, priced}
 use Rattle.tree.specs.NodeLines.{line-kind-of, named, kind-tests, node-tests, leaf-tests}
-use Rattle.tree.specs.Refusals.{LineKind, split-line, short-line, stuck-line, price-line, node-form, part-form}
+use Rattle.tree.specs.Refusals.{LineKind, short-line, crowd-line, stuck-line, price-line, node-form, part-form}
+use Rattle.tree.specs.declared.leaf.LeafKind.{LeafKind}
+use Rattle.tree.specs.declared.leaf.LeafKind.the-variants as leaf
+use Rattle.tree.specs.Kinds.{leaf-kind}
 use Rattle.tree.specs.Course.{with-leaf, Pending, pending, nodes-due, part-due, tests, next-due, after-node, after-part, judge}
 use Rattle.tree.specs.Acceptance.{Bounded, bounded}
 use Rattle.tree.specs.ReadAnswers.{node-read, leaf-read}
@@ -73,6 +76,19 @@ module _ (P : Instance) (text : List ℕ) (here : ℕ) (A : Above) (d : ℕ) whe
     pub short-fails : false ≡ short-at P A t → AtNode P text here A d (λ F rest. refused 33)
     short-fails s = line-passed short-line e p (short-tests false s)
 
+  module _ (e : line-kind-of (line-at text here) ≡ crowd-line) (p : forms.good-line (node-form P crowd-line) (line-at text here) ≡ true) (t : ℕ)
+      (is : t ≡ named (node-form P crowd-line) (line-at text here) 0) where
+    crowd-tests : (b : Bool) → b ≡ crowd-at P A t → kind-tests P A d crowd-line (line-at text here) ≡ (36 if not b ∷ [])
+    unfolding kind-tests
+    crowd-tests b s = ap (λ (x : Bool). 36 if not x ∷ []) (sym (s ∙ ap (λ (x : ℕ). crowd-at P A x) is))
+
+    pub crowd-holds : true ≡ crowd-at P A t → AtNode P text here A d (λ F rest. good (nodes-due (with-leaf F never) rest))
+    unfolding after-node leaf-bound
+    crowd-holds s = line-passed crowd-line e p (crowd-tests true s)
+
+    pub crowd-fails : false ≡ crowd-at P A t → AtNode P text here A d (λ F rest. refused 36)
+    crowd-fails s = line-passed crowd-line e p (crowd-tests false s)
+
   -- a leaf that names the unit U
   module _ (e : line-kind-of (line-at text here) ≡ stuck-line) (p : forms.good-line (node-form P stuck-line) (line-at text here) ≡ true) (U : ℕ)
       (is : U ≡ named (node-form P stuck-line) (line-at text here) 0) where
@@ -97,26 +113,20 @@ module _ (P : Instance) (text : List ℕ) (here : ℕ) (A : Above) (d : ℕ) whe
 
 -- ---- a leaf's depth plays no part
 
-abbrev pub LeafKind : LineKind → Type 0
-LeafKind split-line = ⊥
-LeafKind short-line = Unit {0}
-LeafKind stuck-line = Unit {0}
-LeafKind price-line = Unit {0}
-
-pub leaf-anywhere : (P : Instance) (text : List ℕ) (here l : ℕ) (S : TreeFigures) (A : Above) (d : ℕ) (k : LineKind) → LeafKind k → line-kind-of (line-at text here) ≡ k
+pub leaf-anywhere : (P : Instance) (text : List ℕ) (here l : ℕ) (S : TreeFigures) (A : Above) (d : ℕ) (k : LeafKind) → line-kind-of (line-at text here) ≡ leaf-kind k
     → leaf-read P text here l S A ≡ node-read P text here l S A d
 unfolding node-read kind-tests after-node
-leaf-anywhere P text here l S A d k y e =
+leaf-anywhere P text here l S A d k e =
     read-same P text here l (nodes-due (bounded 0 S) (pending A 0 ∷ [])) refl (nodes-due (bounded 0 S) (pending A d ∷ [])) refl
-    (judge-by P text here A 0 k e (bounded 0 S) [] ∙ go k y ∙ sym (judge-by P text here A d k e (bounded 0 S) []))
+    (judge-by P text here A 0 (leaf-kind k) e (bounded 0 S) [] ∙ go k ∙ sym (judge-by P text here A d (leaf-kind k) e (bounded 0 S) []))
   where
-    go : (k : LineKind) → LeafKind k
-        → found (node-tests P A 0 k (line-at text here)) (after-node P (bounded 0 S) (pending A 0) [] k (line-at text here))
-        ≡ found (node-tests P A d k (line-at text here)) (after-node P (bounded 0 S) (pending A d) [] k (line-at text here))
-    go split-line y = absurd y
-    go short-line y = refl
-    go stuck-line y = refl
-    go price-line y = refl
+    go : (k : LeafKind)
+        → found (node-tests P A 0 (leaf-kind k) (line-at text here)) (after-node P (bounded 0 S) (pending A 0) [] (leaf-kind k) (line-at text here))
+        ≡ found (node-tests P A d (leaf-kind k) (line-at text here)) (after-node P (bounded 0 S) (pending A d) [] (leaf-kind k) (line-at text here))
+    go leaf.Short = refl
+    go leaf.Crowd = refl
+    go leaf.Stuck = refl
+    go leaf.Price = refl
 
 -- ---- where a later line of a leaf is due
 

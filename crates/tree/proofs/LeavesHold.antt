@@ -13,7 +13,9 @@ use Rattle.model.specs.Ranges.{GoodWriter}
 use Rattle.model.specs.Above.{Above, root, Fork, side}
 use Rattle.model.specs.Leaf.{available, stuck-at}
 use Rattle.model.specs.Figures.{no-figures}
-use Rattle.model.specs.Tree.{Leaf, short, stuck, price, Tree, leaf, fork, GoodLeaf, LeafHolds, Limits, Holds}
+use Rattle.model.specs.Tree.{Leaf, short, crowd, stuck, price, Tree, leaf, fork, GoodLeaf, LeafHolds, Limits, Holds}
+use Rattle.leaves.specs.LeafLeasts.{crowd-at}
+use Rattle.leaves.proofs.Crowds.{crowd-is}
 use Rattle.text.specs.Lines.{Line, ended, end-tree}
 use Rattle.text.specs.Course.{good}
 use Rattle.text.specs.Rendering.{plain-line}
@@ -22,10 +24,10 @@ use Rattle.text.specs.Tests.{None, one-more}
 use Rattle.text.proofs.Accepted.{rendered-numbers}
 use Rattle.text.proofs.Tests.{good-none}
 use Rattle.text.proofs.Verdicts.{form-passes}
-use Rattle.tree.specs.Rendering.{short-key, stuck-key, price-key, reserve-key, fork-line, leaf-lines, node-lines, lines-after}
+use Rattle.tree.specs.Rendering.{short-key, crowd-key, stuck-key, price-key, reserve-key, fork-line, leaf-lines, node-lines, lines-after}
 use Rattle.tree.specs.NodeLines.{line-kind-of, named, kind-tests, leaf-tests}
 use Rattle.tree.specs.Places.{priced, HoldsAmong}
-use Rattle.tree.specs.Refusals.{WrittenTree, short-line, stuck-line, node-form, part-form}
+use Rattle.tree.specs.Refusals.{WrittenTree, short-line, crowd-line, stuck-line, node-form, part-form}
 use Rattle.tree.specs.Course.{with-split, Pending, pending, Due, writer-due, nodes-due, part-due, tests, after-node, after-part, next-due, judge}
 use Rattle.tree.specs.Acceptance.{Bounded, bounded}
 use Rattle.tree.proofs.Lines.{one-fits}
@@ -47,6 +49,15 @@ module _ (P : Instance) where
         let v : i ≡ t = ap (λ (vs : List ℕ). pred (vs at 0)) (rendered-numbers f false (suc t ∷ []) (one-fits short-key (P .periods) t h)) ∙ omega arith in
         let g : not (ltb (available P A i) (P .demand at i + P .spare at i)) ≡ false = form-passes f l (kind-tests P A d short-line l) .0 n .1 .0 in
         (h, ltb-true _ _ (not-false _ (rw v at g)))
+
+    crowd-held : (t : ℕ) → GoodLeaf P (crowd t) → None (tests P (nodes-due F (pending A d ∷ ps)) (ended (plain-line crowd-key (suc t ∷ [])))) → LeafHolds P A (crowd t)
+    unfolding tests line-kind-of kind-tests GoodLeaf LeafHolds
+    crowd-held t h n =
+        let l = ended (plain-line crowd-key (suc t ∷ [])) in
+        let f = node-form P crowd-line in
+        let v : named f l 0 ≡ t = ap (λ (vs : List ℕ). pred (vs at 0)) (rendered-numbers f false (suc t ∷ []) (one-fits crowd-key (P .periods) t h)) ∙ omega arith in
+        let g : not (crowd-at P A (named f l 0)) ≡ false = form-passes f l (kind-tests P A d crowd-line l) .0 n .1 .0 in
+        (h, crowd-is P A t .0 (not-false _ (rw v at g)))
 
     stuck-held : (U : ℕ) → GoodLeaf P (stuck U) → None (tests P (nodes-due F (pending A d ∷ ps)) (ended (plain-line stuck-key (suc U ∷ [])))) → LeafHolds P A (stuck U)
     unfolding tests line-kind-of kind-tests GoodLeaf LeafHolds
@@ -111,6 +122,10 @@ module _ (P : Instance) where
   leaf-passing A d F ps (short t) g (x ∷ ls) more after s e (one-more n k h) =
       let y : x ≡ ended (plain-line short-key (suc t ∷ [])) = cc in
       behind _ ls (ap (λ (z : Line). z ∷ ls) y) (short-held A d F ps t g (subst (λ (z : Line). None (tests P (nodes-due F (pending A d ∷ ps)) z)) y n))
+      (moved (nodes-due F (pending A d ∷ ps)) ls k y refl h)
+  leaf-passing A d F ps (crowd t) g (x ∷ ls) more after s e (one-more n k h) =
+      let y : x ≡ ended (plain-line crowd-key (suc t ∷ [])) = cc in
+      behind _ ls (ap (λ (z : Line). z ∷ ls) y) (crowd-held A d F ps t g (subst (λ (z : Line). None (tests P (nodes-due F (pending A d ∷ ps)) z)) y n))
       (moved (nodes-due F (pending A d ∷ ps)) ls k y refl h)
   leaf-passing A d F ps (stuck U) g (x ∷ ls) more after s e (one-more n k h) =
       let y : x ≡ ended (plain-line stuck-key (suc U ∷ [])) = cc in

@@ -13,6 +13,8 @@ pub mod LinesBegin
 pub mod LeavesHold
 pub mod FormTests
 pub mod WhichLine
+pub mod NodeRefusals
+pub mod SplitCounts
 pub mod Acceptance
 pub mod Unique
 pub mod Witnesses
@@ -25,7 +27,7 @@ pub mod WaysThrough
 pub mod Marked
 pub mod Keys
 pub mod Leaves
-pub mod SplitLines
+pub mod ForkLines
 pub mod Places
 pub mod Texts
 pub mod ReadAnswers

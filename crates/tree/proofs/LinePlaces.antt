@@ -7,7 +7,7 @@ use lib.Dec.{ltb}
 use lib.ListN.{length, length-append}
 use borrow.Author.Tests.{ltb-true, ltb-false}
 use Rattle.model.specs.Above.{Above, side}
-use Rattle.model.specs.Tree.{Leaf, short, stuck, price, Tree, leaf, fork}
+use Rattle.model.specs.Tree.{Leaf, short, crowd, stuck, price, Tree, leaf, fork}
 use Rattle.tree.specs.Rendering.{leaf-lines, node-lines}
 use Rattle.tree.specs.Places.{Part, priced, PartAt, reserve-line, LinePlace, node-at, part-at, LineAt, first-line, later-line, in-first, in-second}
 
@@ -15,6 +15,7 @@ use Rattle.tree.specs.Places.{Part, priced, PartAt, reserve-line, LinePl
 
 pub leaf-line : (l : Leaf) → 1 ≤ length (leaf-lines l)
 leaf-line (short t) = omega arith
+leaf-line (crowd t) = omega arith
 leaf-line (stuck U) = omega arith
 leaf-line (price q s) = omega arith
 
@@ -24,6 +25,7 @@ part-among reserve-line = (omega arith, omega arith)
 
 part-placed : (l : Leaf) (k : ℕ) → suc k < length (leaf-lines l) → (p : Part) × PartAt l (suc k) p
 part-placed (short t) k h = absurd (omega arith)
+part-placed (crowd t) k h = absurd (omega arith)
 part-placed (stuck U) k h = absurd (omega arith)
 part-placed (price q s) zero h = (priced q, reserve-line)
 part-placed (price q s) (suc k) h = absurd (omega arith)

@@ -3,15 +3,19 @@
 use mathlib.Core.Path.{_≡_, refl, ap, subst, _∙_}
 use mathlib.Core.Bool.{Bool, true, false, not}
 use mathlib.Core.List.{List, [], _∷_, _++_, map}
-use Prim.Native.Nat.{ℕ, suc, pred, _+_, _≤_, _<_}
+use mathlib.Core.Logic.{_↔_}
+use mathlib.Core.Option as option
+use Prim.Native.Nat.{ℕ, suc, pred, _+_, _-_, _≤_, _<_}
 use native.Mathlib.Omega.{arith}
 use lib.Dec.{T, ltb}
 use lib.ListN.{length}
 use borrow.Author.Tests.{lt-ltb, ltb-true, le-ltb, ltb-false, not-false}
 use Rattle.model.specs.Instance.{Instance, _at_}
-use Rattle.model.specs.Above.{Mark, free, fixed, Above, Fork, status}
+use Rattle.model.specs.Above.{Mark, free, fixed, Above, Fork, status, count, BelowMost}
 use Rattle.model.specs.Leaf.{available, stuck-at}
-use Rattle.model.specs.Tree.{Leaf, short, stuck, price, GoodFork, Multipliers, GoodLeaf, LeafHolds}
+use Rattle.model.specs.Tree.{Leaf, short, crowd, stuck, price, Narrows, GoodFork, Multipliers, GoodLeaf, LeafHolds}
+use Rattle.leaves.specs.LeafLeasts.{crowd-at}
+use Rattle.leaves.proofs.Crowds.{crowd-is}
 use Rattle.text.specs.Lines.{Line, ended}
 use Rattle.text.specs.Forms.{numbers-of}
 use Rattle.text.specs.Forms as forms
@@ -21,12 +25,13 @@ use Rattle.text.specs.Tests.{None, Passed, none-yet}
 use Rattle.text.proofs.Accepted.{Fits, rendered-good, rendered-numbers}
 use Rattle.text.proofs.Courses.{good-more}
 use Rattle.text.proofs.Tests.{none-good, good-none}
+use Rattle.text.proofs.Cuts.{and-both}
 use Rattle.text.proofs.Plain.{plain-was, plain-passed}
 use Rattle.text.proofs.Verdicts.{form-passes}
-use Rattle.tree.specs.Rendering.{split-key, short-key, stuck-key, price-key, reserve-key, fork-line, leaf-lines}
+use Rattle.tree.specs.Rendering.{split-key, count-key, short-key, crowd-key, stuck-key, price-key, reserve-key, fork-line, leaf-lines}
 use Rattle.tree.specs.Places.{Part, priced}
-use Rattle.tree.specs.NodeLines.{line-kind-of, named, is-fixed, kind-tests, node-tests, leaf-tests, part-tests}
-use Rattle.tree.specs.Refusals.{LineKind, split-line, short-line, stuck-line, price-line, node-form, part-form}
+use Rattle.tree.specs.NodeLines.{line-kind-of, named, counted, is-fixed, below-most, narrows, kind-tests, node-tests, leaf-tests, part-tests}
+use Rattle.tree.specs.Refusals.{LineKind, split-line, count-line, short-line, crowd-line, stuck-line, price-line, node-form, part-form}
 use Rattle.tree.specs.Course.{Pending, pending, Due, nodes-due, part-due, after-fork, after-leaf, tests, next-due, after-node, after-part, judge, end}
 use Rattle.tree.specs.Acceptance.{Bounded}
 use Rattle.tree.proofs.Lines.{multipliers-fit, was-multipliers, one-fits, was-one, two-fits, was-two}
@@ -50,6 +55,22 @@ not-T b e = rw e tt
 pub free-mark : (m : Mark) → is-fixed m ≡ false → m ≡ free
 free-mark free e = refl
 free-mark (fixed b) e = absurd (let z : _≡_ {A = ℕ} 0 1 = cc in omega arith)
+
+-- a count's test says what the definition does (37)
+pub narrows-is : (A : Above) (t K : ℕ) → (narrows (A .least t) (A .most t) K ≡ true) ↔ Narrows A t K
+narrows-is A t K = (forth, back)
+  where
+    below : (H : option.Option ℕ) → (below-most K H ≡ true) ↔ BelowMost K H
+    below option.none = ((λ e. tt), (λ h. refl))
+    below (option.some H) = ((λ e. ltb-true K H e), (λ h. lt-ltb K H h))
+
+    forth : narrows (A .least t) (A .most t) K ≡ true → Narrows A t K
+    forth e =
+        let p = and-both (not (ltb K (A .least t))) (below-most K (A .most t)) e in
+        (ltb-false K (A .least t) (T-not (ltb K (A .least t)) (is-T (not (ltb K (A .least t))) (p .0))), below (A .most t) .0 (p .1))
+
+    back : Narrows A t K → narrows (A .least t) (A .most t) K ≡ true
+    back (h, k) = rw (le-ltb K (A .least t) h, below (A .most t) .1 k) refl
 
 suc-pred : (n : ℕ) → 1 ≤ n → suc (pred n) ≡ n
 suc-pred n h = omega arith
@@ -79,6 +100,30 @@ module _ (P : Instance) where
         second = w .second .0;
         unit = omega (arith, m, w .first .1);
         period = omega (arith, n, w .second .1);
+      }
+
+-- ---- a count line
+
+module _ (P : Instance) where
+  pub count-fits : (t K : ℕ) → t < P .periods → K ≤ length (P .units) - 1 → Fits (node-form P count-line) false (suc t ∷ K ∷ [])
+  count-fits t K h k = two-fits count-key 1 (P .periods) 0 (length (P .units) - 1) (suc t) K (omega arith) h (omega arith) k
+
+  pub record WasCount (l : Line) : Type 0 where
+    pub line : l ≡ ended (plain-line count-key (suc (named (node-form P count-line) l 0) ∷ counted (node-form P count-line) l ∷ []))
+    pub first : 1 ≤ numbers-of (node-form P count-line) l at 0
+    pub period : named (node-form P count-line) l 0 < P .periods
+    pub few : counted (node-form P count-line) l ≤ length (P .units) - 1
+
+  pub was-count : (l : Line) → forms.good-line (node-form P count-line) l ≡ true → WasCount l
+  was-count l p =
+      let w = was-two count-key 1 (P .periods) 0 (length (P .units) - 1) l p in
+      let f = node-form P count-line in
+      let m : suc (named f l 0) ≡ numbers-of f l at 0 = suc-pred (numbers-of f l at 0) (w .first .0) in
+      record {
+        line = rw m (w .line);
+        first = w .first .0;
+        period = omega (arith, m, w .first .1);
+        few = w .second .1;
       }
 
 -- ---- what a part of a leaf has
@@ -112,6 +157,18 @@ module _ (P : Instance) (F : Bounded) (A : Above) (d : ℕ) (ps : List Pending) 
       none-good (after-node P F (pending A d) ps split-line l) (node-tests P A d split-line l)
       (form-passes f l (kind-tests P A d split-line l) .1 (p, (r, (le-ltb 63 d b, tt))))
       ∙ rw (u, v) refl
+  fork-good (count t K) g b =
+      let f = node-form P count-line in
+      let l = ended (fork-line (count t K)) in
+      let w = count-fits P t K (g .0) (g .1) in
+      let p = rendered-good f false (suc t ∷ K ∷ []) w in
+      let n = rendered-numbers f false (suc t ∷ K ∷ []) w in
+      let u : named f l 0 ≡ t = ap (λ (vs : List ℕ). pred (vs at 0)) n ∙ omega arith in
+      let v : counted f l ≡ K = ap (λ (vs : List ℕ). vs at 1) n in
+      let r : not (narrows (A .least (named f l 0)) (A .most (named f l 0)) (counted f l)) ≡ false = rw (u, v) (ap not (narrows-is A t K .1 (g .2))) in
+      none-good (after-node P F (pending A d) ps count-line l) (node-tests P A d count-line l)
+      (form-passes f l (kind-tests P A d count-line l) .1 (p, (le-ltb 63 d b, (r, tt))))
+      ∙ rw (u, v) refl
 
   pub short-good : (t : ℕ) → LeafHolds P A (short t) → At (ended (plain-line short-key (suc t ∷ []))) (after-leaf P F A ps (short t))
   unfolding judge tests next-due line-kind-of after-node kind-tests LeafHolds
@@ -127,6 +184,19 @@ module _ (P : Instance) (F : Bounded) (A : Above) (d : ℕ) (ps : List Pending) 
       none-good (after-node P F (pending A d) ps short-line l) (node-tests P A d short-line l)
       (form-passes f l (kind-tests P A d short-line l) .1 (p, (r, tt)))
       ∙ ap (λ (i : ℕ). good (after-leaf P F A ps (short i))) v
+
+  pub crowd-good : (t : ℕ) → LeafHolds P A (crowd t) → At (ended (plain-line crowd-key (suc t ∷ []))) (after-leaf P F A ps (crowd t))
+  unfolding judge tests next-due line-kind-of after-node kind-tests LeafHolds
+  crowd-good t h =
+      let f = node-form P crowd-line in
+      let l = ended (plain-line crowd-key (suc t ∷ [])) in
+      let w = one-fits crowd-key (P .periods) t (h .0) in
+      let p = rendered-good f false (suc t ∷ []) w in
+      let v : named f l 0 ≡ t = ap (λ (vs : List ℕ). pred (vs at 0)) (rendered-numbers f false (suc t ∷ []) w) ∙ omega arith in
+      let r : not (crowd-at P A (named f l 0)) ≡ false = rw v (ap not (crowd-is P A t .1 (h .1))) in
+      none-good (after-node P F (pending A d) ps crowd-line l) (node-tests P A d crowd-line l)
+      (form-passes f l (kind-tests P A d crowd-line l) .1 (p, (r, tt)))
+      ∙ ap (λ (i : ℕ). good (after-leaf P F A ps (crowd i))) v
 
   pub stuck-good : (U : ℕ) → GoodLeaf P (stuck U) → LeafHolds P A (stuck U) → At (ended (plain-line stuck-key (suc U ∷ []))) (after-leaf P F A ps (stuck U))
   unfolding judge tests next-due line-kind-of after-node kind-tests GoodLeaf LeafHolds
@@ -168,6 +238,7 @@ module _ (P : Instance) (F : Bounded) (A : Above) (d : ℕ) (ps : List Pending) 
       → Passed (tests P) (next-due P) (nodes-due F (pending A d ∷ ps)) (map ended (leaf-lines x)) (after-leaf P F A ps x)
   unfolding judge GoodLeaf
   leaf-good some (short t) g h = good-more (tests P) (next-due P) end (short-good t h) none-yet
+  leaf-good some (crowd t) g h = good-more (tests P) (next-due P) end (crowd-good t h) none-yet
   leaf-good some (stuck U) g h = good-more (tests P) (next-due P) end (stuck-good U g h) none-yet
   leaf-good some (price q s) g h =
       good-more (tests P) (next-due P) end (price-good some q (g .0)) (good-more (tests P) (next-due P) end (reserve-good some q s (g .1) h) none-yet)
@@ -185,11 +256,22 @@ module _ (P : Instance) (F : Bounded) (A : Above) (d : ℕ) (ps : List Pending) 
       let g = form-passes (node-form P split-line) l (kind-tests P A d split-line l) .0 n in
       let w = was-split P l (g .0) in
       fork-was (status (named (node-form P split-line) l 0) (named (node-form P split-line) l 1)) (w .line) (w .unit, w .period, free-mark _ (g .1 .0)) (ltb-false 63 d (g .1 .1 .0))
+  by-kind count-line l n =
+      let f = node-form P count-line in
+      let g = form-passes f l (kind-tests P A d count-line l) .0 n in
+      let w = was-count P l (g .0) in
+      fork-was (count (named f l 0) (counted f l)) (w .line) (w .period, w .few, narrows-is A (named f l 0) (counted f l) .0 (not-false _ (g .1 .1 .0)))
+      (ltb-false 63 d (g .1 .0))
   by-kind short-line l n =
       let g = form-passes (node-form P short-line) l (kind-tests P A d short-line l) .0 n in
       let w = was-one short-key (P .periods) l (g .0) in
       let t = named (node-form P short-line) l 0 in
       leaf-was (short t) (plain-line short-key (suc t ∷ [])) refl (w .line) (w .range) (w .range, ltb-true _ _ (not-false _ (g .1 .0)))
+  by-kind crowd-line l n =
+      let g = form-passes (node-form P crowd-line) l (kind-tests P A d crowd-line l) .0 n in
+      let w = was-one crowd-key (P .periods) l (g .0) in
+      let t = named (node-form P crowd-line) l 0 in
+      leaf-was (crowd t) (plain-line crowd-key (suc t ∷ [])) refl (w .line) (w .range) (w .range, crowd-is P A t .0 (not-false _ (g .1 .0)))
   by-kind stuck-line l n =
       let g = form-passes (node-form P stuck-line) l (kind-tests P A d stuck-line l) .0 n in
       let w = was-one stuck-key (length (P .units)) l (g .0) in

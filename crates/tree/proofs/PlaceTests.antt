@@ -4,15 +4,17 @@ use mathlib.Core.Path.{_≡_, refl, sym, ap, subst, _∙_}
 use mathlib.Core.Bool.{Bool, true, false, not}
 use mathlib.Core.List.{List, [], _∷_}
 use mathlib.Core.Logic.{_↔_, _⊎_, inl, inr}
-use Prim.Native.Nat.{ℕ, suc, pred, _+_, _≤_, _<_}
+use Prim.Native.Nat.{ℕ, suc, pred, _+_, _-_, _≤_, _<_}
 use native.Mathlib.Omega.{arith}
 use lib.Dec.{ltb}
 use lib.ListN.{length}
-use borrow.Author.Tests.{lt-ltb, ltb-true, not-true, not-false}
+use borrow.Author.Tests.{lt-ltb, ltb-true, le-ltb, ltb-false, not-true, not-false}
 use Rattle.model.specs.Instance.{Instance, _at_}
-use Rattle.model.specs.Above.{free, Above, status}
+use Rattle.model.specs.Above.{free, Above, status, count}
 use Rattle.model.specs.Leaf.{available, stuck-at, any-stuck}
-use Rattle.model.specs.Tree.{short, stuck, price, GoodLeaf, LeafHolds, Multipliers}
+use Rattle.model.specs.Tree.{short, crowd, stuck, price, Narrows, GoodLeaf, LeafHolds, Multipliers}
+use Rattle.leaves.specs.LeafLeasts.{crowd-at}
+use Rattle.leaves.proofs.Crowds.{crowd-is}
 use Rattle.text.specs.Lines.{Line, missing, ended, due}
 use Rattle.text.specs.Forms.{Form, malformed, numbers-of, form-tests}
 use Rattle.text.specs.Forms as forms
@@ -25,15 +27,15 @@ use Rattle.text.proofs.Unfit as unfit-laws
 use Rattle.text.proofs.Unfit.{true-not-false, otherwise, first-is, unfit-first, fits-passes, numbers-first}
 use Rattle.text.proofs.Plain.{plain-was}
 use Rattle.text.proofs.Verdicts.{form-passes}
-use Rattle.tree.specs.Rendering.{short-key, stuck-key, reserve-key, fork-line}
+use Rattle.tree.specs.Rendering.{short-key, crowd-key, stuck-key, reserve-key, fork-line}
 use Rattle.tree.specs.Places.{Part, priced}
-use Rattle.tree.specs.NodeLines.{line-kind-of, named, is-fixed, kind-tests, node-tests, leaf-tests, part-tests}
+use Rattle.tree.specs.NodeLines.{line-kind-of, named, counted, is-fixed, narrows, kind-tests, node-tests, leaf-tests, part-tests}
 use Rattle.tree.specs.Refusals as refusals
-use Rattle.tree.specs.Refusals.{NodeBreaks, no-node, unfit, again, PartBreaks, unfit-part, some-stuck, LineKind, split-line, short-line, stuck-line, price-line, node-form, part-form}
+use Rattle.tree.specs.Refusals.{NodeBreaks, no-node, unfit, again, PartBreaks, unfit-part, some-stuck, LineKind, split-line, count-line, short-line, crowd-line, stuck-line, price-line, node-form, part-form}
 use Rattle.tree.specs.Course.{Pending, pending, nodes-due, part-due, tests, next-due, end}
 use Rattle.tree.specs.Acceptance.{Bounded}
 use Rattle.tree.proofs.Lines.{multipliers-fit, was-multipliers, one-fits, was-one}
-use Rattle.tree.proofs.NodeLines.{T-is, is-T, T-not, not-T, free-mark, split-fits, was-split}
+use Rattle.tree.proofs.NodeLines.{T-is, is-T, T-not, not-T, free-mark, narrows-is, split-fits, was-split, count-fits, was-count}
 
 -- of a good line the other tests are left
 good-first : (f : Form) (l : Line) (ts : List Test) (n : ℕ) → forms.good-line f l ≡ true → FirstTrue n ts → FirstTrue n (form-tests f l ts)
@@ -46,7 +48,9 @@ module _ (P : Instance) (A : Above) (d : ℕ) where
   kind-shown : (k : LineKind) (l : Line) (neg : Bool) (vs : List ℕ) → Renders (node-form P k) l neg vs → line-kind-of l ≡ k
   unfolding line-kind-of
   kind-shown split-line l neg vs r = ap line-kind-of (r .line)
+  kind-shown count-line l neg vs r = ap line-kind-of (r .line)
   kind-shown short-line l neg vs r = ap line-kind-of (r .line)
+  kind-shown crowd-line l neg vs r = ap line-kind-of (r .line)
   kind-shown stuck-line l neg vs r = ap line-kind-of (r .line)
   kind-shown price-line l neg vs r = ap line-kind-of (r .line)
 
@@ -66,16 +70,34 @@ module _ (P : Instance) (A : Above) (d : ℕ) where
       let w = was-split P l g in
       refusals.deeper (named (node-form P split-line) l 0) (named (node-form P split-line) l 1) (w .unit, w .period, free-mark _ m) (w .line) (ltb-true 63 d e)
 
-  -- 31, 32, 33, 34 of a line that fits its form
+  -- 37 of a count line that fits its form, not too deep
+  count-breaks : (l : Line) → forms.good-line (node-form P count-line) l ≡ true → ltb 63 d ≡ false
+      → (n : ℕ) → FirstTrue n (37 if not (narrows (A .least (named (node-form P count-line) l 0)) (A .most (named (node-form P count-line) l 0)) (counted (node-form P count-line) l)) ∷ [])
+      → NodeBreaks P A d l n
+  count-breaks l g b n (this e) =
+      let w = was-count P l g in
+      let t = named (node-form P count-line) l 0 in
+      let K = counted (node-form P count-line) l in
+      refusals.no-narrower t K (w .period) (w .few) (ltb-false 63 d b) (w .line) (λ h. true-not-false _ (narrows-is A t K .1 h) (not-true _ e))
+
+  -- 31 to 34, 36, 37 of a line that fits its form
   kind-breaks : (l : Line) (k : LineKind) → forms.good-line (node-form P k) l ≡ true → (n : ℕ) → FirstTrue n (kind-tests P A d k l) → NodeBreaks P A d l n
   unfolding kind-tests GoodLeaf LeafHolds
   kind-breaks l split-line g n (this e) =
       let w = was-split P l g in
       again (named (node-form P split-line) l 0) (named (node-form P split-line) l 1) (w .unit) (w .period) (w .line) (λ q. true-not-false _ e (ap is-fixed q))
   kind-breaks l split-line g n (after m h) = deep-breaks l g m n h
+  kind-breaks l count-line g n (this e) =
+      let w = was-count P l g in
+      refusals.deeper-count (named (node-form P count-line) l 0) (counted (node-form P count-line) l) (w .period) (w .few) (w .line) (ltb-true 63 d e)
+  kind-breaks l count-line g n (after b h) = count-breaks l g b n h
   kind-breaks l short-line g n (this e) =
       let w = was-one short-key (P .periods) l g in
       refusals.short-fails (named (node-form P short-line) l 0) (w .range) (w .line) (λ h. true-not-false _ (lt-ltb _ _ (h .1)) (not-true _ e))
+  kind-breaks l crowd-line g n (this e) =
+      let w = was-one crowd-key (P .periods) l g in
+      let t = named (node-form P crowd-line) l 0 in
+      refusals.crowd-fails t (w .range) (w .line) (λ h. true-not-false _ (crowd-is P A t .1 (h .1)) (not-true _ e))
   kind-breaks l stuck-line g n (this e) =
       let w = was-one stuck-key (length (P .units)) l g in
       let b = stuck-at (P .periods) (P .units) (A .marks) (named (node-form P stuck-line) l 0) in
@@ -118,6 +140,28 @@ module _ (P : Instance) (A : Above) (d : ℕ) where
     deep-first f b =
         good-first (node-form P split-line) on-split (kind-tests P A d split-line on-split) 32 on-split-good (after (split-mark ∙ ap is-fixed f) (this (lt-ltb 63 d b)))
 
+  module _ (t K : ℕ) (h : t < P .periods) (k : K ≤ length (P .units) - 1) where
+    abbrev on-count : Line
+    on-count = ended (fork-line (count t K))
+
+    on-count-good : forms.good-line (node-form P count-line) on-count ≡ true
+    on-count-good = rendered-good (node-form P count-line) false (suc t ∷ K ∷ []) (count-fits P t K h k)
+
+    deep-count-first : 63 < d → FirstTrue 32 (node-tests P A d (line-kind-of on-count) on-count)
+    unfolding line-kind-of kind-tests
+    deep-count-first b = good-first (node-form P count-line) on-count (kind-tests P A d count-line on-count) 32 on-count-good (this (lt-ltb 63 d b))
+
+    narrower-first : d ≤ 63 → (Narrows A t K → ⊥) → FirstTrue 37 (node-tests P A d (line-kind-of on-count) on-count)
+    unfolding line-kind-of kind-tests
+    narrower-first b f =
+        let n = rendered-numbers (node-form P count-line) false (suc t ∷ K ∷ []) (count-fits P t K h k) in
+        let i = named (node-form P count-line) on-count 0 in
+        let j = counted (node-form P count-line) on-count in
+        let u : i ≡ t = ap (λ (vs : List ℕ). pred (vs at 0)) n ∙ omega arith in
+        let v : j ≡ K = ap (λ (vs : List ℕ). vs at 1) n in
+        let r : not (narrows (A .least i) (A .most i) j) ≡ true = rw (u, v) (otherwise _ (λ e. f (narrows-is A t K .0 (not-false _ e)))) in
+        good-first (node-form P count-line) on-count (kind-tests P A d count-line on-count) 37 on-count-good (after (le-ltb 63 d b) (this r))
+
   short-first : (t : ℕ) → GoodLeaf P (short t) → (LeafHolds P A (short t) → ⊥)
       → FirstTrue 33 (node-tests P A d (line-kind-of (ended (plain-line short-key (suc t ∷ [])))) (ended (plain-line short-key (suc t ∷ []))))
   unfolding line-kind-of kind-tests GoodLeaf LeafHolds
@@ -129,6 +173,17 @@ module _ (P : Instance) (A : Above) (d : ℕ) where
       let r : not (ltb (available P A i) (P .demand at i + P .spare at i)) ≡ true =
       rw v (otherwise _ (λ e. f (h, ltb-true _ _ (not-false _ e)))) in
       good-first (node-form P short-line) l (kind-tests P A d short-line l) 33 (rendered-good (node-form P short-line) false (suc t ∷ []) w) (this r)
+
+  crowd-first : (t : ℕ) → GoodLeaf P (crowd t) → (LeafHolds P A (crowd t) → ⊥)
+      → FirstTrue 36 (node-tests P A d (line-kind-of (ended (plain-line crowd-key (suc t ∷ [])))) (ended (plain-line crowd-key (suc t ∷ []))))
+  unfolding line-kind-of kind-tests GoodLeaf LeafHolds
+  crowd-first t h f =
+      let l = ended (plain-line crowd-key (suc t ∷ [])) in
+      let w = one-fits crowd-key (P .periods) t h in
+      let i = named (node-form P crowd-line) l 0 in
+      let v : i ≡ t = ap (λ (vs : List ℕ). pred (vs at 0)) (rendered-numbers (node-form P crowd-line) false (suc t ∷ []) w) ∙ omega arith in
+      let r : not (crowd-at P A i) ≡ true = rw v (otherwise _ (λ e. f (h, crowd-is P A t .0 (not-false _ e)))) in
+      good-first (node-form P crowd-line) l (kind-tests P A d crowd-line l) 36 (rendered-good (node-form P crowd-line) false (suc t ∷ []) w) (this r)
 
   stuck-first : (U : ℕ) → GoodLeaf P (stuck U) → (LeafHolds P A (stuck U) → ⊥)
       → FirstTrue 34 (node-tests P A d (line-kind-of (ended (plain-line stuck-key (suc U ∷ [])))) (ended (plain-line stuck-key (suc U ∷ []))))
@@ -148,8 +203,11 @@ module _ (P : Instance) (A : Above) (d : ℕ) where
       subst (λ (i : LineKind). FirstTrue n (node-tests P A d i l)) (sym (kind-shown k l neg vs r)) (unfit-first (node-form P k) l (kind-tests P A d k l) n u)
   breaks-first l n (again U t h k e f) = subst (λ (x : Line). FirstTrue 31 (node-tests P A d (line-kind-of x) x)) (sym e) (again-first U t h k f)
   breaks-first l n (refusals.deeper U t g e b) = subst (λ (x : Line). FirstTrue 32 (node-tests P A d (line-kind-of x) x)) (sym e) (deep-first U t (g .0) (g .1) (g .2) b)
+  breaks-first l n (refusals.deeper-count t K h k e b) = subst (λ (x : Line). FirstTrue 32 (node-tests P A d (line-kind-of x) x)) (sym e) (deep-count-first t K h k b)
   breaks-first l n (refusals.short-fails t h e f) = subst (λ (x : Line). FirstTrue 33 (node-tests P A d (line-kind-of x) x)) (sym e) (short-first t h f)
   breaks-first l n (refusals.stuck-fails U h e f) = subst (λ (x : Line). FirstTrue 34 (node-tests P A d (line-kind-of x) x)) (sym e) (stuck-first U h f)
+  breaks-first l n (refusals.crowd-fails t h e f) = subst (λ (x : Line). FirstTrue 36 (node-tests P A d (line-kind-of x) x)) (sym e) (crowd-first t h f)
+  breaks-first l n (refusals.no-narrower t K h k b e f) = subst (λ (x : Line). FirstTrue 37 (node-tests P A d (line-kind-of x) x)) (sym e) (narrower-first t K h k b f)
 
   pub node-first : (F : Bounded) (ps : List Pending) (left : List Line) (n : ℕ)
       → FirstTrue n (tests-before (tests P) (next-due P) end (nodes-due F (pending A d ∷ ps)) left) ↔ NodeBreaks P A d (due left) n

@@ -6,14 +6,9 @@ use native.Mathlib.Omega.{arith}
 use lib.ListN.{length}
 use Rattle.model.specs.Instance.{Instance}
 use Rattle.model.specs.Ranges.{WellFormed}
+use Rattle.walk.proofs.AboveMarks.{statuses-fit}
 
 module _ (P : Instance) (W : WellFormed P) where
-  pub statuses-fit : length (P .units) * P .periods ≤ 1536
-  statuses-fit =
-      let u = W .units-in in
-      let t = W .periods-in in
-      omega (arith, mul-le-mul-right (P .periods) (u .1))
-
   -- n being the periods
   pub place-inside : (n U t : ℕ) → n ≡ P .periods → U < length (P .units) → t < P .periods → U * n + t < 1536
-  place-inside n U t e h k = rw e (let f = statuses-fit in omega (arith, mul-le-mul-right (P .periods) (let x : suc U ≤ length (P .units) = omega arith in x)))
+  place-inside n U t e h k = rw e (let f = statuses-fit P W in omega (arith, mul-le-mul-right (P .periods) (let x : suc U ≤ length (P .units) = omega arith in x)))

@@ -23,7 +23,7 @@ use Rattle.tree.specs.declared.TreeRead.the-variants as answer
 use Rattle.tree.specs.Course.{IsTree, tree-judged}
 use Rattle.tree.specs.Acceptance.{Bounded, bounded, Accepts}
 use Rattle.tree.specs.Places.{Part}
-use Rattle.tree.specs.Refusals.{WrittenTree, written-lines, NodeBreaks, no-node, unfit, again, deeper, short-fails, stuck-fails, PartBreaks, unfit-part, some-stuck, Breaks, at-writer, at-node, at-part, HoldsSoFar, RefusedAt, node-form, part-form}
+use Rattle.tree.specs.Refusals.{WrittenTree, written-lines, NodeBreaks, no-node, unfit, again, deeper, deeper-count, short-fails, stuck-fails, crowd-fails, no-narrower, PartBreaks, unfit-part, some-stuck, Breaks, at-writer, at-node, at-part, HoldsSoFar, RefusedAt, node-form, part-form}
 use Rattle.tree.specs.ReadAnswers.{read-as, tree-read}
 use Rattle.tree.proofs.Acceptance.{accepted-is, refused-is}
 
@@ -66,8 +66,11 @@ node-lined P A d x n (no-node h) = refl
 node-lined P A d x n (unfit k neg vs r u) = unfit-lined (node-form P k) x n u
 node-lined P A d x n (again U t h k e f) = refl
 node-lined P A d x n (deeper U t g e b) = refl
+node-lined P A d x n (deeper-count t K h k e b) = refl
 node-lined P A d x n (short-fails t h e f) = refl
 node-lined P A d x n (stuck-fails U h e f) = refl
+node-lined P A d x n (crowd-fails t h e f) = refl
+node-lined P A d x n (no-narrower t K h k b e f) = refl
 
 part-lined : (P : Instance) (A : Above) (p : Part) (x : Line) (n : ℕ) → PartBreaks P A x p n → Lined n
 unfolding carries-line

@@ -19,7 +19,7 @@ use Rattle.text.proofs.LineByLine as steps
 use Rattle.tree.specs.declared.leaf.Read.{Read}
 use Rattle.tree.specs.declared.leaf.Read.the-variants.{Refused, Tree}
 use Rattle.tree.specs.NodeLines.{line-kind-of}
-use Rattle.tree.specs.Refusals.{LineKind, split-line, short-line, stuck-line, price-line}
+use Rattle.tree.specs.Refusals.{LineKind, split-line, count-line, short-line, crowd-line, stuck-line, price-line}
 use Rattle.tree.specs.Places.{Part, priced}
 use Rattle.tree.specs.Course.{Pending, pending, Due, writer-due, nodes-due, part-due, nothing-due, tests, next-due, after-node, after-part, judge, end}
 use Rattle.tree.specs.Acceptance.{Bounded, bounded}
@@ -150,7 +150,9 @@ node-line P F p ps x = record {
   where
     go : (k : LineKind) → Goes (nodes-due F (p ∷ ps)) (λ w rest. after-node P (by w F) p (ps ++ rest) k x) (after-node P F p ps k x)
     go split-line = ((λ w rest. refl), tt, omega arith)
+    go count-line = ((λ w rest. refl), tt, omega arith)
     go short-line = ((λ w rest. refl), tt, omega arith)
+    go crowd-line = ((λ w rest. refl), tt, omega arith)
     go stuck-line = ((λ w rest. refl), tt, omega arith)
     go price-line = ((λ w rest. refl), tt, omega arith)
 

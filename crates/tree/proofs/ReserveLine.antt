@@ -5,7 +5,7 @@ use Prim.Native.Nat.{ℕ}
 use native.Mathlib.Omega.{arith}
 use lib.Dec.{lit≤}
 use Rattle.decimal.specs.Decimal.{digits, digits-by}
-use Rattle.model.specs.Leaf.{units-available, available, is-stuck}
+use Rattle.model.specs.Leaf.{usable, available, is-stuck}
 use Rattle.model.specs.Examples.{example}
 use Rattle.text.specs.Lines.{kind-tree}
 use Rattle.text.specs.Course.{refused-at, judged-from}
@@ -32,11 +32,11 @@ up-to-reserve = text-of (kind-tree ∷ (to-price ++ (plain-line reserve-key (1 �
 
 -- line 7, the price line, passes: alone it leaves the line after it missing
 pub price-line-passes : tree-judged example up-to-price ≡ refused-at 12 8
-unfolding tree-judged judged-from judge tests next-due after-node after-part line-kind-of malformed wrong-count outside-range kind-tests leaf-tests available units-available is-stuck digits digits-by
+unfolding tree-judged judged-from judge tests next-due after-node after-part line-kind-of malformed wrong-count outside-range kind-tests leaf-tests available usable is-stuck digits digits-by
 price-line-passes = refl
 
 pub reserve-line-refused : tree-judged example up-to-reserve ≡ refused-at 35 8
-unfolding tree-judged judged-from judge tests next-due after-node after-part line-kind-of malformed wrong-count outside-range kind-tests leaf-tests available units-available is-stuck digits digits-by
+unfolding tree-judged judged-from judge tests next-due after-node after-part line-kind-of malformed wrong-count outside-range kind-tests leaf-tests available usable is-stuck digits digits-by
 reserve-line-refused = refl
 
 -- as document 01 says it: 35 at line 8, and no number at line 7

@@ -8,16 +8,16 @@ use native.Mathlib.Omega.{arith}
 use lib.ListN.{length, drop}
 use borrow.Author.Tests.{le-leb}
 use Rattle.model.specs.Instance.{Instance, _at_}
-use Rattle.model.specs.Above.{Above, root, Fork, status}
-use Rattle.model.specs.Tree.{Leaf, short, stuck, price, Tree, leaf, fork, GoodLeaf, Limits}
+use Rattle.model.specs.Above.{Above, root, Fork, status, count}
+use Rattle.model.specs.Tree.{Leaf, short, crowd, stuck, price, Tree, leaf, fork, GoodLeaf, Limits}
 use Rattle.text.specs.Lines.{ended, bytes-of, lines-of, end-tree}
 use Rattle.text.specs.Forms.{form, cut-values, sizes, all-within}
 use Rattle.text.specs.Rendering.{plain-line}
 use Rattle.text.specs.Writer.{writer-key}
 use Rattle.text.proofs.Accepted.{rendered-numbers}
-use Rattle.tree.specs.Rendering.{split-key, short-key, stuck-key, price-key, reserve-key, fork-line, leaf-lines, node-lines, tree-lines, render}
+use Rattle.tree.specs.Rendering.{split-key, count-key, short-key, crowd-key, stuck-key, price-key, reserve-key, fork-line, leaf-lines, node-lines, tree-lines, render}
 use Rattle.tree.specs.NodeLines.{line-kind-of}
-use Rattle.tree.specs.Refusals.{LineKind, split-line, short-line, stuck-line, price-line}
+use Rattle.tree.specs.Refusals.{LineKind, split-line, count-line, short-line, crowd-line, stuck-line, price-line}
 use Rattle.tree.proofs.Written.{render-cut}
 
 -- ---- one line
@@ -64,7 +64,9 @@ values key l = sizes (cut-values (drop (length key) l))
 -- the node, and the lines after it, by the kind of the first
 by-kind : LineKind → List (List ℕ) → Node × List (List ℕ)
 by-kind split-line ls = (a-fork (status (pred (values split-key (head ls) at 0)) (pred (values split-key (head ls) at 1))), tail ls)
+by-kind count-line ls = (a-fork (count (pred (values count-key (head ls) at 0)) (values count-key (head ls) at 1)), tail ls)
 by-kind short-line ls = (a-leaf (short (pred (values short-key (head ls) at 0))), tail ls)
+by-kind crowd-line ls = (a-leaf (crowd (pred (values crowd-key (head ls) at 0))), tail ls)
 by-kind stuck-line ls = (a-leaf (stuck (pred (values stuck-key (head ls) at 0))), tail ls)
 by-kind price-line ls = (a-leaf (price (values price-key (head ls)) (values reserve-key (head (tail ls)))), tail (tail ls))
 
@@ -75,10 +77,13 @@ fork-begun : (f : Fork) (r : List (List ℕ)) → begun (fork-line f ∷ r) ≡ 
 unfolding begun by-kind values head tail line-kind-of
 fork-begun (status U t) r =
     ap (λ (vs : List ℕ). (a-fork (status (pred (vs at 0)) (pred (vs at 1))), r)) (read-back split-key (suc U ∷ suc t ∷ []) (omega arith)) ∙ rw (pred-suc U, pred-suc t) refl
+fork-begun (count t K) r =
+    ap (λ (vs : List ℕ). (a-fork (count (pred (vs at 0)) (vs at 1)), r)) (read-back count-key (suc t ∷ K ∷ []) (omega arith)) ∙ rw (pred-suc t) refl
 
 leaf-begun : (P : Instance) → 1 ≤ P .periods → (l : Leaf) → GoodLeaf P l → (r : List (List ℕ)) → begun (leaf-lines l ++ r) ≡ (a-leaf l, r)
 unfolding begun by-kind values head tail line-kind-of GoodLeaf
 leaf-begun P h (short t) g r = ap (λ (vs : List ℕ). (a-leaf (short (pred (vs at 0))), r)) (read-back short-key (suc t ∷ []) (omega arith)) ∙ rw (pred-suc t) refl
+leaf-begun P h (crowd t) g r = ap (λ (vs : List ℕ). (a-leaf (crowd (pred (vs at 0))), r)) (read-back crowd-key (suc t ∷ []) (omega arith)) ∙ rw (pred-suc t) refl
 leaf-begun P h (stuck U) g r = ap (λ (vs : List ℕ). (a-leaf (stuck (pred (vs at 0))), r)) (read-back stuck-key (suc U ∷ []) (omega arith)) ∙ rw (pred-suc U) refl
 leaf-begun P h (price q s) g r =
     let a = read-back price-key q (let e = g .0 .0 in omega arith) in

@@ -1,24 +1,26 @@
 -- A tree's text is judged the same whatever p0 is: every test of a line, and what is due after it, is what it is with 0 for every p0. So two problems that
 -- differ in p0 alone accept the same trees, with the same figures, and refuse the others with the same number at the same line.
 use mathlib.Core.Path.{_≡_, refl, ap, _∙_}
-use mathlib.Core.Bool.{not}
+use mathlib.Core.Bool.{not, _||_}
 use mathlib.Core.List.{List, [], _∷_}
-use Prim.Native.Nat.{ℕ, _+_}
+use Prim.Native.Nat.{ℕ, _+_, _-_}
 use lib.Dec.{ltb}
+use lib.ListN.{length}
 use Rattle.model.specs.Instance.{Instance, _at_}
 use Rattle.model.specs.declared.figures.Bound.{Bound}
-use Rattle.model.specs.Above.{Above, status}
-use Rattle.model.specs.Tree.{Leaf, short, stuck, price}
+use Rattle.model.specs.Above.{Above, status, count}
+use Rattle.model.specs.Tree.{Leaf, short, crowd, stuck, price}
 use Rattle.model.specs.Unread.{AlikeButMidnight}
-use Rattle.model.proofs.Unread.{without-p0, count-without, available-without, stuck-at-without, any-stuck-without, leaf-bound-without, both}
+use Rattle.model.proofs.Unread.{without-p0, count-without, usable-without, fixed-on-without, available-without, stuck-at-without, any-stuck-without, leaf-bound-without, both}
+use Rattle.leaves.specs.LeafLeasts.{above-most, crowd-at}
 use Rattle.text.specs.Lines.{Line, later, lines-of}
 use Rattle.text.specs.Forms.{Form, form, plain, numbers-of, form-tests}
 use Rattle.text.specs.Course.{judged-from}
 use Rattle.text.specs.Tests.{_if_, found}
-use Rattle.tree.specs.Rendering.{split-key, stuck-key}
+use Rattle.tree.specs.Rendering.{split-key, count-key, stuck-key}
 use Rattle.tree.specs.Places.{Part, priced}
-use Rattle.tree.specs.NodeLines.{line-kind-of, named, is-fixed, kind-tests, node-tests, leaf-tests, part-tests}
-use Rattle.tree.specs.Refusals.{LineKind, split-line, short-line, stuck-line, price-line, node-form, part-form}
+use Rattle.tree.specs.NodeLines.{line-kind-of, named, counted, is-fixed, narrows, kind-tests, node-tests, leaf-tests, part-tests}
+use Rattle.tree.specs.Refusals.{LineKind, split-line, count-line, short-line, crowd-line, stuck-line, price-line, node-form, part-form}
 use Rattle.tree.specs.Course.{with-leaf, Pending, Due, writer-due, nodes-due, part-due, nothing-due, tests, after-fork, after-leaf, after-node, after-part, next-due, judge, end, tree-judged}
 use Rattle.tree.specs.Acceptance.{Bounded}
 
@@ -27,18 +29,28 @@ use Rattle.tree.specs.Acceptance.{Bounded}
 module _ (P : Instance) where
   node-form-without : (k : LineKind) → node-form (without-p0 P) k ≡ node-form P k
   node-form-without split-line = λ i. form split-key 0 (1 ∷ 1 ∷ []) (count-without (P .units) i ∷ P .periods ∷ [])
+  node-form-without count-line = λ i. form count-key 0 (1 ∷ 0 ∷ []) (P .periods ∷ (count-without (P .units) i - 1) ∷ [])
   node-form-without short-line = refl
+  node-form-without crowd-line = refl
   node-form-without stuck-line = ap (plain stuck-key 1 1) (count-without (P .units))
   node-form-without price-line = refl
 
-  -- 31 to 34
+  -- crowd's rule
+  crowd-at-without : (A : Above) (t : ℕ) → crowd-at (without-p0 P) A t ≡ crowd-at P A t
+  crowd-at-without A t =
+      λ i. above-most (fixed-on-without (P .units) (A .marks) t i) (A .most t) || ltb (length (usable-without (P .units) (A .marks) t i)) (A .least t)
+
+  -- 31 to 34, 36, 37
   kind-tests-without : (A : Above) (d : ℕ) (k : LineKind) (l : Line) → kind-tests (without-p0 P) A d k l ≡ kind-tests P A d k l
   unfolding kind-tests
   kind-tests-without A d split-line l =
       ap (λ (f : Form). 31 if is-fixed (A .marks (named f l 0) (named f l 1)) ∷ 32 if ltb 63 d ∷ []) (node-form-without split-line)
+  kind-tests-without A d count-line l =
+      ap (λ (f : Form). 32 if ltb 63 d ∷ 37 if not (narrows (A .least (named f l 0)) (A .most (named f l 0)) (counted f l)) ∷ []) (node-form-without count-line)
   kind-tests-without A d short-line l =
       let t = named (node-form P short-line) l 0 in
       ap (λ (x : ℕ). 33 if not (ltb x (P .demand at t + P .spare at t)) ∷ []) (available-without P A t)
+  kind-tests-without A d crowd-line l = λ i. 36 if not (crowd-at-without A (named (node-form P crowd-line) l 0) i) ∷ []
   kind-tests-without A d stuck-line l =
       λ i. 34 if not (stuck-at-without (P .periods) (P .units) (A .marks) (named (node-form-without stuck-line i) l 0) i) ∷ []
   kind-tests-without A d price-line l = refl
@@ -72,7 +84,9 @@ module _ (P : Instance) where
       → after-node (without-p0 P) F p ps k l ≡ after-node P F p ps k l
   unfolding after-node
   after-node-without F p ps split-line l = ap (λ (f : Form). after-fork F p ps (status (named f l 0) (named f l 1))) (node-form-without split-line)
+  after-node-without F p ps count-line l = ap (λ (f : Form). after-fork F p ps (count (named f l 0) (counted f l))) (node-form-without count-line)
   after-node-without F p ps short-line l = after-leaf-without F (p .above) ps (short (named (node-form P short-line) l 0))
+  after-node-without F p ps crowd-line l = after-leaf-without F (p .above) ps (crowd (named (node-form P crowd-line) l 0))
   after-node-without F p ps stuck-line l =
       after-leaf-without F (p .above) ps (stuck (named (node-form (without-p0 P) stuck-line) l 0))
       ∙ ap (λ (f : Form). after-leaf P F (p .above) ps (stuck (named f l 0))) (node-form-without stuck-line)

@@ -53,7 +53,7 @@ module _ (P : Instance) (some : 1 ≤ P .periods) where
     writer-unfit z n (behind-last e f) = absurd (let h = lines-long v in omega arith)
 
     -- a node's first line
-    node-breaks : (i : ℕ) (A : Above) (d : ℕ) → k ≡ suc i → LineAt root 0 (v .tree) i (node-at A d) → (n : ℕ) → Number v k left n → NodeBreaks P A d (due left) n
+    pub node-breaks : (i : ℕ) (A : Above) (d : ℕ) → k ≡ suc i → LineAt root 0 (v .tree) i (node-at A d) → (n : ℕ) → Number v k left n → NodeBreaks P A d (due left) n
     node-breaks i A d z c n (at-numbers (refusals.at-writer e u)) = absurd (omega arith)
     node-breaks i A d z c n (at-numbers (refusals.at-node {d = d′} {A = A′} e a b)) =
         let q = line-once a c (omega arith) in

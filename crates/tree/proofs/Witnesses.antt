@@ -1,4 +1,4 @@
--- Document 01's example of a tree, accepted, and texts that each number refuses, computed on its problem.
+-- Document 01's example of a tree, accepted, trees with counts (document 02, [1]), and texts that each number refuses, computed on its problem.
 use mathlib.Core.Path.{_≡_, refl, sym, ap, _∙_}
 use mathlib.Core.Bool.{true, false}
 use mathlib.Core.List.{List, [], _∷_}
@@ -9,17 +9,19 @@ use Rattle.decimal.specs.Decimal.{digits, digits-by}
 use Rattle.model.specs.declared.generator.Generator.{Generator}
 use Rattle.model.specs.Instance.{Instance}
 use Rattle.model.specs.Above.{root, status}
+use Rattle.model.specs.CountExamples.{by-count, by-both, count-limits, count-holds}
 use Rattle.model.specs.Cost.{row-cost}
-use Rattle.model.specs.Leaf.{units-available, available, rows-of, is-stuck, revenue, value, unit-least, units-least, requirement, leaf-value}
+use Rattle.model.specs.Leaf.{usable, available, fixed-on, rows-of, is-stuck, revenue, value, unit-least, units-least, requirement, leaf-value}
 use Rattle.model.specs.declared.figures.Bound.{Bound}
 use Rattle.model.specs.declared.figures.Bound.the-variants.{Number as number}
 use Rattle.model.specs.Figures.{tree-gives}
-use Rattle.model.specs.Tree.{short, price, Tree, leaf, fork, GoodLeaf, LeafHolds, leaf-bound, Limits, Holds, bound, splits, leaves}
+use Rattle.model.specs.Tree.{short, crowd, price, Tree, leaf, fork, GoodLeaf, LeafHolds, leaf-bound, Limits, Holds, bound, splits, leaves}
 use Rattle.refusal.specs.Refusals.{line-refusal}
 use Rattle.text.specs.Lines.{kind-tree}
 use Rattle.text.specs.Course.{accepted, refused-at, judged-from}
 use Rattle.text.specs.Forms.{malformed, wrong-count, outside-range}
 use Rattle.text.specs.Rendering.{plain-line, text-of}
+use Rattle.text.specs.Strings.{lines}
 use Rattle.text.specs.Writer.{writer-key}
 use Rattle.text.proofs.Courses as courses
 use Rattle.text.proofs.WellFormed.{form-only}
@@ -70,7 +72,7 @@ unfolding Limits GoodLeaf
 within = ((lit< tt, lit< tt, refl), lit≤ tt, lit< tt, ((refl, ((lit≤ tt, lit≤ tt), ((lit≤ tt, lit≤ tt), tt))), (refl, ((lit≤ tt, lit≤ tt), ((lit≤ tt, lit≤ tt), tt)))))
 
 holds : Holds problem root tree
-unfolding Holds LeafHolds available units-available is-stuck
+unfolding Holds LeafHolds available usable is-stuck
 holds = ((lit< tt, lit< tt), tt)
 
 -- one split line and two leaves, and the bound of the tree
@@ -93,6 +95,36 @@ lone-price-accepted =
     tree-accepted problem (lit≤ tt) 3 lone-price (lit≤ tt, lit≤ tt)
     ((refl, ((lit≤ tt, lit≤ tt), ((lit≤ tt, lit≤ tt), tt))), (refl, ((lit≤ tt, lit≤ tt), ((lit≤ tt, lit≤ tt), tt)))) tt
 
+-- ---- trees with counts
+
+abbrev count-text : List ℕ
+count-text = lines ("kind=tree" ∷ "writer=3" ∷ "count=2,1" ∷ "short=2" ∷ "price=10,14" ∷ "reserve=0,0" ∷ "end=tree" ∷ [])
+
+abbrev crowd-text : List ℕ
+crowd-text = lines ("kind=tree" ∷ "writer=3" ∷ "count=2,1" ∷ "short=2" ∷ "split=2,2" ∷ "crowd=2" ∷ "price=10,14" ∷ "reserve=0,0" ∷ "end=tree" ∷ [])
+
+counts-written : (render 3 by-count ≡ count-text) × (render 3 by-both ≡ crowd-text)
+unfolding render node-lines digits digits-by
+counts-written = (refl, refl)
+
+-- the second is document 01's tree's, since the price leaf has the same statuses above it
+counts-bound : (bound problem root by-count ≡ number (pos 1880)) × (bound problem root by-both ≡ bound problem root tree)
+unfolding bound leaf-bound leaf-value units-least unit-least rows-of value revenue requirement row-cost
+counts-bound = (refl, refl)
+
+-- 1880 with one split line and two leaves; 1980 with two and three
+pub counts-accepted : (tree-judged problem count-text ≡ accepted (bounded 3 (tree-gives (number (pos 1880)) 1 2)))
+    × (tree-judged problem crowd-text ≡ accepted (bounded 3 (tree-gives (number (pos 1980)) 2 3)))
+unfolding splits leaves
+counts-accepted = (
+  ap (tree-judged problem) (sym (counts-written .0))
+      ∙ tree-accepted problem (lit≤ tt) 3 by-count (lit≤ tt, lit≤ tt) (count-limits .0) (count-holds .0)
+      ∙ ap (λ (b : Bound). accepted (bounded 3 (tree-gives b 1 2))) (counts-bound .0),
+  ap (tree-judged problem) (sym (counts-written .1))
+      ∙ tree-accepted problem (lit≤ tt) 3 by-both (lit≤ tt, lit≤ tt) (count-limits .1) (count-holds .1)
+      ∙ ap (λ (b : Bound). accepted (bounded 3 (tree-gives b 2 3))) (counts-bound .1 ∙ bound-1980),
+)
+
 -- ---- texts that are refused
 
 -- no second line
@@ -101,7 +133,7 @@ no-writer =
     107 ∷ 105 ∷ 110 ∷ 100 ∷ 61 ∷ 116 ∷ 114 ∷ 101 ∷ 101 ∷ 10 ∷ []
 
 no-writer-refused : tree-judged problem no-writer ≡ refused-at 12 2
-unfolding tree-judged judged-from judge tests next-due after-node after-part line-kind-of malformed wrong-count outside-range kind-tests leaf-tests available units-available is-stuck
+unfolding tree-judged judged-from judge tests next-due after-node after-part line-kind-of malformed wrong-count outside-range kind-tests leaf-tests available usable is-stuck
 no-writer-refused = refl
 
 -- writer=0
@@ -111,7 +143,7 @@ writer-zero =
     119 ∷ 114 ∷ 105 ∷ 116 ∷ 101 ∷ 114 ∷ 61 ∷ 48 ∷ 10 ∷ []
 
 writer-zero-refused : tree-judged problem writer-zero ≡ refused-at 13 2
-unfolding tree-judged judged-from judge tests next-due after-node after-part line-kind-of malformed wrong-count outside-range kind-tests leaf-tests available units-available is-stuck
+unfolding tree-judged judged-from judge tests next-due after-node after-part line-kind-of malformed wrong-count outside-range kind-tests leaf-tests available usable is-stuck
 writer-zero-refused = refl
 
 -- a lone short=2
@@ -123,7 +155,7 @@ lone-short =
     101 ∷ 110 ∷ 100 ∷ 61 ∷ 116 ∷ 114 ∷ 101 ∷ 101 ∷ 10 ∷ []
 
 lone-short-refused : tree-judged problem lone-short ≡ refused-at 33 3
-unfolding tree-judged judged-from judge tests next-due after-node after-part line-kind-of malformed wrong-count outside-range kind-tests leaf-tests available units-available is-stuck
+unfolding tree-judged judged-from judge tests next-due after-node after-part line-kind-of malformed wrong-count outside-range kind-tests leaf-tests available usable is-stuck
 lone-short-refused = refl
 
 -- a lone stuck=1
@@ -135,7 +167,7 @@ lone-stuck =
     101 ∷ 110 ∷ 100 ∷ 61 ∷ 116 ∷ 114 ∷ 101 ∷ 101 ∷ 10 ∷ []
 
 lone-stuck-refused : tree-judged problem lone-stuck ≡ refused-at 34 3
-unfolding tree-judged judged-from judge tests next-due after-node after-part line-kind-of malformed wrong-count outside-range kind-tests leaf-tests available units-available is-stuck
+unfolding tree-judged judged-from judge tests next-due after-node after-part line-kind-of malformed wrong-count outside-range kind-tests leaf-tests available usable is-stuck
 lone-stuck-refused = refl
 
 -- split=0,1
@@ -146,7 +178,7 @@ no-unit =
     115 ∷ 112 ∷ 108 ∷ 105 ∷ 116 ∷ 61 ∷ 48 ∷ 44 ∷ 49 ∷ 10 ∷ []
 
 no-unit-refused : tree-judged problem no-unit ≡ refused-at 13 3
-unfolding tree-judged judged-from judge tests next-due after-node after-part line-kind-of malformed wrong-count outside-range kind-tests leaf-tests available units-available is-stuck
+unfolding tree-judged judged-from judge tests next-due after-node after-part line-kind-of malformed wrong-count outside-range kind-tests leaf-tests available usable is-stuck
 no-unit-refused = refl
 
 -- split=3: one value, and out of range
@@ -157,7 +189,7 @@ one-value =
     115 ∷ 112 ∷ 108 ∷ 105 ∷ 116 ∷ 61 ∷ 51 ∷ 10 ∷ []
 
 one-value-refused : tree-judged problem one-value ≡ refused-at 14 3
-unfolding tree-judged judged-from judge tests next-due after-node after-part line-kind-of malformed wrong-count outside-range kind-tests leaf-tests available units-available is-stuck
+unfolding tree-judged judged-from judge tests next-due after-node after-part line-kind-of malformed wrong-count outside-range kind-tests leaf-tests available usable is-stuck
 one-value-refused = refl
 
 -- end=tree where a node is due
@@ -168,7 +200,7 @@ no-tree =
     101 ∷ 110 ∷ 100 ∷ 61 ∷ 116 ∷ 114 ∷ 101 ∷ 101 ∷ 10 ∷ []
 
 no-tree-refused : tree-judged problem no-tree ≡ refused-at 12 3
-unfolding tree-judged judged-from judge tests next-due after-node after-part line-kind-of malformed wrong-count outside-range kind-tests leaf-tests available units-available is-stuck
+unfolding tree-judged judged-from judge tests next-due after-node after-part line-kind-of malformed wrong-count outside-range kind-tests leaf-tests available usable is-stuck
 no-tree-refused = refl
 
 -- the first tree under split=1,1 begins with split=1,1
@@ -180,7 +212,7 @@ split-twice =
     115 ∷ 112 ∷ 108 ∷ 105 ∷ 116 ∷ 61 ∷ 49 ∷ 44 ∷ 49 ∷ 10 ∷ []
 
 split-twice-refused : tree-judged problem split-twice ≡ refused-at 31 4
-unfolding tree-judged judged-from judge tests next-due after-node after-part line-kind-of malformed wrong-count outside-range kind-tests leaf-tests available units-available is-stuck
+unfolding tree-judged judged-from judge tests next-due after-node after-part line-kind-of malformed wrong-count outside-range kind-tests leaf-tests available usable is-stuck
 split-twice-refused = refl
 
 -- unit 1 off in period 1 and on in period 2, against TD: at the reserve line
@@ -196,7 +228,7 @@ stuck-unit =
     114 ∷ 101 ∷ 115 ∷ 101 ∷ 114 ∷ 118 ∷ 101 ∷ 61 ∷ 49 ∷ 44 ∷ 49 ∷ 10 ∷ []
 
 stuck-unit-refused : tree-judged problem stuck-unit ≡ refused-at 35 8
-unfolding tree-judged judged-from judge tests next-due after-node after-part line-kind-of malformed wrong-count outside-range kind-tests leaf-tests available units-available is-stuck
+unfolding tree-judged judged-from judge tests next-due after-node after-part line-kind-of malformed wrong-count outside-range kind-tests leaf-tests available usable is-stuck
 stuck-unit-refused = refl
 
 -- a price line where the reserve line is due
@@ -208,7 +240,7 @@ no-reserve =
     112 ∷ 114 ∷ 105 ∷ 99 ∷ 101 ∷ 61 ∷ 49 ∷ 44 ∷ 49 ∷ 10 ∷ []
 
 no-reserve-refused : tree-judged problem no-reserve ≡ refused-at 12 4
-unfolding tree-judged judged-from judge tests next-due after-node after-part line-kind-of malformed wrong-count outside-range kind-tests leaf-tests available units-available is-stuck
+unfolding tree-judged judged-from judge tests next-due after-node after-part line-kind-of malformed wrong-count outside-range kind-tests leaf-tests available usable is-stuck
 no-reserve-refused = refl
 
 -- a byte 10 after the end line
@@ -222,7 +254,7 @@ one-byte-more =
     10 ∷ []
 
 one-byte-more-refused : tree-judged problem one-byte-more ≡ refused-at 12 6
-unfolding tree-judged judged-from judge tests next-due after-node after-part line-kind-of malformed wrong-count outside-range kind-tests leaf-tests available units-available is-stuck
+unfolding tree-judged judged-from judge tests next-due after-node after-part line-kind-of malformed wrong-count outside-range kind-tests leaf-tests available usable is-stuck
 one-byte-more-refused = refl
 
 -- ---- well-formed, though a leaf doesn't hold
@@ -238,11 +270,32 @@ lone-short-formed = well-formed-is problem (lit≤ tt) lone-short .1 (lit≤ tt,
 
 pub judged-on : (tree-judged problem (nodes (plain-line split-key (2 ∷ 2 ∷ []) ∷ plain-line short-key (1 ∷ []) ∷ plain-line short-key (3 ∷ []) ∷ [])) ≡ refused-at 33 4)
     × (WellFormed problem (nodes (plain-line split-key (2 ∷ 2 ∷ []) ∷ plain-line short-key (1 ∷ []) ∷ plain-line short-key (3 ∷ []) ∷ [])) → ⊥)
-unfolding tree-judged judged-from judge tests next-due after-node after-part line-kind-of malformed wrong-count outside-range kind-tests leaf-tests available units-available is-stuck digits digits-by
+unfolding tree-judged judged-from judge tests next-due after-node after-part line-kind-of malformed wrong-count outside-range kind-tests leaf-tests available usable is-stuck digits digits-by
 judged-on = (
   refl,
   λ f. f .unbroken 13 5 refl
       (line-broken-is problem (lit≤ tt) 13 5 _ .0 (courses.refused-is (λ s l. form-only (tests problem s l)) (next-due problem) end 13 5 2 writer-due _ .0 refl) .1),
+)
+
+-- a lone crowd=1 (36)
+abbrev lone-crowd : List ℕ
+lone-crowd = lines ("kind=tree" ∷ "writer=3" ∷ "crowd=1" ∷ "end=tree" ∷ [])
+
+pub lone-crowd-formed : WellFormed problem lone-crowd × (tree-judged problem lone-crowd ≡ refused-at 36 3)
+unfolding Limits GoodLeaf render node-lines digits digits-by tree-judged judged-from judge tests next-due after-node after-part line-kind-of malformed wrong-count outside-range kind-tests leaf-tests usable fixed-on
+lone-crowd-formed = (well-formed-is problem (lit≤ tt) lone-crowd .1 (lit≤ tt, (3, leaf (crowd 0), (refl, (lit≤ tt, lit≤ tt), lit< tt))), refl)
+
+-- the first tree under count=1,0 begins with count=1,0 (37): not well-formed, though nothing else is wrong with it
+abbrev count-twice : List ℕ
+count-twice =
+    lines ("kind=tree" ∷ "writer=3" ∷ "count=1,0" ∷ "count=1,0" ∷ "price=1,1" ∷ "reserve=1,1" ∷ "price=1,1" ∷ "reserve=1,1" ∷ "price=1,1" ∷ "reserve=1,1" ∷ "end=tree" ∷ [])
+
+pub count-twice-unformed : (tree-judged problem count-twice ≡ refused-at 37 4) × (WellFormed problem count-twice → ⊥)
+unfolding tree-judged judged-from judge tests next-due after-node after-part line-kind-of malformed wrong-count outside-range kind-tests leaf-tests
+count-twice-unformed = (
+  refl,
+  λ f. f .unbroken 37 4 refl
+      (line-broken-is problem (lit≤ tt) 37 4 _ .0 (courses.refused-is (λ s l. form-only (tests problem s l)) (next-due problem) end 37 4 2 writer-due _ .0 refl) .1),
 )
 
 -- ---- the marked specimens, as read_tree answers them
@@ -257,3 +310,9 @@ specimen-price = ap read-as lone-price-accepted
 
 pub specimen-short : tree-read problem lone-short ≡ Refused (line-refusal 33 3)
 specimen-short = read-refused problem (lit≤ tt) lone-short 33 3 .1 (refused-is problem (lit≤ tt) lone-short 33 3 .0 lone-short-refused)
+
+-- and those with counts
+pub specimen-counts : (tree-read problem count-text ≡ Accepted 3 (tree-gives (number (pos 1880)) 1 2))
+    × (tree-read problem crowd-text ≡ Accepted 3 (tree-gives (number (pos 1980)) 2 3))
+unfolding tree-read read-as
+specimen-counts = (ap read-as (counts-accepted .0), ap read-as (counts-accepted .1))

@@ -5,10 +5,10 @@ use mathlib.Core.List.{List, [], _∷_}
 use mathlib.Core.Option.{Option, none, some}
 use Prim.Native.Nat.{ℕ, suc}
 use Rattle.model.specs.Instance.{Instance, _at_}
-use Rattle.model.specs.Above.{Above, root, Fork, status, side}
+use Rattle.model.specs.Above.{Above, root, Fork, status, count, side}
 use Rattle.model.specs.declared.figures.Bound.{Bound}
 use Rattle.model.specs.Figures.{no-figures, add-split, add-leaf}
-use Rattle.model.specs.Tree.{Leaf, short, stuck, price, leaf-bound}
+use Rattle.model.specs.Tree.{Leaf, short, crowd, stuck, price, leaf-bound}
 use Rattle.text.specs.Lines.{Line, later, lines-of, line-at, kind-of, end-tree}
 use Rattle.text.specs.Forms.{numbers-of, form-tests, word-tests, nothing-tests}
 use Rattle.text.specs.Writer.{writer-form}
@@ -16,9 +16,9 @@ use Rattle.text.specs.declared.Kind.the-variants as kind
 use Rattle.text.specs.Course.{Found, Judged, judged-from}
 use Rattle.text.specs.Tests.{Test, found}
 use Rattle.tree.specs.Places.{Part, priced}
-use Rattle.tree.specs.Refusals.{LineKind, split-line, short-line, stuck-line, price-line, node-form, part-form}
+use Rattle.tree.specs.Refusals.{LineKind, split-line, count-line, short-line, crowd-line, stuck-line, price-line, node-form, part-form}
 use Rattle.tree.specs.Acceptance.{Bounded, bounded}
-use Rattle.tree.specs.NodeLines.{line-kind-of, named, node-tests, part-tests}
+use Rattle.tree.specs.NodeLines.{line-kind-of, named, counted, node-tests, part-tests}
 
 abbrev pub with-split : Bounded → Bounded
 with-split F = bounded (F .writer) (add-split (F .figures))
@@ -63,7 +63,9 @@ after-leaf P F A ps x = nodes-due (with-leaf F (leaf-bound P A x)) ps
 -- what is due after a good node line: a fork's trees, what follows a leaf, or the next line of a leaf that has more
 unfoldable pub after-node : Instance → Bounded → Pending → List Pending → LineKind → Line → Due
 after-node P F p ps split-line l = after-fork F p ps (status (named (node-form P split-line) l 0) (named (node-form P split-line) l 1))
+after-node P F p ps count-line l = after-fork F p ps (count (named (node-form P count-line) l 0) (counted (node-form P count-line) l))
 after-node P F p ps short-line l = after-leaf P F (p .above) ps (short (named (node-form P short-line) l 0))
+after-node P F p ps crowd-line l = after-leaf P F (p .above) ps (crowd (named (node-form P crowd-line) l 0))
 after-node P F p ps stuck-line l = after-leaf P F (p .above) ps (stuck (named (node-form P stuck-line) l 0))
 after-node P F p ps price-line l = part-due F (p .above) (priced (numbers-of (node-form P price-line) l)) ps
 

@@ -1,11 +1,12 @@
 -- What the readers of a tree answer: to read a node is to go through the lines of Course as far as its last line.
 use mathlib.Core.List.{List, [], _∷_}
 use mathlib.Core.Option.{Option, none, some}
-use Prim.Native.Nat.{ℕ, _+_, _≤_}
+use Prim.Native.Nat.{ℕ, suc, _+_, _*_, _≤_}
 use lib.ListN.{length, drop}
 use Rattle.model.specs.Instance.{Instance}
 use Rattle.model.specs.Above.{Above}
 use Rattle.model.specs.declared.figures.TreeFigures.{TreeFigures}
+use Rattle.walk.specs.Marks.{upper-begin, lower-begin}
 use Rattle.text.specs.Lines.{Line, lines-of, line-at, end-tree}
 use Rattle.text.specs.Forms.{plain, place-after, form-tests}
 use Rattle.text.specs.Course.{Found, refused, good, Judged, refused-at, accepted}
@@ -16,12 +17,16 @@ use Rattle.tree.specs.declared.leaf.Read.{Read}
 use Rattle.tree.specs.declared.leaf.Read.the-variants.{Refused, Tree}
 use Rattle.tree.specs.declared.naming.NamedLine.{NamedLine}
 use Rattle.tree.specs.declared.naming.NamedLine.the-variants as name
-use Rattle.tree.specs.declared.splitting.SplitLine.{SplitLine}
-use Rattle.tree.specs.declared.splitting.SplitLine.the-variants as split
+use Rattle.tree.specs.declared.above.Side.{Side}
+use Rattle.tree.specs.declared.above.ForkLine.{ForkLine}
+use Rattle.tree.specs.declared.above.ForkLine.the-variants as fork
+use Rattle.tree.specs.declared.forking.ForkKind.{ForkKind}
+use Rattle.tree.specs.declared.forking.ForkKind.the-variants.{Split, Count}
 use Rattle.tree.specs.declared.TreeRead.{TreeRead}
 use Rattle.tree.specs.declared.TreeRead.the-variants as answer
-use Rattle.tree.specs.NodeLines.{named, node-tests}
-use Rattle.tree.specs.Refusals.{split-line, node-form}
+use Rattle.tree.specs.NodeLines.{named, counted, node-tests}
+use Rattle.tree.specs.Refusals.{split-line, count-line, node-form}
+use Rattle.tree.specs.Kinds.{fork-kind}
 use Rattle.tree.specs.Places.{Part}
 use Rattle.tree.specs.Course.{pending, Due, writer-due, nodes-due, part-due, nothing-due, judge, tree-judged}
 use Rattle.tree.specs.Acceptance.{Bounded, bounded}
@@ -94,7 +99,7 @@ abbrev pub Came : List ℕ → Read → Type 0
 Came text (Refused n l) = Unit {0}
 Came text (Tree next l S) = Placed text next l S
 
--- ---- a line that names a unit or a period, and a split line: the first number that refuses it, or what it says
+-- ---- a line that names a unit or a period, and a fork's line: the first number that refuses it, or what it says
 
 abbrev pub named-by : Found NamedLine → NamedLine
 named-by (refused n) = name.Refused n
@@ -107,16 +112,28 @@ named-line-read key most text at =
     let l = line-at text at in
     named-by (found (form-tests f l []) (name.Names (named f l 0) (place-after l at)))
 
-abbrev pub split-by : Found SplitLine → SplitLine
-split-by (refused n) = split.Refused n
-split-by (good r) = r
+abbrev pub fork-by : Found ForkLine → ForkLine
+fork-by (refused n) = fork.Refused n
+fork-by (good r) = r
 
--- the line that starts at the place `at`, where a split line is due at depth d with A above it
-unfoldable pub split-line-read : Instance → List ℕ → ℕ → Above → ℕ → SplitLine
-split-line-read P text at A d =
+abbrev pub side-at : ℕ → ℕ → Side
+side-at place byte = record { place = place; byte = byte }
+
+-- the byte that a good line puts above its first tree and above its second: a status is off (1) or on (2); the upper or the lower count is set
+abbrev pub over : Instance → ForkKind → Line → ℕ → ForkLine
+over P Split l next =
     let f = node-form P split-line in
+    let place = named f l 0 * P .periods + named f l 1 in
+    fork.Over (side-at place 1) (side-at place 2) next
+over P Count l next =
+    let f = node-form P count-line in
+    fork.Over (side-at (upper-begin + named f l 0) (suc (counted f l))) (side-at (lower-begin + named f l 0) (suc (counted f l))) next
+
+-- the line that starts at the place `at`, where a fork's line of this kind is due at depth d with A above it
+unfoldable pub fork-line-read : Instance → List ℕ → ℕ → Above → ℕ → ForkKind → ForkLine
+fork-line-read P text at A d k =
     let l = line-at text at in
-    split-by (found (node-tests P A d split-line l) (split.On (named f l 0) (named f l 1) (place-after l at)))
+    fork-by (found (node-tests P A d (fork-kind k) l) (over P k l (place-after l at)))
 
 -- ---- the end line
 

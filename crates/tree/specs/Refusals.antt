@@ -1,31 +1,33 @@
--- Document 01, Numbers that come from the text: when a number refuses a line of a tree's text, whose first line is kind=tree.
+-- Document 01, Numbers that come from the text, and document 02, [1]: when a number refuses a line of a tree's text, whose first line is kind=tree.
 use mathlib.Core.Path.{_≡_}
 use mathlib.Core.Bool.{Bool}
 use mathlib.Core.List.{List, [], _∷_}
-use Prim.Native.Nat.{ℕ, suc, _-_, _<_}
+use Prim.Native.Nat.{ℕ, suc, _-_, _≤_, _<_}
 use lib.ListN.{length}
 use Rattle.model.specs.Instance.{Instance}
 use Rattle.model.specs.Ranges.{GoodWriter}
-use Rattle.model.specs.Above.{free, Above, root, status}
-use Rattle.model.specs.Tree.{short, stuck, price, Tree, GoodFork, GoodLeaf, LeafHolds, Limits, Multipliers}
+use Rattle.model.specs.Above.{free, Above, root, status, count}
+use Rattle.model.specs.Tree.{short, crowd, stuck, price, Tree, Narrows, GoodFork, GoodLeaf, LeafHolds, Limits, Multipliers}
 use Rattle.text.specs.Lines.{Line, ended, later, lines-of, end-tree}
 use Rattle.text.specs.Forms.{Form, form, plain}
 use Rattle.text.specs.Rendering.{plain-line}
 use Rattle.text.specs.Writer.{writer-form}
 use Rattle.text.specs.LineRefused.{Renders, Unfit, LineRefused}
-use Rattle.tree.specs.Rendering.{split-key, short-key, stuck-key, price-key, reserve-key, fork-line, lines-after}
+use Rattle.tree.specs.Rendering.{split-key, count-key, short-key, crowd-key, stuck-key, price-key, reserve-key, fork-line, lines-after}
 use Rattle.tree.specs.Places.{Part, priced, node-at, part-at, LineAt, HoldsAmong}
 
 -- ---- document 01, Texts: the forms of a tree's lines of numbers
 
--- the four node lines
+-- the six node lines
 pub data LineKind : Type 0 where
-  split-line short-line stuck-line price-line : LineKind
+  split-line count-line short-line crowd-line stuck-line price-line : LineKind
 
--- a unit and a period, each from 1 on; or a multiplier for each period
+-- a unit and a period, each from 1 on; a period and a count from 0 to I - 1; or a multiplier for each period
 abbrev pub node-form : Instance → LineKind → Form
 node-form P split-line = form split-key 0 (1 ∷ 1 ∷ []) (length (P .units) ∷ P .periods ∷ [])
+node-form P count-line = form count-key 0 (1 ∷ 0 ∷ []) (P .periods ∷ (length (P .units) - 1) ∷ [])
 node-form P short-line = plain short-key 1 1 (P .periods)
+node-form P crowd-line = plain crowd-key 1 1 (P .periods)
 node-form P stuck-line = plain stuck-key 1 1 (length (P .units))
 node-form P price-line = plain price-key (P .periods) 0 1000000000
 
@@ -52,11 +54,16 @@ pub data NodeBreaks (P : Instance) (A : Above) (d : ℕ) (l : Line) : ℕ → Ty
   unfit : {n : ℕ} (k : LineKind) (neg : Bool) (vs : List ℕ) → Renders (node-form P k) l neg vs → Unfit (node-form P k) l n → NodeBreaks P A d l n
   -- 31: a split on a status that is fixed already
   again : (U t : ℕ) → U < length (P .units) → t < P .periods → l ≡ ended (fork-line (status U t)) → (A .marks U t ≡ free → ⊥) → NodeBreaks P A d l 31
-  -- 32: a split deeper than 63
+  -- 32: a split deeper than 63, or a count
   deeper : (U t : ℕ) → GoodFork P A (status U t) → l ≡ ended (fork-line (status U t)) → 63 < d → NodeBreaks P A d l 32
+  deeper-count : (t K : ℕ) → t < P .periods → K ≤ length (P .units) - 1 → l ≡ ended (fork-line (count t K)) → 63 < d → NodeBreaks P A d l 32
   -- 33, 34: a leaf that does not meet its rule
   short-fails : (t : ℕ) → GoodLeaf P (short t) → l ≡ ended (plain-line short-key (suc t ∷ [])) → (LeafHolds P A (short t) → ⊥) → NodeBreaks P A d l 33
   stuck-fails : (U : ℕ) → GoodLeaf P (stuck U) → l ≡ ended (plain-line stuck-key (suc U ∷ [])) → (LeafHolds P A (stuck U) → ⊥) → NodeBreaks P A d l 34
+  -- 36: likewise
+  crowd-fails : (t : ℕ) → GoodLeaf P (crowd t) → l ≡ ended (plain-line crowd-key (suc t ∷ [])) → (LeafHolds P A (crowd t) → ⊥) → NodeBreaks P A d l 36
+  -- 37: a count below the lower one that stands, or not below the upper
+  no-narrower : (t K : ℕ) → t < P .periods → K ≤ length (P .units) - 1 → d ≤ 63 → l ≡ ended (fork-line (count t K)) → (Narrows A t K → ⊥) → NodeBreaks P A d l 37
 
 -- n refuses the line l where a later line of a leaf is due, with A above the leaf, after a part of it
 pub data PartBreaks (P : Instance) (A : Above) (l : Line) : Part → ℕ → Type 0 where

@@ -1,9 +1,10 @@
--- Document 01, Texts: how a tree is written.
+-- Document 01, Texts, and document 02, [1]: how a tree is written.
+use mathlib.Core.Bool.{Bool, _||_}
 use mathlib.Core.List.{List, [], _∷_, _++_}
 use Prim.Native.Nat.{ℕ, suc}
-use Rattle.model.specs.Above.{Fork, status}
-use Rattle.model.specs.Tree.{Leaf, short, stuck, price, Tree, leaf, fork}
-use Rattle.text.specs.Lines.{kind-tree, end-tree}
+use Rattle.model.specs.Above.{Fork, status, count}
+use Rattle.model.specs.Tree.{Leaf, short, crowd, stuck, price, Tree, leaf, fork}
+use Rattle.text.specs.Lines.{begins, kind-tree, end-tree}
 use Rattle.text.specs.Rendering.{plain-line, text-of}
 use Rattle.text.specs.Writer.{writer-key}
 
@@ -11,9 +12,17 @@ use Rattle.text.specs.Writer.{writer-key}
 abbrev pub split-key : List ℕ
 split-key = 115 ∷ 112 ∷ 108 ∷ 105 ∷ 116 ∷ 61 ∷ []
 
+-- count=
+abbrev pub count-key : List ℕ
+count-key = 99 ∷ 111 ∷ 117 ∷ 110 ∷ 116 ∷ 61 ∷ []
+
 -- short=
 abbrev pub short-key : List ℕ
 short-key = 115 ∷ 104 ∷ 111 ∷ 114 ∷ 116 ∷ 61 ∷ []
+
+-- crowd=
+abbrev pub crowd-key : List ℕ
+crowd-key = 99 ∷ 114 ∷ 111 ∷ 119 ∷ 100 ∷ 61 ∷ []
 
 -- stuck=
 abbrev pub stuck-key : List ℕ
@@ -27,13 +36,15 @@ price-key = 112 ∷ 114 ∷ 105 ∷ 99 ∷ 101 ∷ 61 ∷ []
 abbrev pub reserve-key : List ℕ
 reserve-key = 114 ∷ 101 ∷ 115 ∷ 101 ∷ 114 ∷ 118 ∷ 101 ∷ 61 ∷ []
 
--- the line of a fork; in texts units and periods count from 1
+-- the line of a fork; in texts units and periods count from 1, and how many run is the number itself
 abbrev pub fork-line : Fork → List ℕ
 fork-line (status U t) = plain-line split-key (suc U ∷ suc t ∷ [])
+fork-line (count t K) = plain-line count-key (suc t ∷ K ∷ [])
 
 -- the lines of a leaf
 abbrev pub leaf-lines : Leaf → List (List ℕ)
 leaf-lines (short t) = plain-line short-key (suc t ∷ []) ∷ []
+leaf-lines (crowd t) = plain-line crowd-key (suc t ∷ []) ∷ []
 leaf-lines (stuck U) = plain-line stuck-key (suc U ∷ []) ∷ []
 leaf-lines (price q s) = plain-line price-key q ∷ plain-line reserve-key s ∷ []
 
@@ -41,6 +52,10 @@ leaf-lines (price q s) = plain-line price-key q ∷ plain-line reserve-key s ∷
 unfoldable pub node-lines : Tree → List (List ℕ)
 node-lines (leaf l) = leaf-lines l
 node-lines (fork f x y) = fork-line f ∷ (node-lines x ++ node-lines y)
+
+-- a line that counts as a split: it has two trees below it
+abbrev pub is-split-line : List ℕ → Bool
+is-split-line b = begins split-key b || begins count-key b
 
 -- the lines of the text after the first
 abbrev pub lines-after : ℕ → Tree → List (List ℕ)

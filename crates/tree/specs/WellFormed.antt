@@ -1,4 +1,4 @@
--- Document 01, Texts: well-formed, for a tree. A line after a leaf that fails (33, 34, 35) is judged too: its place is the same.
+-- Document 01, Texts, and document 02, [1]: well-formed, for a tree. A line after a leaf that fails (33 to 36) is judged too: its place is the same.
 use Prim.Native.Nat.{ℕ}
 use mathlib.Core.List.{List}
 use Rattle.model.specs.Instance.{Instance}

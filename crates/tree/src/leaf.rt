@@ -1,4 +1,4 @@
-// The leaves: short, stuck, and a price leaf's two lines.
+// The leaves: short, crowd, stuck, and a price leaf's two lines.
 ghost use mathlib.Core.Path.{_≡_};
 ghost use lib.ListN.{length, take};
 ghost use Rattle.model.specs.Tree.{Multipliers};
@@ -6,7 +6,8 @@ ghost use Rattle.layout.specs.Numbers.{instance-in, Laid};
 ghost use Rattle.walk.specs.Marks.{above-of, above-length};
 ghost use Rattle.text.specs.Lines.{line-at};
 ghost use Rattle.tree.specs.NodeLines.{line-kind-of};
-ghost use Rattle.tree.specs.Refusals.{short-line, stuck-line, price-line};
+ghost use Rattle.tree.specs.Refusals.{short-line, crowd-line, stuck-line, price-line};
+ghost use Rattle.tree.specs.Kinds.{leaf-kind};
 ghost use Rattle.tree.specs.Places.{priced};
 ghost use Rattle.tree.specs.ReadAnswers.{leaf-read, part-read, Placed};
 use crate::naming::NamedLine;
@@ -15,6 +16,7 @@ use layout::periods_in;
 use layout::units_in;
 use least::stuck::is_unit_stuck;
 use least::unit::Least;
+use leaves::crowd::is_crowd;
 use leaves::price::leaf_value;
 use leaves::short::is_short;
 use model::figures::Bound;
@@ -35,8 +37,16 @@ pub enum Read {
     },
 }
 
+// The kinds of leaves, by their first lines.
+pub enum LeafKind {
+    Short,
+    Crowd,
+    Stuck,
+    Price,
+}
+
 // The short leaf whose line starts at `at` and has this number.
-pub fn read_short(
+fn read_short(
     numbers: &[u64],
     text: &[u8],
     at: usize,
@@ -67,8 +77,40 @@ pub fn read_short(
     }
 }
 
+// The crowd leaf whose line starts at `at` and has this number.
+fn read_crowd(
+    numbers: &[u64],
+    text: &[u8],
+    at: usize,
+    line: usize,
+    above: &[u8],
+    figures: TreeFigures,
+) -> Read
+    requires { ⌜ Laid (now numbers) ⌝ }
+    requires { ⌜ length (now above) ≡ above-length ⌝ }
+    requires { ⌜ Placed (now text) at line figures ⌝ }
+    requires { ⌜ line-kind-of (line-at (now text) at) ≡ crowd-line ⌝ }
+    ensures { λ r. ⌜ r ≡ leaf-read (instance-in (now (numbers .entry))) (now (text .entry)) at line figures (above-of (instance-in (now (numbers .entry))) (now (above .entry))) ⌝ }
+{
+    let periods = periods_in(numbers);
+    let found = read_named(text, at, b"crowd=", periods);
+    match found {
+        NamedLine::Refused { number } => Read::Refused { number, line },
+        NamedLine::Names { index, next } => {
+            if is_crowd(numbers, index, above) {
+                return Read::Tree {
+                    next,
+                    line: line + 1,
+                    figures: figures.with_leaf(Bound::Never),
+                };
+            }
+            Read::Refused { number: 36, line }
+        }
+    }
+}
+
 // The stuck leaf whose line starts at `at` and has this number.
-pub fn read_stuck(
+fn read_stuck(
     numbers: &[u64],
     text: &[u8],
     at: usize,
@@ -136,7 +178,7 @@ fn read_reserve(
 }
 
 // The price leaf whose price line starts at `at` and has this number.
-pub fn read_price(
+fn read_price(
     numbers: &[u64],
     text: &[u8],
     at: usize,
@@ -159,5 +201,29 @@ pub fn read_price(
             let q = row.values;
             read_reserve(numbers, text, next, line + 1, q, above, figures)
         }
+    }
+}
+
+// The leaf of this kind whose first line starts at `at` and has this number.
+pub fn read_leaf(
+    numbers: &[u64],
+    text: &[u8],
+    at: usize,
+    line: usize,
+    kind: LeafKind,
+    above: &[u8],
+    figures: TreeFigures,
+) -> Read
+    requires { ⌜ Laid (now numbers) ⌝ }
+    requires { ⌜ length (now above) ≡ above-length ⌝ }
+    requires { ⌜ Placed (now text) at line figures ⌝ }
+    requires { ⌜ line-kind-of (line-at (now text) at) ≡ leaf-kind kind ⌝ }
+    ensures { λ r. ⌜ r ≡ leaf-read (instance-in (now (numbers .entry))) (now (text .entry)) at line figures (above-of (instance-in (now (numbers .entry))) (now (above .entry))) ⌝ }
+{
+    match kind {
+        LeafKind::Short => read_short(numbers, text, at, line, above, figures),
+        LeafKind::Crowd => read_crowd(numbers, text, at, line, above, figures),
+        LeafKind::Stuck => read_stuck(numbers, text, at, line, above, figures),
+        LeafKind::Price => read_price(numbers, text, at, line, above, figures),
     }
 }

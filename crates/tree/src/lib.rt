@@ -15,6 +15,8 @@ use refusal::Refusal;
 use text::End;
 
 mod above;
+mod counting;
+mod forking;
 mod leaf;
 mod naming;
 mod node;
@@ -65,7 +67,7 @@ pub fn read_tree(problem: Problem, text: &[u8]) -> TreeRead
         Written::By { writer } => {
             let next = line.next;
             let numbers = lay_out(problem);
-            let mut above = [0u8; 1536];
+            let mut above = [0u8; 1632];
             let read = read_node(&numbers, text, next, 3, 0, &mut above, TreeFigures::none());
             read_end(text, writer, read)
         }

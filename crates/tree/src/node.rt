@@ -1,4 +1,4 @@
-// A tree: a leaf, or a split with two trees.
+// A tree: a leaf, or a fork with two trees.
 ghost use mathlib.Core.Path.{_≡_};
 ghost use Prim.Native.Nat.{_+_, _≤_, _<_};
 ghost use lib.ListN.{length, set};
@@ -8,24 +8,19 @@ ghost use Rattle.text.specs.Lines.{line-at};
 ghost use Rattle.tree.specs.NodeLines.{line-kind-of};
 ghost use Rattle.tree.specs.Kinds.{line-kind};
 ghost use Rattle.tree.specs.ReadAnswers.{node-read, trees-read, Placed};
-use crate::above::OFF;
-use crate::above::ON;
+use crate::above::ForkLine;
 use crate::above::Side;
+use crate::forking::ForkKind;
+use crate::forking::read_fork_line;
+use crate::leaf::LeafKind;
 use crate::leaf::Read;
-use crate::leaf::read_price;
-use crate::leaf::read_short;
-use crate::leaf::read_stuck;
-use crate::splitting::SplitLine;
-use crate::splitting::read_split_line;
-use layout::periods_in;
+use crate::leaf::read_leaf;
 use model::figures::TreeFigures;
 
-// The four node lines.
+// The node lines: of a fork, with two trees below it, or of a leaf.
 pub enum NodeKind {
-    Split,
-    Short,
-    Stuck,
-    Price,
+    Fork(ForkKind),
+    Leaf(LeafKind),
 }
 
 // Which node line starts at `at`, by its key; where it has none of the keys, a price line is missed.
@@ -33,15 +28,21 @@ fn find_kind(text: &[u8], at: usize) -> NodeKind
     ensures { λ r. ⌜ line-kind r ≡ line-kind-of (line-at (now (text .entry)) at) ⌝ }
 {
     if text::starts(text, at, b"split=") {
-        return NodeKind::Split;
+        return NodeKind::Fork(ForkKind::Split);
+    }
+    if text::starts(text, at, b"count=") {
+        return NodeKind::Fork(ForkKind::Count);
     }
     if text::starts(text, at, b"short=") {
-        return NodeKind::Short;
+        return NodeKind::Leaf(LeafKind::Short);
+    }
+    if text::starts(text, at, b"crowd=") {
+        return NodeKind::Leaf(LeafKind::Crowd);
     }
     if text::starts(text, at, b"stuck=") {
-        return NodeKind::Stuck;
+        return NodeKind::Leaf(LeafKind::Stuck);
     }
-    NodeKind::Price
+    NodeKind::Leaf(LeafKind::Price)
 }
 
 // The tree whose first line starts at `at` and has this number, with what stands above it, which is left as it was.
@@ -62,17 +63,16 @@ pub fn read_node(
 {
     let kind = find_kind(text, at);
     match kind {
-        NodeKind::Short => read_short(numbers, text, at, line, above, figures),
-        NodeKind::Stuck => read_stuck(numbers, text, at, line, above, figures),
-        NodeKind::Price => read_price(numbers, text, at, line, above, figures),
-        NodeKind::Split => {
-            let found = read_split_line(numbers, text, at, depth, above);
+        NodeKind::Leaf(leaf) => read_leaf(numbers, text, at, line, leaf, above, figures),
+        NodeKind::Fork(fork) => {
+            let found = read_fork_line(numbers, text, at, depth, fork, above);
             match found {
-                SplitLine::Refused { number } => Read::Refused { number, line },
-                SplitLine::On { unit, period, next } => {
-                    let place = unit * periods_in(numbers) + period;
-                    let first = Side { place, byte: OFF };
-                    let second = Side { place, byte: ON };
+                ForkLine::Refused { number } => Read::Refused { number, line },
+                ForkLine::Over {
+                    first,
+                    second,
+                    next,
+                } => {
                     let more = figures.with_split();
                     read_split(
                         numbers,
@@ -91,7 +91,7 @@ pub fn read_node(
     }
 }
 
-// The two trees of a split, the first of which starts at `at` with this line, each with its side's byte above it. The bytes are left as
+// The two trees of a fork, the first of which starts at `at` with this line, each with its side's byte above it. The bytes are left as
 // they were.
 fn read_split(
     numbers: &[u64],

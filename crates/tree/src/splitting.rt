@@ -5,26 +5,17 @@ ghost use lib.ListN.{length};
 ghost use Rattle.layout.specs.Numbers.{instance-in, Laid};
 ghost use Rattle.walk.specs.Marks.{above-of, above-length};
 ghost use Rattle.tree.specs.Coded.{split-refusal};
-ghost use Rattle.tree.specs.ReadAnswers.{split-line-read};
+ghost use Rattle.tree.specs.declared.forking.ForkKind.the-variants.{Split};
+ghost use Rattle.tree.specs.ReadAnswers.{fork-line-read};
+use crate::above::ForkLine;
+use crate::above::MOST_DEPTH;
+use crate::above::OFF;
+use crate::above::ON;
+use crate::above::Side;
 use crate::above::is_fixed;
 use layout::periods_in;
 use layout::units_in;
 use text::Verdict;
-
-// The depth of the deepest split.
-const MOST_DEPTH: usize = 63;
-
-// What a split line is at its place: refused by a number, or a split on a unit and a period, from 0, with the next line's start.
-pub enum SplitLine {
-    Refused {
-        number: u64,
-    },
-    On {
-        unit: usize,
-        period: usize,
-        next: usize,
-    },
-}
 
 // The number that refuses a split on the status at a place (31, 32), or 0.
 fn refuse_split(above: &[u8], place: usize, depth: usize) -> u64
@@ -48,11 +39,11 @@ pub fn read_split_line(
     at: usize,
     depth: usize,
     above: &[u8],
-) -> SplitLine
+) -> ForkLine
     requires { ⌜ Laid (now numbers) ⌝ }
     requires { ⌜ length (now above) ≡ above-length ⌝ }
     requires { ⌜ length (now text) ≤ 1048576 ⌝ }
-    ensures { λ r. ⌜ r ≡ split-line-read (instance-in (now (numbers .entry))) (now (text .entry)) at (above-of (instance-in (now (numbers .entry))) (now (above .entry))) depth ⌝ }
+    ensures { λ r. ⌜ r ≡ fork-line-read (instance-in (now (numbers .entry))) (now (text .entry)) at (above-of (instance-in (now (numbers .entry))) (now (above .entry))) depth Split ⌝ }
 {
     let units = units_in(numbers);
     let periods = periods_in(numbers);
@@ -61,15 +52,22 @@ pub fn read_split_line(
     let mut values = [0u64; 2];
     let verdict = text::fill_line(text, at, b"split=", &lows, &highs, &mut values);
     match verdict {
-        Verdict::Refused { number } => SplitLine::Refused { number },
+        Verdict::Refused { number } => ForkLine::Refused { number },
         Verdict::Good { next } => {
             let unit = (values[0] - 1) as usize;
             let period = (values[1] - 1) as usize;
-            let number = refuse_split(above, unit * periods + period, depth);
+            let place = unit * periods + period;
+            let number = refuse_split(above, place, depth);
             if number != 0 {
-                return SplitLine::Refused { number };
+                return ForkLine::Refused { number };
             }
-            SplitLine::On { unit, period, next }
+            let first = Side { place, byte: OFF };
+            let second = Side { place, byte: ON };
+            ForkLine::Over {
+                first,
+                second,
+                next,
+            }
         }
     }
 }

@@ -1,4 +1,4 @@
--- Demand 3 refutes each wrong docket of document 01 that answers otherwise: on document 01's problem one text more after a short list is answered as it is
+-- Demand 3 refutes each wrong docket of the papers that answers otherwise: on document 01's problem one text more after a short list is answered as it is
 -- due.
 use mathlib.Core.Path.{_≡_, refl, sym, ap, subst}
 use mathlib.Core.Bool.{Bool, true, false}
@@ -16,6 +16,7 @@ use Rattle.model.specs.declared.figures.Bound.{Bound}
 use Rattle.model.specs.declared.figures.Bound.the-variants.{Number as number}
 use Rattle.model.specs.declared.figures.TreeFigures.{TreeFigures}
 use Rattle.model.specs.Tree.{short, stuck, leaf, bound, tree-figures}
+use Rattle.model.specs.CountExamples.{by-count}
 use Rattle.model.specs.Best.{higher}
 use Rattle.refusal.specs.declared.Refusal.{Refusal}
 use Rattle.problem.proofs.Examples.{example, example-formed}
@@ -31,8 +32,8 @@ use Rattle.docket.specs.Demand3.{reached, held-if, HoldsUnder, Lodging, Reporti
 use Rattle.docket.proofs.Determined.{holds-then}
 use Rattle.docket.proofs.NextText.{answered}
 use Rattle.docket.proofs.AfterTexts.{reached-is}
-use Rattle.docket.proofs.Specimens.{problem-text, problem-short, rows, figures, is-problem, is-second, is-cheap, is-cheap-too, is-tree, is-lone-price, is-not-short, is-not-stuck}
-use Rattle.wrong.specs.WrongDockets.{IsRefused, IsHeld, IsPassed, IsBound, answer, RefusesAll, RefusesRest, OneBound, PassesRest, Invents, StuckUnexamined, NeverUnexamined, SecondProblem, KeepsLast, KeepsLastTree}
+use Rattle.docket.proofs.Specimens.{problem-text, problem-short, rows, figures, is-problem, is-second, is-cheap, is-cheap-too, is-tree, is-lone-price, is-not-short, is-not-stuck, is-counted, is-not-crowd, is-no-narrower}
+use Rattle.wrong.specs.WrongDockets.{IsRefused, IsHeld, IsPassed, IsBound, answer, RefusesAll, RefusesRest, OneBound, PassesRest, Invents, StuckUnexamined, NeverUnexamined, CountsUnread, NeverAnswers, SecondProblem, KeepsLast, KeepsLastTree}
 use Rattle.wrong.proofs.ShortLists.{begun, begun-as, begun-are, cheap, cheap-text, cheap-are, tree-text, tree-text-too, lone-text, tree-given, lone-given, tree-are, is-tree-too}
 
 not-refused : (s : Costed) (r : Refusal) → schedule s ≡ refused r → ⊥
@@ -88,6 +89,16 @@ module _ (lodge : Lodging) {report : Reporting} {buffer : Writing} (D : Demand3 
   never-unexamined r =
       r begun 3 1 (first-holds .known) (lit≤ tt, lit≤ tt) two-periods
       (subst IsRefused (sym (answered lodge D begun begun-as begun-are (rendered-trees.render 3 (leaf (short 1))) _ is-not-short)) tt)
+
+  -- a count is accepted; a crowd leaf that does not hold is 36, a count no narrower than the one above it 37
+  pub counts-unread : CountsUnread lodge → ⊥
+  counts-unread r = subst IsRefused (answered lodge D begun begun-as begun-are (rendered-trees.render 3 by-count) _ is-counted) (r begun 3 1 1 _ _)
+
+  pub never-36 : NeverAnswers lodge 36 → ⊥
+  never-36 r = r begun _ 3 (answered lodge D begun begun-as begun-are _ _ is-not-crowd)
+
+  pub never-37 : NeverAnswers lodge 37 → ⊥
+  never-37 r = r begun _ 4 (answered lodge D begun begun-as begun-are _ _ is-no-narrower)
 
   -- two trees with two bounds
   pub one-bound : (b : Bound) → OneBound lodge b → ⊥

@@ -1,4 +1,4 @@
--- Document 01, Conditions of acceptance: how wrong dockets answer, each said of any way of lodging and of the dockets that it reaches from a fresh one.
+-- Document 01, Conditions of acceptance, and document 02: how wrong dockets answer, each said of any way of lodging and of the dockets that it reaches from a fresh one.
 -- Demand 3 refutes each.
 use mathlib.Core.Path.{_≡_}
 use mathlib.Core.Bool.{true}
@@ -10,7 +10,8 @@ use Rattle.model.specs.Ranges.{WellFormed, GoodWriter}
 use Rattle.model.specs.declared.figures.Bound.{Bound}
 use Rattle.model.specs.declared.figures.Bound.the-variants.{Never as never, Number as number}
 use Rattle.model.specs.declared.figures.TreeFigures.{TreeFigures}
-use Rattle.model.specs.Tree.{short, stuck, Tree, leaf, splits, leaves, tree-figures}
+use Rattle.model.specs.Above.{count}
+use Rattle.model.specs.Tree.{short, stuck, Tree, leaf, fork, splits, leaves, tree-figures}
 use Rattle.problem.specs.Rendering as problems
 use Rattle.tree.specs.Rendering as rendered
 use Rattle.tree.specs.Acceptance.{bounded}
@@ -95,6 +96,14 @@ module _ (lodge : Lodging) where
   NeverUnexamined = (texts : List (List ℕ)) (w t : ℕ) → reached lodge texts .known ≡ true → GoodWriter w → t < reached lodge texts .problem .periods
       → IsRefused (answer texts (rendered.render w (leaf (short t))))
       → ⊥
+
+  -- document 02, [1]: refusing every tree that begins with a count, as it was before
+  abbrev pub CountsUnread : Type 0
+  CountsUnread = (texts : List (List ℕ)) (w t K : ℕ) (x y : Tree) → IsRefused (answer texts (rendered.render w (fork (count t K) x y)))
+
+  -- never answering with a number: of 36 and 37, crowd leaves unexamined, counts let in beside any others
+  abbrev pub NeverAnswers : ℕ → Type 0
+  NeverAnswers n = (texts : List (List ℕ)) (text : List ℕ) (l : ℕ) → answer texts text ≡ refused n l 0 0 → ⊥
 
   -- letting a second problem in
   abbrev pub SecondProblem : Type 0

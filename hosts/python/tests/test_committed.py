@@ -85,5 +85,5 @@ class Committed(unittest.TestCase):
                 verdict = answer.verdict
                 kinds.add(verdict.number if isinstance(verdict, Refused) else (type(verdict), type(verdict.figures)))
         accepted = {(Held, Problem), (Held, Schedule), (Held, Tree), (Passed, Schedule), (Passed, Tree)}
-        refused = {12, 13, 14, 15, 21, 22, 23, 24, 25, 31, 32, 33, 34, 35, 41, 42}
+        refused = {12, 13, 14, 15, 21, 22, 23, 24, 25, 31, 32, 33, 34, 35, 36, 37, 41, 42}
         self.assertEqual(kinds, accepted | refused)

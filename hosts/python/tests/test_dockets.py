@@ -115,4 +115,4 @@ class Dockets(unittest.TestCase):
 
     def test_the_number_of_the_rules(self) -> None:
         self.assertIsInstance(docket.rules(), int)
-        self.assertEqual(docket.rules(), 2)
+        self.assertEqual(docket.rules(), 3)

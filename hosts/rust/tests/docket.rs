@@ -37,7 +37,7 @@ fn a_docket_begins_with_nothing() {
         assert_eq!(docket.report().gap(), None);
         assert!(docket.outputs().is_empty());
     }
-    assert_eq!(docket::rules(), 2);
+    assert_eq!(docket::rules(), 3);
 }
 
 #[test]

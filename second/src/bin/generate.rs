@@ -7,15 +7,17 @@ use std::path::Path;
 use std::process::ExitCode;
 use std::{env, fs, io};
 
+use second::inputs::kinds::kinds;
 use second::{inputs, listing};
 
 /// From this many inputs on, every kind of answer must come.
 const ENOUGH_INPUTS: u64 = 500;
 const LEAST_OF_EACH: u64 = 5;
 
-const REFUSALS: [&str; 17] = [
+const REFUSALS: [&str; 25] = [
     "12",
     "13",
+    "13 at a count",
     "14",
     "15",
     "21",
@@ -25,15 +27,22 @@ const REFUSALS: [&str; 17] = [
     "25 in period 1",
     "25 later",
     "31",
-    "32",
+    "32 at a split",
+    "32 at a count",
     "33",
+    "33 under a count",
+    "33 with units on left out",
     "34",
     "35",
+    "36",
+    "36 by one",
+    "37 too low",
+    "37 too high",
     "41",
     "42",
 ];
 
-const ACCEPTED: [&str; 7] = [
+const ACCEPTED: [&str; 11] = [
     "held problem",
     "held schedule",
     "held tree",
@@ -41,6 +50,10 @@ const ACCEPTED: [&str; 7] = [
     "passed tree",
     "bound never",
     "bound negative",
+    "tree with a count",
+    "short by a count",
+    "crowd of too many on",
+    "crowd of too few left",
 ];
 
 /// How often each kind of answer came.
@@ -54,30 +67,6 @@ impl Table {
 
     fn of(&self, kind: &str) -> u64 {
         self.0.get(kind).copied().unwrap_or(0)
-    }
-
-    fn add_output(&mut self, output: &str) {
-        for line in output.lines() {
-            if let Some(answer) = line.strip_prefix("answer=") {
-                self.add_answer(answer);
-            }
-        }
-    }
-
-    fn add_answer(&mut self, answer: &str) {
-        let words: Vec<&str> = answer.split(',').collect();
-        if words[0] == "refused" {
-            self.add(&format!("refused {}", refusal_kind(words[1], words[4])));
-            return;
-        }
-        let text = ["problem", "schedule", "", "tree"][words.len() - 1];
-        self.add(&format!("{} {text}", words[0]));
-        if text == "tree" && words[1] == "never" {
-            self.add("bound never");
-        }
-        if text == "tree" && words[1].starts_with('-') {
-            self.add("bound negative");
-        }
     }
 
     /// The kinds that came too seldom.
@@ -94,15 +83,6 @@ impl Table {
         for (kind, count) in &self.0 {
             println!("{count:8} {kind}");
         }
-    }
-}
-
-/// The number of a refusal, and for 25 whether the ramp from p0 is broken or a later one.
-fn refusal_kind<'a>(number: &'a str, period: &str) -> &'a str {
-    match (number, period) {
-        ("25", "1") => "25 in period 1",
-        ("25", _) => "25 later",
-        _ => number,
     }
 }
 
@@ -142,7 +122,9 @@ fn run(seed: u64, count: u64, directory: Option<&Path>) -> io::Result<Table> {
     for index in 0..count {
         let input = inputs::input(seed, index);
         let output = listing(&input);
-        table.add_output(&String::from_utf8_lossy(&output));
+        for kind in kinds(&input, &output) {
+            table.add(&kind);
+        }
         if let Some(directory) = directory {
             fs::write(directory.join(format!("{index:05}.txt")), &input)?;
             fs::write(directory.join(format!("{index:05}.out")), &output)?;

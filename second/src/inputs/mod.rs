@@ -1,6 +1,7 @@
 //! Inputs of the listing program, made from a seed: valid, nearly valid and damaged.
 
 pub mod damage;
+pub mod kinds;
 pub mod problems;
 pub mod random;
 pub mod schedules;
@@ -25,14 +26,14 @@ pub fn input(seed: u64, index: u64) -> Vec<u8> {
     }
 }
 
-/// A problem and trees that go as deep as they may, or one split deeper.
+/// A problem and trees that go as deep as they may, or one split or count deeper.
 fn deep_input(random: &mut Random) -> Vec<u8> {
     let periods = random.between(7, 20) as usize;
     let planted = problems::planted(random, periods, 10);
     let mut input = problems::text(&planted.problem).into_bytes();
-    for splits in [64, 65, 63] {
+    for (splits, counts) in [(64, 50), (65, 100), (65, 0), (63, 50), (65, 50), (64, 100)] {
         let writer = writer(random);
-        let tree = trees::chain_text(random, &planted.problem, writer, splits);
+        let tree = trees::chain_text(random, &planted.problem, writer, splits, counts);
         push(&mut input, tree.as_bytes());
     }
     input

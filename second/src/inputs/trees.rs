@@ -1,8 +1,11 @@
-//! Trees: grown with leaves that hold, or now and then with ones that don't.
+//! Trees: grown with split lines that may stand and leaves that hold, or now and then with ones of
+//! which some don't.
 
+use crate::above::Above;
+use crate::inputs::kinds::capacity_on_first;
 use crate::inputs::problems::joined;
 use crate::inputs::random::Random;
-use crate::leaf::{open_capacity, short_holds, stuck_holds, Pricing};
+use crate::leaf::{crowd_holds, open_capacity, short_holds, stuck_holds, Pricing};
 use crate::problem::Problem;
 
 /// How a tree is grown.
@@ -16,19 +19,91 @@ enum Growth {
     Chain,
 }
 
+/// What may be wrong in a tree, now and then.
+#[derive(Clone, Copy, PartialEq)]
+enum Fault {
+    None,
+    /// A split on a fixed status.
+    Split,
+    /// A count whose K is below the lower count.
+    LowCount,
+    /// A count whose K is not below the upper count.
+    HighCount,
+    /// A count whose K is not below I.
+    WideCount,
+    /// A leaf that doesn't hold.
+    Leaf,
+    /// A `short` that doesn't hold under an upper count, or a `crowd` that misses by one.
+    CountedLeaf,
+    /// A `short` that would hold under an upper count if units fixed on came first.
+    OnFirst,
+}
+
+impl Fault {
+    /// Whether it comes only under split lines.
+    fn needs_forks(self) -> bool {
+        self != Fault::None && self != Fault::Leaf
+    }
+}
+
+/// In a hundred places for it, how often a fault comes.
+const FAULT_PERCENT: usize = 25;
+
+/// A split line, units and periods from 0.
+#[derive(Clone, Copy)]
+enum Fork {
+    /// The unit and the period.
+    Split(usize, usize),
+    /// The period and K.
+    Count(usize, usize),
+}
+
+/// What a tree is to be like.
+struct Plan {
+    growth: Growth,
+    splits_left: usize,
+    /// In a hundred split lines, how many are counts, as long as there are both.
+    count_percent: usize,
+    fault: Fault,
+}
+
 struct Grower<'a> {
     random: &'a mut Random,
     problem: &'a Problem,
-    fixed: Vec<Vec<Option<bool>>>,
+    above: Above,
     lines: Vec<String>,
-    growth: Growth,
-    splits_left: usize,
-    /// In a hundred leaves or splits, how many may be false.
-    false_percent: usize,
+    depth: usize,
+    plan: Plan,
 }
+
+/// A split line from this depth on is too deep.
+const TOO_DEEP: usize = 64;
 
 /// The text of a tree on this problem.
 pub fn text(random: &mut Random, problem: &Problem, writer: i64) -> String {
+    let plan = any_plan(random, problem);
+    grown(random, problem, writer, plan)
+}
+
+/// The text of a tree with one branch of this many splits, if there are as many places, so many in
+/// a hundred of them counts.
+pub fn chain_text(
+    random: &mut Random,
+    problem: &Problem,
+    writer: i64,
+    splits: usize,
+    count_percent: usize,
+) -> String {
+    let plan = Plan {
+        growth: Growth::Chain,
+        splits_left: splits,
+        count_percent,
+        fault: Fault::None,
+    };
+    grown(random, problem, writer, plan)
+}
+
+fn any_plan(random: &mut Random, problem: &Problem) -> Plan {
     let roomy = problem.units.len() * problem.periods() > 64;
     let growth = match random.below(12) {
         0..=5 => Growth::Bushy,
@@ -36,40 +111,51 @@ pub fn text(random: &mut Random, problem: &Problem, writer: i64) -> String {
         9 | 10 if !roomy => Growth::Bushy,
         _ => Growth::Chain,
     };
-    let splits_left = match growth {
+    let splits = match growth {
         Growth::Bushy => random.pick(&[0, 0, 1, 2, 4, 9]),
         Growth::Hunting => random.pick(&[4, 12, 30]),
         Growth::Chain if roomy => random.pick(&[20, 63, 64, 65, 65, 65, 66]),
         Growth::Chain => random.below(12),
     };
-    let false_percent = random.pick(&[0, 0, 0, 0, 12]);
-    grown(
-        random,
-        problem,
-        writer,
-        (growth, splits_left, false_percent),
-    )
-}
-
-/// The text of a tree with one branch of this many splits, if there are as many places.
-pub fn chain_text(random: &mut Random, problem: &Problem, writer: i64, splits: usize) -> String {
-    grown(random, problem, writer, (Growth::Chain, splits, 0))
-}
-
-fn grown(
-    random: &mut Random,
-    problem: &Problem,
-    writer: i64,
-    (growth, splits_left, false_percent): (Growth, usize, usize),
-) -> String {
-    let mut grower = Grower {
-        fixed: vec![vec![None; problem.periods()]; problem.units.len()],
-        lines: vec!["kind=tree".to_string(), format!("writer={writer}")],
+    let fault = any_fault(random);
+    let splits_left = match fault.needs_forks() {
+        true => splits.max(4),
+        false => splits,
+    };
+    let count_percent = match fault {
+        Fault::None | Fault::Split | Fault::Leaf => random.pick(&[0, 0, 30, 50, 100]),
+        _ => 50,
+    };
+    Plan {
         growth,
         splits_left,
-        false_percent,
+        count_percent,
+        fault,
+    }
+}
+
+/// None, more often than not.
+fn any_fault(random: &mut Random) -> Fault {
+    match random.below(46) {
+        0..=1 => Fault::Split,
+        2..=3 => Fault::LowCount,
+        4..=5 => Fault::HighCount,
+        6..=7 => Fault::WideCount,
+        8..=14 => Fault::Leaf,
+        15..=17 => Fault::CountedLeaf,
+        18..=22 => Fault::OnFirst,
+        _ => Fault::None,
+    }
+}
+
+fn grown(random: &mut Random, problem: &Problem, writer: i64, plan: Plan) -> String {
+    let mut grower = Grower {
         random,
         problem,
+        above: Above::root(problem),
+        lines: vec!["kind=tree".to_string(), format!("writer={writer}")],
+        depth: 0,
+        plan,
     };
     grower.node();
     grower.lines.push("end=tree\n".to_string());
@@ -78,125 +164,342 @@ fn grown(
 
 impl Grower<'_> {
     fn node(&mut self) {
-        match self.next_split() {
-            Some((unit, period)) => self.split(unit, period),
+        match self.next_fork() {
+            Some(Fork::Split(unit, period)) => self.split(unit, period),
+            Some(Fork::Count(period, most)) => self.count(period, most),
             None => self.leaf(),
         }
     }
 
-    /// Where to split next, if at all.
-    fn next_split(&mut self) -> Option<(usize, usize)> {
-        let settled = self.growth == Growth::Hunting
-            && (!self.short_periods().is_empty() || !self.stuck_units().is_empty());
-        if self.splits_left == 0 || settled {
+    /// How to split next, if at all.
+    fn next_fork(&mut self) -> Option<Fork> {
+        let settled = self.plan.growth == Growth::Hunting && self.holding_leaf().is_some();
+        if self.plan.splits_left == 0 || settled {
             return None;
         }
-        if self.growth == Growth::Bushy && self.random.chance(30) {
+        let goes_on = self.plan.fault.needs_forks() && self.depth < 2;
+        if self.plan.growth == Growth::Bushy && !goes_on && self.random.chance(30) {
             return None;
         }
-        if self.false_percent > 0 && self.random.chance(4) {
-            return self.any_place(true);
+        if let Some(fork) = self.wrong_fork() {
+            return Some(fork);
         }
-        match self.growth {
-            Growth::Hunting => self.tightest_place(),
-            _ => self.any_place(false),
+        match self.random.chance(self.plan.count_percent) {
+            true => self.next_count().or_else(|| self.next_split()),
+            false => self.next_split(),
+        }
+    }
+
+    fn next_split(&mut self) -> Option<Fork> {
+        match self.plan.growth {
+            _ if self.plan.fault == Fault::OnFirst => self.smallest_split(),
+            Growth::Hunting => self.tightest_split(),
+            _ => self.any_split(false),
         }
     }
 
     fn split(&mut self, unit: usize, period: usize) {
-        self.splits_left -= 1;
         self.lines
             .push(format!("split={},{}", unit + 1, period + 1));
-        let before = self.fixed[unit][period];
-        let branch = self.random.below(4);
+        let before = self.above.fixed[unit][period];
+        let branch = self.random.below(4) == 0;
+        self.plan.splits_left -= 1;
         for status in [false, true] {
-            self.fixed[unit][period] = Some(status);
-            let goes_on = self.growth != Growth::Chain || status == (branch == 0);
-            if goes_on {
-                self.node();
-            } else {
-                self.leaf();
-            }
+            self.above.fixed[unit][period] = Some(status);
+            self.side(status == branch);
         }
-        self.fixed[unit][period] = before;
+        self.above.fixed[unit][period] = before;
     }
 
-    /// A place whose status is fixed, or one whose status isn't.
-    fn any_place(&mut self, fixed: bool) -> Option<(usize, usize)> {
+    fn count(&mut self, period: usize, most: usize) {
+        self.lines.push(format!("count={},{most}", period + 1));
+        let before = self.above.counts[period];
+        let sides = [before.at_most(most), before.above(most)];
+        let widths = sides.map(|counts| counts.permitted(self.problem.units.len()).len());
+        self.plan.splits_left -= 1;
+        // A chain goes on where more counts can follow.
+        let branch = usize::from(widths[1] >= widths[0]);
+        for (side, counts) in sides.into_iter().enumerate() {
+            self.above.counts[period] = counts;
+            self.side(side == branch);
+        }
+        self.above.counts[period] = before;
+    }
+
+    /// One of the two trees of a split line. In a chain only one of them grows on.
+    fn side(&mut self, branch: bool) {
+        self.depth += 1;
+        if branch || self.plan.growth != Growth::Chain {
+            self.node();
+        } else {
+            self.leaf();
+        }
+        self.depth -= 1;
+    }
+
+    /// A place whose status is fixed, or one whose status isn't; where counts stand, more often in
+    /// their periods.
+    fn any_split(&mut self, fixed: bool) -> Option<Fork> {
         let mut places = Vec::new();
-        for (unit, statuses) in self.fixed.iter().enumerate() {
+        let mut counted = Vec::new();
+        for (unit, statuses) in self.above.fixed.iter().enumerate() {
             for (period, status) in statuses.iter().enumerate() {
                 if status.is_some() == fixed {
                     places.push((unit, period));
+                    if self.is_counted(period) {
+                        counted.push((unit, period));
+                    }
                 }
             }
         }
+        if !counted.is_empty() && self.random.chance(60) {
+            places = counted;
+        }
         match places.is_empty() {
             true => None,
-            false => Some(self.random.pick(&places)),
+            false => {
+                let (unit, period) = self.random.pick(&places);
+                Some(Fork::Split(unit, period))
+            }
         }
     }
 
     /// The largest free unit in the free period with the least capacity to spare.
-    fn tightest_place(&mut self) -> Option<(usize, usize)> {
+    fn tightest_split(&mut self) -> Option<Fork> {
         let mut best = None;
         for period in 0..self.problem.periods() {
             for (unit, generator) in self.problem.units.iter().enumerate() {
-                if self.fixed[unit][period].is_none() {
+                if self.above.fixed[unit][period].is_none() {
                     let key = (self.margin(period), -generator.most_output, unit, period);
                     best = Some(best.map_or(key, |held: (i64, i64, usize, usize)| held.min(key)));
                 }
             }
         }
-        best.map(|(_, _, unit, period)| (unit, period))
+        best.map(|(_, _, unit, period)| Fork::Split(unit, period))
     }
 
-    /// The pU of units not fixed off, minus what the period needs.
+    /// The smallest free unit in a period for which an upper count stands, or any free unit.
+    fn smallest_split(&mut self) -> Option<Fork> {
+        let mut best = None;
+        for period in 0..self.problem.periods() {
+            for (unit, generator) in self.problem.units.iter().enumerate() {
+                let is_free = self.above.fixed[unit][period].is_none();
+                if is_free && self.above.counts[period].upper.is_some() {
+                    let key = (generator.most_output, unit, period);
+                    best = Some(best.map_or(key, |held: (i64, usize, usize)| held.min(key)));
+                }
+            }
+        }
+        match best {
+            Some((_, unit, period)) => Some(Fork::Split(unit, period)),
+            None => self.any_split(false),
+        }
+    }
+
+    /// A count that narrows those that stand, if there is one, of the tightest period where hunting.
+    /// One too deep may also be a count that does not narrow them.
+    fn next_count(&mut self) -> Option<Fork> {
+        let units = self.problem.units.len();
+        if self.depth >= TOO_DEEP && self.random.chance(30) {
+            let period = self.random.below(self.problem.periods());
+            return Some(Fork::Count(period, self.random.below(units)));
+        }
+        let permitted = |period: usize| self.above.counts[period].permitted(units);
+        let periods: Vec<usize> = (0..self.problem.periods())
+            .filter(|&period| !permitted(period).is_empty())
+            .collect();
+        let tightest = periods.iter().min_by_key(|&&period| self.margin(period));
+        let period = match self.plan.growth {
+            Growth::Hunting => *tightest?,
+            _ if periods.is_empty() => return None,
+            _ => self.random.pick(&periods),
+        };
+        Some(Fork::Count(period, self.next_most(period)))
+    }
+
+    /// A K that a count of this period may have: in a chain an end of what 37 permits, else often the
+    /// largest that is too small for what the period needs or the next one.
+    fn next_most(&mut self, period: usize) -> usize {
+        let permitted = self.above.counts[period].permitted(self.problem.units.len());
+        let (least, most) = (permitted.start, permitted.end - 1);
+        let too_small = self.most_too_small(period);
+        let enough = if self.plan.fault == Fault::OnFirst {
+            90
+        } else {
+            40
+        };
+        match self.plan.growth {
+            Growth::Chain => self.random.pick(&[least, most]),
+            Growth::Hunting if permitted.contains(&too_small) && enough < 90 => too_small,
+            _ if permitted.contains(&(too_small + 1)) && self.random.chance(enough) => {
+                too_small + 1
+            }
+            _ => self.random.edgy(least as i64, most as i64) as usize,
+        }
+    }
+
+    /// The largest K with which the units that may be on in a period are too few for what it needs.
+    fn most_too_small(&self, period: usize) -> usize {
+        let mut above = self.above.clone();
+        let largest = (0..self.problem.units.len()).rev().find(|&most| {
+            above.counts[period].upper = Some(most);
+            short_holds(self.problem, &above, period)
+        });
+        largest.unwrap_or(0)
+    }
+
+    /// A split or count that is refused, if the tree's fault is one and there is a place for it.
+    fn wrong_fork(&mut self) -> Option<Fork> {
+        if self.plan.fault == Fault::None || !self.random.chance(FAULT_PERCENT) {
+            return None;
+        }
+        match self.plan.fault {
+            Fault::Split => self.any_split(true),
+            Fault::LowCount | Fault::HighCount => self.wrong_count(),
+            Fault::WideCount => Some(self.wide_count()),
+            _ => None,
+        }
+    }
+
+    /// A count whose K is the next beyond the lower or the upper count that stands for its period.
+    fn wrong_count(&mut self) -> Option<Fork> {
+        let mut wrong = Vec::new();
+        for (period, counts) in self.above.counts.iter().enumerate() {
+            let most = match self.plan.fault {
+                Fault::LowCount => counts.lower.map(|lower| lower - 1),
+                _ => counts.upper,
+            };
+            wrong.extend(most.map(|most| Fork::Count(period, most)));
+        }
+        match wrong.is_empty() {
+            true => None,
+            false => Some(self.random.pick(&wrong)),
+        }
+    }
+
+    /// A count whose K is the least that is out of range, or the next one.
+    fn wide_count(&mut self) -> Fork {
+        let units = self.problem.units.len();
+        let period = self.likely_period();
+        Fork::Count(period, self.random.pick(&[units, units, units + 1]))
+    }
+
+    fn is_counted(&self, period: usize) -> bool {
+        let counts = self.above.counts[period];
+        counts.upper.is_some() || counts.lower.is_some()
+    }
+
+    /// A period, most often one for which a count stands.
+    fn likely_period(&mut self) -> usize {
+        let counted: Vec<usize> = (0..self.problem.periods())
+            .filter(|&period| self.is_counted(period))
+            .collect();
+        match counted.is_empty() || self.random.chance(20) {
+            true => self.random.below(self.problem.periods()),
+            false => self.random.pick(&counted),
+        }
+    }
+
+    /// The most pU that can be on in a period, minus what the period needs.
     fn margin(&self, period: usize) -> i64 {
-        open_capacity(self.problem, &self.fixed, period) - self.problem.capacity_needed(period)
-    }
-
-    fn short_periods(&self) -> Vec<usize> {
-        (0..self.problem.periods())
-            .filter(|&period| short_holds(self.problem, &self.fixed, period))
-            .collect()
+        open_capacity(self.problem, &self.above, period) - self.problem.capacity_needed(period)
     }
 
     fn stuck_units(&self) -> Vec<usize> {
         (0..self.problem.units.len())
-            .filter(|&unit| stuck_holds(self.problem, &self.fixed, unit))
+            .filter(|&unit| stuck_holds(self.problem, &self.above.fixed, unit))
             .collect()
     }
 
-    fn leaf(&mut self) {
-        let short = self.short_periods();
-        let stuck = self.stuck_units();
-        if self.random.chance(self.false_percent) {
-            self.any_leaf();
-        } else if !stuck.is_empty() && self.false_percent > 0 && self.random.chance(30) {
-            self.price_leaf();
-        } else if !stuck.is_empty() && (short.is_empty() || self.random.chance(50)) {
-            let unit = self.random.pick(&stuck);
-            self.lines.push(format!("stuck={}", unit + 1));
-        } else if !short.is_empty() && (!stuck.is_empty() || self.random.chance(75)) {
-            let period = self.random.pick(&short);
-            self.lines.push(format!("short={}", period + 1));
-        } else {
-            self.price_leaf();
+    fn periods_where(&self, holds: impl Fn(usize) -> bool) -> Vec<usize> {
+        (0..self.problem.periods())
+            .filter(|&period| holds(period))
+            .collect()
+    }
+
+    /// The line of a `short`, `stuck` or `crowd` that holds, if any does.
+    fn holding_leaf(&mut self) -> Option<String> {
+        let short = self.periods_where(|period| short_holds(self.problem, &self.above, period));
+        let crowd = self.periods_where(|period| crowd_holds(&self.above, period));
+        let kinds = [
+            ("short", short),
+            ("stuck", self.stuck_units()),
+            ("crowd", crowd),
+        ];
+        let holding: Vec<_> = kinds.iter().filter(|(_, of)| !of.is_empty()).collect();
+        if holding.is_empty() {
+            return None;
         }
+        let (key, of) = self.random.pick(&holding);
+        Some(format!("{key}={}", self.random.pick(of) + 1))
+    }
+
+    fn leaf(&mut self) {
+        if self.plan.fault == Fault::Leaf && self.random.chance(FAULT_PERCENT) {
+            self.any_leaf();
+            return;
+        }
+        let missing = match self.plan.fault {
+            Fault::CountedLeaf if self.random.chance(50) => self.missing_leaves(),
+            Fault::OnFirst => self.shorts_if_on_came_first(),
+            _ => Vec::new(),
+        };
+        if !missing.is_empty() {
+            let at = self.random.below(missing.len());
+            self.lines.push(missing[at].clone());
+            return;
+        }
+        let stuck = !self.stuck_units().is_empty();
+        match self.holding_leaf() {
+            _ if stuck && self.plan.fault == Fault::Leaf && self.random.chance(30) => {
+                self.price_leaf()
+            }
+            Some(line) if stuck || self.random.chance(75) => self.lines.push(line),
+            _ => self.price_leaf(),
+        }
+    }
+
+    /// The leaves that counts make almost hold: `short` where an upper count leaves units out, and
+    /// `crowd` where as many units are on, or left, as may be.
+    fn missing_leaves(&self) -> Vec<String> {
+        let mut lines = Vec::new();
+        for period in 0..self.problem.periods() {
+            let counts = self.above.counts[period];
+            let on = self.above.fixed_on(period);
+            let left = self.above.not_fixed_off(period);
+            let is_short = short_holds(self.problem, &self.above, period);
+            if counts.upper.is_some_and(|upper| upper < left) && !is_short {
+                lines.push(format!("short={}", period + 1));
+            }
+            let is_crowded = crowd_holds(&self.above, period);
+            if (counts.upper == Some(on) || counts.lower == Some(left)) && !is_crowded {
+                lines.push(format!("crowd={}", period + 1));
+            }
+        }
+        lines
+    }
+
+    /// The `short` leaves that don't hold but would if the sum took units fixed on first.
+    fn shorts_if_on_came_first(&self) -> Vec<String> {
+        let periods = self.periods_where(|period| {
+            let needed = self.problem.capacity_needed(period);
+            capacity_on_first(self.problem, &self.above, period) < needed
+                && !short_holds(self.problem, &self.above, period)
+        });
+        periods
+            .iter()
+            .map(|period| format!("short={}", period + 1))
+            .collect()
     }
 
     /// A leaf whether it holds or not.
     fn any_leaf(&mut self) {
-        match self.random.below(3) {
-            0 => {
-                let period = self.random.below(self.problem.periods());
-                self.lines.push(format!("short={}", period + 1));
-            }
-            1 => {
-                let unit = self.random.below(self.problem.units.len());
-                self.lines.push(format!("stuck={}", unit + 1));
-            }
+        let period = self.likely_period() + 1;
+        let unit = self.random.below(self.problem.units.len()) + 1;
+        match self.random.below(4) {
+            0 => self.lines.push(format!("short={period}")),
+            1 => self.lines.push(format!("stuck={unit}")),
+            2 => self.lines.push(format!("crowd={period}")),
             _ => self.price_leaf(),
         }
     }
@@ -225,7 +528,7 @@ impl Grower<'_> {
             return;
         }
         let mut pricing = Pricing::of(self.problem);
-        let mut best = pricing.value(&self.fixed, prices, reserves);
+        let mut best = pricing.value(&self.above.fixed, prices, reserves);
         for step in 0..8 * prices.len() {
             let period = step % prices.len();
             let kept = (prices[period], reserves[period]);
@@ -233,7 +536,7 @@ impl Grower<'_> {
                 0 => reserves[period] = self.reserve(3),
                 _ => prices[period] = self.marginal_price(),
             }
-            let value = pricing.value(&self.fixed, prices, reserves);
+            let value = pricing.value(&self.above.fixed, prices, reserves);
             if value > best {
                 best = value;
             } else {

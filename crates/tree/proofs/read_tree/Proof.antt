@@ -95,7 +95,7 @@ returns-2 c =
     let text = s .args .text .now in
     let w = good .written2 .given .0 .0 in
     let next = r .read-writer .result .next in
-    let tree = subst (λ (Q : Instance). n .read-node .result ≡ node-read Q text next 3 (n .before .none .result) (above-of Q (replicate 1536 0)) 0) (o .lay-out .ensures .1 (s .pre .0) .1) (n .read-node .ensures .0) in
+    let tree = subst (λ (Q : Instance). n .read-node .result ≡ node-read Q text next 3 (n .before .none .result) (above-of Q (replicate 1632 0)) 0) (o .lay-out .ensures .1 (s .pre .0) .1) (n .read-node .ensures .0) in
     let node = rw (root-is P, n .before .none .ensures) at tree in
     c .read-end .ensures
     ∙ ended-read P text w (n .read-node .result)

@@ -1,155 +1,67 @@
--- `sum_available` meets its contract. The loop's invariant: the sum is that of the units passed.
-use mathlib.Core.Path.{_≡_, refl, ap, ap₂, _∙_}
-use mathlib.Core.List.{List}
-use Prim.Native.Nat.{ℕ, suc, _+_, _*_, _-_, _≤_, _<_}
-use native.Mathlib.Nat.{mul-le-mul-right}
-use native.Mathlib.Numerals.{add-one}
+-- `sum_available` meets its contract: the byte of the upper count says which sum it is.
+use mathlib.Core.Path.{_∙_}
+use Prim.Native.Nat.{_+_, _*_, _≤_}
 use native.Mathlib.Omega.{arith}
 use borrow.Author.Needs.{needs}
-use lib.ListN.{length, getD, take}
-use lib.Seq.{take-length}
-use Rattle.model.specs.declared.generator.Generator.{Generator}
-use Rattle.model.specs.Instance.{_at_}
-use Rattle.model.specs.Held.{blank-generator}
-use Rattle.model.specs.Above.{Mark}
-use Rattle.model.specs.Leaf.{unless-off, units-available, available}
+use lib.ListN.{length}
 use Rattle.layout.specs.Numbers.{instance-in}
-use Rattle.walk.specs.Marks.{mark-of, above-of}
-use Rattle.walk.proofs.AboveMarks.{marks-same}
-use Rattle.leaves.proofs.Shorts.{available-more, available-front-fits}
+use Rattle.walk.proofs.AboveMarks.{statuses-inside}
+use Rattle.leaves.proofs.Shorts.{available-all, available-largest}
 use Rattle.leaves.proofs.short.sum_available.Statement.{statement}
 use Rattle.leaves.proofs.short.sum_available.Tie as tie
 
-abbrev Inv-loop : tie.InvT-loop
-Inv-loop numbers t above n units sum₀ begin₀ u₀ sum begin u =
-    (n ≡ instance-in numbers .periods) × (units ≡ length (instance-in numbers .units)) × (u ≤ units) × (begin ≡ u * instance-in numbers .periods)
-    × (sum ≡ units-available (take u (instance-in numbers .units)) (above-of (instance-in numbers) above .marks) t)
-
-abbrev μ-loop : tie.MeasureT-loop
-μ-loop numbers t above n units sum₀ begin₀ u₀ sum begin u = units - u
-
--- the next unit is one of the problem's
-inside : (c : tie.In-loop Inv-loop μ-loop) → c .before .loop .u < length (instance-in (c .before .before .before .before .before .before .args .numbers .now) .units)
-inside c = omega (arith, c .before .loop .inv .1, c .loop-test .taken)
-
--- the period is one of the problem's
-t-within : (c : tie.After-units-in Inv-loop μ-loop) → c .before .before .before .before .args .t < c .before .periods-in .result
-t-within c = omega (arith, c .before .periods-in .ensures, c .before .before .before .before .pre .1 .0)
-
--- its part is within the fixed statuses
-within : (c : tie.In-loop Inv-loop μ-loop) → c .before .loop .begin + c .before .before .before .periods-in .result ≤ length (c .before .before .before .before .before .before .args .above .now)
-within c =
-    let s = c .before .before .before .before .before .before in
-    let P = instance-in (s .args .numbers .now) in
-    omega (arith, c .before .loop .inv .0, c .before .loop .inv .3, mul-le-mul-right (P .periods) (inside c), s .pre .1 .1)
-
--- what it has available
-here : (c : tie.After-available-of Inv-loop μ-loop) →
-    let loop = c .before .before .before .before in
-    let a = loop .before .before .before .before .before .args in
+-- the units' bytes are among those above
+room : (c : tie.After-shared-slice-known3) →
+    let a = c .before .before .before .args in
     let P = instance-in (a .numbers .now) in
-    c .available-of .result ≡ unless-off (above-of P (a .above .now) .marks (loop .loop .u) (a .t)) (getD (P .units) (loop .loop .u) blank-generator .pU)
-here c =
-    let loop = c .before .before .before .before in
-    let s = loop .before .before .before .before .before in
-    let a = s .args in
-    let P = instance-in (a .numbers .now) in
-    c .available-of .ensures
-    ∙ ap₂ (λ (k high : ℕ). unless-off (mark-of (a .above .now at (k + a .t))) high) (loop .loop .inv .3) (c .before .pU-at .ensures)
-    ∙ ap (λ (x : Mark). unless-off x (getD (P .units) (loop .loop .u) blank-generator .pU))
-    (marks-same (length (P .units)) (P .periods) (a .above .now) (loop .loop .u) (inside (c .before .before .before)) (a .t) (s .pre .1 .0))
+    length (P .units) * P .periods ≤ length (a .above .now)
+room c =
+    let s = c .before .before .before in
+    statuses-inside (instance-in (s .args .numbers .now)) (s .pre .0 .well-formed) (s .args .above .now) (s .pre .1 .1)
 
--- the sum with the next unit
-more : (c : tie.After-available-of Inv-loop μ-loop) →
-    let loop = c .before .before .before .before in
-    let a = loop .before .before .before .before .before .args in
-    let P = instance-in (a .numbers .now) in
-    loop .loop .sum + c .available-of .result ≡ units-available (take (suc (loop .loop .u)) (P .units)) (above-of P (a .above .now) .marks) (a .t)
-more c =
-    let loop = c .before .before .before .before in
-    let a = loop .before .before .before .before .before .args in
-    let P = instance-in (a .numbers .now) in
-    omega (
-      arith,
-      loop .loop .inv .4,
-      here c,
-      available-more (loop .loop .u) (P .units) blank-generator (above-of P (a .above .now) .marks) (a .t) (inside (c .before .before .before)),
-    )
+add-upper : tie.Need-add-upper
+add-upper c = search needs
 
-periods-in-requires : tie.Need-periods-in-requires Inv-loop μ-loop
-periods-in-requires c κs = search needs
+shared-slice-read-upper : tie.Need-shared-slice-read-upper
+shared-slice-read-upper c = search needs
 
-units-in-requires : tie.Need-units-in-requires Inv-loop μ-loop
-units-in-requires c κs = search needs
+sum-usable-requires : tie.Need-sum-usable-requires
+sum-usable-requires c κs =
+    let s = c .before .before .before .before in
+    (s .pre .0, (s .pre .1 .0, room (c .before)))
 
-loop-holds : tie.Need-loop-holds Inv-loop μ-loop
-unfolding units-available
-loop-holds c = (c .before .periods-in .ensures, c .units-in .ensures, omega arith, omega arith, refl)
-
-add-available-of : tie.Need-add-available-of Inv-loop μ-loop
-add-available-of c = omega (arith, within c, t-within (c .before .before))
-
-shared-slice-read-available-of : tie.Need-shared-slice-read-available-of Inv-loop μ-loop
-shared-slice-read-available-of c = omega (arith, within (c .before), t-within (c .before .before .before))
-
-pU-at-requires : tie.Need-pU-at-requires Inv-loop μ-loop
-pU-at-requires c κs = (c .before .before .before .before .before .before .before .pre .0, inside (c .before))
-
-available-of-requires : tie.Need-available-of-requires Inv-loop μ-loop
-available-of-requires c κs = search needs
-
-add-sum : tie.Need-add-sum Inv-loop μ-loop
-add-sum c =
-    let loop = c .before .before .before .before in
-    let s = loop .before .before .before .before .before in
-    let P = instance-in (s .args .numbers .now) in
-    let W = s .pre .0 .well-formed in
-    omega (
-      arith,
-      more c,
-      available-front-fits (suc (loop .loop .u)) (P .units) (W .units-in .1) (W .units-good) (above-of P (s .args .above .now) .marks) (s .args .t),
-    )
-
-add-begin : tie.Need-add-begin Inv-loop μ-loop
-add-begin c = omega (arith, within (c .before .before .before))
-
-add-u : tie.Need-add-u Inv-loop μ-loop
-add-u c = omega (arith, inside (c .before .before .before))
-
-loop-less : tie.Need-loop-less Inv-loop μ-loop
-loop-less c = omega arith
-
-loop-again : tie.Need-loop-again Inv-loop μ-loop
-loop-again c =
-    let loop = c .before .before .before .before in
-    (loop .loop .inv .0, loop .loop .inv .1, omega arith, omega (arith, loop .loop .inv .0, loop .loop .inv .3), rw (add-one (loop .loop .u)) (more c))
-
-returns : tie.Need-returns Inv-loop μ-loop
-unfolding available
+returns : tie.Need-returns
 returns c =
-    let loop = c .before in
-    let a = loop .before .before .before .before .before .args in
-    let P = instance-in (a .numbers .now) in
-    let end : loop .loop .u ≡ length (P .units) = omega (arith, loop .loop .inv .1, loop .loop .inv .2, c .loop-test .left) in
-    let all : take (loop .loop .u) (P .units) ≡ P .units = rw end (take-length (P .units)) in
-    loop .loop .inv .4 ∙ ap (λ (gs : List Generator). units-available gs (above-of P (a .above .now) .marks) (a .t)) all
+    let s = c .before .before .before .before .before in
+    let a = s .args in
+    c .sum-usable .ensures ∙ available-all (instance-in (a .numbers .now)) (a .above .now) (a .t) (s .pre .1 .0) (c .before .if1 .taken)
+
+sub-sum-largest : tie.Need-sub-sum-largest
+sub-sum-largest c = search needs
+
+cast-sum-largest : tie.Need-cast-sum-largest
+cast-sum-largest c = omega (arith, c .before .shared-slice-known3 .given (1536 + c .before .before .before .before .args .t))
+
+sum-largest-requires : tie.Need-sum-largest-requires
+sum-largest-requires c κs =
+    let s = c .before .before .before .before in
+    (s .pre .0, (s .pre .1 .0, room (c .before)))
+
+returns-2 : tie.Need-returns-2
+returns-2 c =
+    let s = c .before .before .before .before .before in
+    let a = s .args in
+    c .sum-largest .ensures ∙ available-largest (instance-in (a .numbers .now)) (a .above .now) (a .t) (s .pre .1 .0) (c .before .if1 .left)
 
 pub sum-available-spec : {M : Type 1} → statement M
 sum-available-spec =
     tie.close
     (tie.spec
-    Inv-loop
-    μ-loop
-    periods-in-requires
-    units-in-requires
-    loop-holds
-    add-available-of
-    shared-slice-read-available-of
-    pU-at-requires
-    available-of-requires
-    add-sum
-    add-begin
-    add-u
-    loop-less
-    loop-again
-    returns)
+    add-upper
+    shared-slice-read-upper
+    sum-usable-requires
+    returns
+    sub-sum-largest
+    cast-sum-largest
+    sum-largest-requires
+    returns-2)

@@ -22,7 +22,7 @@ use Rattle.text.specs.Forms.{plain, row-of}
 use Rattle.tree.specs.Rendering.{reserve-key}
 use Rattle.tree.specs.Places.{Part, priced}
 use Rattle.tree.specs.Refusals.{part-form}
-use Rattle.tree.proofs.Places.{statuses-fit}
+use Rattle.walk.proofs.AboveMarks.{statuses-inside}
 use Rattle.tree.proofs.Rows.{Moved, row-refused, row-moved, taken-multipliers}
 use Rattle.tree.proofs.WaysThrough.{part-refused, part-leaf}
 use Rattle.tree.proofs.Leaves.{part-line-refused, unit-stuck, value-read}
@@ -118,7 +118,7 @@ leaf-value-requires c κs =
       (
         subst (λ (n : ℕ). GoodPrices (P .periods) (take n (a .t5)) (take n (r .read-row .result .values))) (sym (counted r))
             (record { periods-in = W .periods-in; q-long = q-long s; s-long = s-long v; q-in = s .pre .1 .1 .1 .1; s-in = s-good v .1 }),
-        rw (s .pre .1 .0) (statuses-fit P W),
+        statuses-inside P W (a .above .now) (s .pre .1 .0),
       ),
     )
 

@@ -11,7 +11,6 @@ use Rattle.tree.specs.declared.naming.NamedLine.the-variants.{Refused, N
 use Rattle.tree.specs.Rendering.{short-key}
 use Rattle.tree.specs.Refusals.{short-line}
 use Rattle.tree.specs.ReadAnswers.{named-line-read}
-use Rattle.tree.proofs.Places.{statuses-fit}
 use Rattle.tree.proofs.Rows.{NamesOne, names-one, names-none}
 use Rattle.tree.proofs.WaysThrough.{node-refused, node-leaf}
 use Rattle.tree.proofs.Leaves.{line-refused, short-holds, short-fails}
@@ -56,8 +55,7 @@ enum-known-found-2 c = search needs
 is-short-requires : tie.Need-is-short-requires
 is-short-requires c κs =
     let s = start (c .before .before .before) in
-    let P = instance-in (s .args .numbers .now) in
-    (s .pre .0, (names (c .before) .below, rw (s .pre .1 .0) (statuses-fit P (s .pre .0 .well-formed))))
+    (s .pre .0, (names (c .before) .below, s .pre .1 .0))
 
 add-t17 : tie.Need-add-t17
 add-t17 c = search needs

@@ -12,7 +12,7 @@ use Rattle.tree.specs.declared.naming.NamedLine.the-variants.{Refused, N
 use Rattle.tree.specs.Rendering.{stuck-key}
 use Rattle.tree.specs.Refusals.{stuck-line}
 use Rattle.tree.specs.ReadAnswers.{named-line-read}
-use Rattle.tree.proofs.Places.{statuses-fit}
+use Rattle.walk.proofs.AboveMarks.{statuses-inside}
 use Rattle.tree.proofs.Rows.{NamesOne, names-one, names-none}
 use Rattle.tree.proofs.WaysThrough.{node-refused, node-leaf}
 use Rattle.tree.proofs.Leaves.{line-refused, stuck-holds, stuck-fails}
@@ -58,7 +58,7 @@ is-unit-stuck-requires : tie.Need-is-unit-stuck-requires
 is-unit-stuck-requires c κs =
     let s = start (c .before .before .before) in
     let P = instance-in (s .args .numbers .now) in
-    (s .pre .0, (omega (arith, names (c .before) .below), rw (s .pre .1 .0) (statuses-fit P (s .pre .0 .well-formed))))
+    (s .pre .0, (omega (arith, names (c .before) .below), statuses-inside P (s .pre .0 .well-formed) (s .args .above .now) (s .pre .1 .0)))
 
 add-t17 : tie.Need-add-t17
 add-t17 c = search needs

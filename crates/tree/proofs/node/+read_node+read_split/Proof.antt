@@ -2,28 +2,25 @@
 -- twice the unread lines, and one more for the split.
 use borrow.Author.Needs.{needs}
 use mathlib.Core.Path.{_≡_, refl, sym, ap, _∙_}
-use mathlib.Core.Bool.{Bool, true, false}
 use mathlib.Core.List.{List}
 use native.Mathlib.Omega.{arith}
 use lib.ListN.{length, set, length-set}
 use Rattle.model.specs.Instance.{_at_}
-use Rattle.model.specs.Above.{fixed, status, side}
 use Rattle.layout.specs.Numbers.{instance-in}
 use Rattle.text.specs.Lines.{line-at}
-use Rattle.walk.specs.Marks.{mark-of, above-of}
+use Rattle.walk.specs.Marks.{above-length, above-of}
 use Rattle.tree.specs.Kinds.{line-kind}
+use Rattle.tree.specs.declared.above.ForkLine.{ForkLine}
+use Rattle.tree.specs.declared.above.ForkLine.the-variants.{Refused, Over}
 use Rattle.tree.specs.declared.leaf.Read.{Read}
 use Rattle.tree.specs.declared.node.NodeKind.{NodeKind}
-use Rattle.tree.specs.declared.node.NodeKind.the-variants.{Short, Stuck, Price}
 use Rattle.tree.specs.NodeLines.{line-kind-of}
-use Rattle.tree.specs.Refusals.{split-line}
-use Rattle.tree.specs.ReadAnswers.{node-read, leaf-read}
-use Rattle.tree.proofs.Places.{place-inside}
-use Rattle.tree.proofs.Marked.{side-is, set-length, set-back}
+use Rattle.tree.specs.ReadAnswers.{node-read}
+use Rattle.tree.proofs.Marked.{set-length, set-back}
 use Rattle.tree.proofs.Rows.{unread}
-use Rattle.tree.proofs.SplitLines.{SplitOn, split-on, split-off}
+use Rattle.tree.proofs.ForkLines.{ForkOn, Says, fork-says}
 use Rattle.tree.proofs.ReadLines.{node-past, moved-placed}
-use Rattle.tree.proofs.Leaves.{LeafKind, leaf-anywhere}
+use Rattle.tree.proofs.Leaves.{leaf-anywhere}
 use Rattle.tree.proofs.WaysThrough.{node-refused, node-fork, trees-refused, trees-both}
 use Prim.Native.Nat.{ℕ, _+_, _*_, _<_}
 use borrow.Fn.Kinds.{In}
@@ -35,12 +32,9 @@ use Rattle.tree.proofs.node.read_split.Reads as read-split
 use Rattle.tree.proofs.node.read_split.Kinds as read-split-kinds
 use Rattle.tree.proofs.node.+read_node+read_split.Lts-read_split as read-split-lts
 use Rattle.model.proofs.figures.TreeFigures.with_split.Reads as with-split-reads
-use Rattle.tree.proofs.leaf.read_price.Reads as read-price-reads
-use Rattle.tree.proofs.leaf.read_short.Reads as read-short-reads
-use Rattle.tree.proofs.leaf.read_stuck.Reads as read-stuck-reads
+use Rattle.tree.proofs.leaf.read_leaf.Reads as read-leaf-reads
 use Rattle.tree.proofs.node.find_kind.Reads as find-kind-reads
-use Rattle.layout.proofs.periods_in.Reads as periods-in-reads
-use Rattle.tree.proofs.splitting.read_split_line.Reads as read-split-line-reads
+use Rattle.tree.proofs.forking.read_fork_line.Reads as read-fork-line-reads
 use Rattle.tree.proofs.node.+read_node+read_split.{statement}
 use Rattle.tree.proofs.node.+read_node+read_split.Tie.{close}
 
@@ -69,16 +63,10 @@ abbrev read-node-calls : ℕ → read-node-lts.Claims
 read-node-calls t = (
   find-kind-reads.Asked,
   find-kind-reads.Learnt,
-  read-short-reads.Asked,
-  read-short-reads.Learnt,
-  read-stuck-reads.Asked,
-  read-stuck-reads.Learnt,
-  read-price-reads.Asked,
-  read-price-reads.Learnt,
-  read-split-line-reads.Asked,
-  read-split-line-reads.Learnt,
-  periods-in-reads.Asked,
-  periods-in-reads.Learnt,
+  read-leaf-reads.Asked,
+  read-leaf-reads.Learnt,
+  read-fork-line-reads.Asked,
+  read-fork-line-reads.Learnt,
   with-split-reads.Asked,
   with-split-reads.Learnt,
   read-split-below t,
@@ -98,112 +86,64 @@ abbrev AtKind : ℕ → Type 0
 AtKind t = read-node-lts.After-find-kind (read-node-calls t) (read-node-at t) read-node.Post
 
 abbrev AtLine : ℕ → Type 0
-AtLine t = read-node-lts.After-read-split-line (read-node-calls t) (read-node-at t) read-node.Post
+AtLine t = read-node-lts.After-read-fork-line (read-node-calls t) (read-node-at t) read-node.Post
 
-abbrev AtSplit : ℕ → Type 0
-AtSplit t = read-node-lts.After-found2 (read-node-calls t) (read-node-at t) read-node.Post
-
-abbrev AtPlace : ℕ → Type 0
-AtPlace t = read-node-lts.After-periods-in (read-node-calls t) (read-node-at t) read-node.Post
+abbrev AtFork : ℕ → Type 0
+AtFork t = read-node-lts.After-found2 (read-node-calls t) (read-node-at t) read-node.Post
 
 abbrev start : (t : ℕ) → AtKind t → AtStart t
 start t c = c .before .before .before .before
 
-abbrev split-start : (t : ℕ) → AtSplit t → AtStart t
-split-start t c = start t (c .before .before .before .before .before .before)
+abbrev line-start : (t : ℕ) → AtLine t → AtStart t
+line-start t c = start t (c .before .before .before .before .before)
+
+abbrev fork-start : (t : ℕ) → AtFork t → AtStart t
+fork-start t c = line-start t (c .before .before)
 
 -- the line is of the kind that was found
 kind-is : (t : ℕ) (c : AtKind t) (k : NodeKind) → c .find-kind .result ≡ k → let a = start t c .args in line-kind-of (line-at (a .text .now) (a .at)) ≡ line-kind k
 kind-is t c k e = sym (c .find-kind .ensures) ∙ ap line-kind e
 
--- a split line is due there
-is-split : (t : ℕ) (c : AtLine t) → let a = start t (c .before .before .before .before) .args in line-kind-of (line-at (a .text .now) (a .at)) ≡ split-line
-is-split t c = kind-is t (c .before .before .before .before) _ (c .before .before .enum-told4 .given .1)
+-- what a fork's line says
+line-says : (t : ℕ) (c : AtLine t) (x : ForkLine) → c .read-fork-line .result ≡ x →
+    let s = line-start t c in
+    let a = s .args in
+    Says (instance-in (a .numbers .now)) (s .pre .1 .0 .well-formed) (a .text .now) (a .at) (a .above .now) (s .pre .1 .1 .1 .1) (a .depth) x
+line-says t c x e =
+    let s = line-start t c in
+    let a = s .args in
+    let g = c .before .before .before .kind2 .given in
+    fork-says (instance-in (a .numbers .now)) (s .pre .1 .0 .well-formed) (a .text .now) (a .at) (a .above .now) (s .pre .1 .1 .1 .1) (a .depth) (g .0 .0)
+    (kind-is t (c .before .before .before .before .before) _ (g .1)) x (sym e ∙ c .read-fork-line .ensures)
 
--- what a leaf's reader answers is what is read of the node
-leaf-answers : (t : ℕ) (c : AtKind t) (k : NodeKind) → LeafKind (line-kind k) → c .find-kind .result ≡ k → {r : Read} →
-    let a = start t c .args in
-    let P = instance-in (a .numbers .now) in
-    let A = above-of P (a .above .now) in
-    r ≡ leaf-read P (a .text .now) (a .at) (a .line) (a .figures) A → r ≡ node-read P (a .text .now) (a .at) (a .line) (a .figures) A (a .depth)
-leaf-answers t c k y e h =
-    let a = start t c .args in
-    let P = instance-in (a .numbers .now) in
-    h ∙ leaf-anywhere P (a .text .now) (a .at) (a .line) (a .figures) (above-of P (a .above .now)) (a .depth) (line-kind k) y (kind-is t c k e)
-
--- ---- facts at a split line that is good
-
--- what the line says
-split-known : (t : ℕ) (c : AtSplit t) →
-    let a = split-start t c .args in
-    let P = instance-in (a .numbers .now) in
+-- where it is good
+fork-known : (t : ℕ) (c : AtFork t) →
+    let s = fork-start t c in
+    let a = s .args in
     let g = c .found2 .given .0 in
-    SplitOn P (a .text .now) (a .at) (above-of P (a .above .now)) (a .depth) (is-split t (c .before .before)) (g .0) (g .1 .0) (g .1 .1 .0)
-split-known t c =
-    let l = c .before .before in
-    split-on _ _ _ _ _ (is-split t l) _ _ _ (sym (c .found2 .given .1) ∙ l .read-split-line .ensures)
-
--- its status has a place
-place-in : (t : ℕ) (c : AtPlace t) → let g = c .before .before .found2 .given .0 in g .0 * c .periods-in .result + g .1 .0 < 1536
-place-in t c =
-    let f = c .before .before in
-    let s = split-start t f in
-    let k = split-known t f in
-    place-inside (instance-in (s .args .numbers .now)) (s .pre .1 .0 .well-formed) _ _ _ (c .periods-in .ensures) (k .unit) (k .period)
-
--- a byte there that fixes the status is one side of the split
-is-side : (t : ℕ) (c : AtPlace t) (byte : ℕ) (b : Bool) → mark-of byte ≡ fixed b →
-    let f = c .before .before in
-    let a = split-start t f .args in
-    let g = f .found2 .given .0 in
-    let P = instance-in (a .numbers .now) in
-    above-of P (set (a .above .now) (g .0 * c .periods-in .result + g .1 .0) byte) ≡ side (status (g .0) (g .1 .0)) b (above-of P (a .above .now))
-is-side t c byte b is =
-    let f = c .before .before in
-    let s = split-start t f in
-    let g = f .found2 .given .0 in
-    let k = split-known t f in
-    side-is (instance-in (s .args .numbers .now)) _ (s .args .above .now) (g .0) (g .1 .0) byte b (c .periods-in .ensures) (omega (arith, place-in t c, s .pre .1 .1 .1 .1)) (k .unit) (k .period) is
+    ForkOn (instance-in (a .numbers .now)) (s .pre .1 .0 .well-formed) (a .text .now) (a .at) (a .above .now) (s .pre .1 .1 .1 .1) (a .depth) (g .0) (g .1 .0) (g .1 .1 .0)
+fork-known t c = let g = c .found2 .given in line-says t (c .before .before) (Over (g .0 .0) (g .0 .1 .0) (g .0 .1 .1 .0)) (g .1)
 
 -- ---- a node
 
 read-node-find-kind-requires : (t : ℕ) → read-node-lts.Need-find-kind-requires (read-node-calls t) (read-node-at t) read-node.Post
 read-node-find-kind-requires t c κs = search needs
 
-read-node-enum-told : (t : ℕ) → read-node-lts.Need-enum-told (read-node-calls t) (read-node-at t) read-node.Post
-read-node-enum-told t c = search needs
+read-node-enum-known-kind : (t : ℕ) → read-node-lts.Need-enum-known-kind (read-node-calls t) (read-node-at t) read-node.Post
+read-node-enum-known-kind t c = search needs
 
-read-node-read-short-requires : (t : ℕ) → read-node-lts.Need-read-short-requires (read-node-calls t) (read-node-at t) read-node.Post
-read-node-read-short-requires t c κs =
-    let f = c .before .before .before in
+read-node-read-leaf-requires : (t : ℕ) → read-node-lts.Need-read-leaf-requires (read-node-calls t) (read-node-at t) read-node.Post
+read-node-read-leaf-requires t c κs =
+    let f = c .before .before .before .before in
     let p = start t f .pre .1 in
-    (p .0, (p .1 .1 .1, (p .1 .0, kind-is t f _ (c .before .enum-told .given .1))))
+    (p .0, (p .1 .1 .1, (p .1 .0, kind-is t f _ (c .before .before .kind .given .1))))
 
-read-node-enum-told-2 : (t : ℕ) → read-node-lts.Need-enum-told-2 (read-node-calls t) (read-node-at t) read-node.Post
-read-node-enum-told-2 t c = search needs
+read-node-enum-known-kind-2 : (t : ℕ) → read-node-lts.Need-enum-known-kind-2 (read-node-calls t) (read-node-at t) read-node.Post
+read-node-enum-known-kind-2 t c = search needs
 
-read-node-read-stuck-requires : (t : ℕ) → read-node-lts.Need-read-stuck-requires (read-node-calls t) (read-node-at t) read-node.Post
-read-node-read-stuck-requires t c κs =
-    let f = c .before .before .before in
-    let p = start t f .pre .1 in
-    (p .0, (p .1 .1 .1, (p .1 .0, kind-is t f _ (c .before .enum-told2 .given .1))))
-
-read-node-enum-told-3 : (t : ℕ) → read-node-lts.Need-enum-told-3 (read-node-calls t) (read-node-at t) read-node.Post
-read-node-enum-told-3 t c = search needs
-
-read-node-read-price-requires : (t : ℕ) → read-node-lts.Need-read-price-requires (read-node-calls t) (read-node-at t) read-node.Post
-read-node-read-price-requires t c κs =
-    let f = c .before .before .before in
-    let p = start t f .pre .1 in
-    (p .0, (p .1 .1 .1, (p .1 .0, kind-is t f _ (c .before .enum-told3 .given .1))))
-
-read-node-enum-told-4 : (t : ℕ) → read-node-lts.Need-enum-told-4 (read-node-calls t) (read-node-at t) read-node.Post
-read-node-enum-told-4 t c = search needs
-
-read-node-read-split-line-requires : (t : ℕ) → read-node-lts.Need-read-split-line-requires (read-node-calls t) (read-node-at t) read-node.Post
-read-node-read-split-line-requires t c κs =
-    let f = c .before .before .before in
-    let p = start t f .pre .1 in
+read-node-read-fork-line-requires : (t : ℕ) → read-node-lts.Need-read-fork-line-requires (read-node-calls t) (read-node-at t) read-node.Post
+read-node-read-fork-line-requires t c κs =
+    let p = start t (c .before .before .before .before) .pre .1 in
     (p .0, (p .1 .1 .1, p .1 .0 .short))
 
 read-node-enum-known-found : (t : ℕ) → read-node-lts.Need-enum-known-found (read-node-calls t) (read-node-at t) read-node.Post
@@ -212,43 +152,34 @@ read-node-enum-known-found t c = search needs
 read-node-enum-known-found-2 : (t : ℕ) → read-node-lts.Need-enum-known-found-2 (read-node-calls t) (read-node-at t) read-node.Post
 read-node-enum-known-found-2 t c = search needs
 
-read-node-periods-in-requires : (t : ℕ) → read-node-lts.Need-periods-in-requires (read-node-calls t) (read-node-at t) read-node.Post
-read-node-periods-in-requires t c κs = split-start t (c .before) .pre .1 .0
-
-read-node-mul-place : (t : ℕ) → read-node-lts.Need-mul-place (read-node-calls t) (read-node-at t) read-node.Post
-read-node-mul-place t c = omega (arith, place-in t c)
-
-read-node-add-place : (t : ℕ) → read-node-lts.Need-add-place (read-node-calls t) (read-node-at t) read-node.Post
-read-node-add-place t c = omega (arith, place-in t c)
-
 read-node-with-split-requires : (t : ℕ) → read-node-lts.Need-with-split-requires (read-node-calls t) (read-node-at t) read-node.Post
 read-node-with-split-requires t c κs =
-    let p = split-start t (c .before .before) .pre .1 .1 .0 in
+    let p = fork-start t (c .before) .pre .1 .1 .0 in
     omega (arith, p .short, p .inside, p .numbered, p .counted)
 
 read-node-add-read-split : (t : ℕ) → read-node-lts.Need-add-read-split (read-node-calls t) (read-node-at t) read-node.Post
 read-node-add-read-split t c =
-    let p = split-start t (c .before .before .before) .pre .1 .1 .0 in
+    let p = fork-start t (c .before .before) .pre .1 .1 .0 in
     omega (arith, p .short, p .inside, p .numbered)
 
 read-node-add-read-split-2 : (t : ℕ) → read-node-lts.Need-add-read-split-2 (read-node-calls t) (read-node-at t) read-node.Post
-read-node-add-read-split-2 t c = omega (arith, split-start t (c .before .before .before) .pre .1 .1 .1 .0)
+read-node-add-read-split-2 t c = omega (arith, fork-start t (c .before .before) .pre .1 .1 .1 .0)
 
 read-node-read-split-requires : (t : ℕ) → read-node-lts.Need-read-split-requires (read-node-calls t) (read-node-at t) read-node.Post
 read-node-read-split-requires t c κs =
-    let f = c .before .before .before .before in
-    let s = split-start t f in
-    let a = s .args in
-    let k = split-known t f in
-    let m = k .moved in
     let w = c .before in
+    let f = w .before .before in
+    let s = fork-start t f in
+    let a = s .args in
+    let k = fork-known t f in
+    let m = k .moved in
     let e = w .with-split .ensures in (
       omega (arith, s .pre .0, m .fewer),
       (
         s .pre .1 .0,
         (
           moved-placed (a .text .now) (a .at) (a .line) (a .figures) (s .pre .1 .1 .0) (f .found2 .given .0 .1 .1 .0) m (w .with-split .result) (rw e (omega arith)),
-          ((omega (arith, k .depth), s .pre .1 .1 .1 .1), (place-in t (c .before .before), place-in t (c .before .before))),
+          ((omega (arith, k .depth), s .pre .1 .1 .1 .1), (k .first-in, k .second-in)),
         ),
       ),
     )
@@ -258,58 +189,41 @@ read-node-same-length t c = search needs
 
 read-node-returns : (t : ℕ) → read-node-lts.Need-returns (read-node-calls t) (read-node-at t) read-node.Post
 read-node-returns t c =
-    (leaf-answers t (c .before .before .before .before) Short tt (c .before .before .enum-told .given .1) (c .read-short .ensures), refl)
+    let f = c .before .before .before .before .before in
+    let a = start t f .args in
+    let P = instance-in (a .numbers .now) in
+    let g = c .before .before .before .kind .given in
+    (c .read-leaf .ensures ∙ leaf-anywhere P (a .text .now) (a .at) (a .line) (a .figures) (above-of P (a .above .now)) (a .depth) (g .0 .0) (kind-is t f _ (g .1)), refl)
 
 read-node-same-length-2 : (t : ℕ) → read-node-lts.Need-same-length-2 (read-node-calls t) (read-node-at t) read-node.Post
 read-node-same-length-2 t c = search needs
 
 read-node-returns-2 : (t : ℕ) → read-node-lts.Need-returns-2 (read-node-calls t) (read-node-at t) read-node.Post
 read-node-returns-2 t c =
-    (leaf-answers t (c .before .before .before .before) Stuck tt (c .before .before .enum-told2 .given .1) (c .read-stuck .ensures), refl)
+    let l = c .before .before .before in
+    let a = line-start t l .args in
+    let P = instance-in (a .numbers .now) in
+    let g = c .before .found .given in
+    (node-refused P (a .text .now) (a .at) (a .line) (a .figures) (above-of P (a .above .now)) (a .depth) (g .0 .0) (line-says t l (Refused (g .0 .0)) (g .1)), refl)
 
 read-node-same-length-3 : (t : ℕ) → read-node-lts.Need-same-length-3 (read-node-calls t) (read-node-at t) read-node.Post
 read-node-same-length-3 t c = search needs
 
 read-node-returns-3 : (t : ℕ) → read-node-lts.Need-returns-3 (read-node-calls t) (read-node-at t) read-node.Post
 read-node-returns-3 t c =
-    (leaf-answers t (c .before .before .before .before) Price tt (c .before .before .enum-told3 .given .1) (c .read-price .ensures), refl)
-
-read-node-same-length-4 : (t : ℕ) → read-node-lts.Need-same-length-4 (read-node-calls t) (read-node-at t) read-node.Post
-read-node-same-length-4 t c = search needs
-
-read-node-returns-4 : (t : ℕ) → read-node-lts.Need-returns-4 (read-node-calls t) (read-node-at t) read-node.Post
-read-node-returns-4 t c =
-    let l = c .before .before .before in
-    let a = start t (l .before .before .before .before) .args in
-    let P = instance-in (a .numbers .now) in
-    let A = above-of P (a .above .now) in
-    let g = c .before .found .given in (
-      node-refused P (a .text .now) (a .at) (a .line) (a .figures) A (a .depth) (g .0 .0)
-          (split-off P (a .text .now) (a .at) A (a .depth) (is-split t l) (g .0 .0) (sym (g .1) ∙ l .read-split-line .ensures)),
-      refl,
-    )
-
-read-node-same-length-5 : (t : ℕ) → read-node-lts.Need-same-length-5 (read-node-calls t) (read-node-at t) read-node.Post
-read-node-same-length-5 t c = search needs
-
-read-node-returns-5 : (t : ℕ) → read-node-lts.Need-returns-5 (read-node-calls t) (read-node-at t) read-node.Post
-unfolding mark-of
-read-node-returns-5 t c =
     let q = c .before .before in
     let w = q .before .before in
-    let p = w .before in
-    let f = p .before .before in
-    let a = split-start t f .args in
-    let k = split-known t f in
-    let g = f .found2 .given .0 in
+    let f = w .before .before in
+    let a = fork-start t f .args in
+    let k = fork-known t f in
     let P = instance-in (a .numbers .now) in
-    let trees = rw (is-side t p 1 false refl, is-side t p 2 true refl, w .with-split .ensures) at (q .read-split .ensures .0) in (
-      node-fork P (a .text .now) (a .at) (a .line) (a .figures) (above-of P (a .above .now)) (a .depth) (status (g .0) (g .1 .0)) (g .1 .1 .0) (q .read-split .result)
+    let trees = rw (k .first-is, k .second-is, w .with-split .ensures) at (q .read-split .ensures .0) in (
+      node-fork P (a .text .now) (a .at) (a .line) (a .figures) (above-of P (a .above .now)) (a .depth) (k .on) (f .found2 .given .0 .1 .1 .0) (q .read-split .result)
           (k .judged) (k .moved) trees,
       q .read-split .ensures .1,
     )
 
--- ---- the trees of a split
+-- ---- the trees of a fork
 
 abbrev AtFirst : ℕ → Type 0
 AtFirst t = read-split-lts.After-read-node (read-split-calls t) (read-split-at t) read-split.Post
@@ -341,14 +255,14 @@ given-back t c = let a = trees-start t c .args in set (bytes-left t c) (a .first
 first-back : (t : ℕ) (c : AtFirst t) → given-back t c ≡ trees-start t c .args .above .now
 first-back t c = let a = trees-start t c .args in set-back (a .above .now) (a .first .place) (a .first .byte) (c .read-node .ensures .1)
 
-back-long : (t : ℕ) (c : AtFirst t) → length (given-back t c) ≡ 1536
+back-long : (t : ℕ) (c : AtFirst t) → length (given-back t c) ≡ above-length
 back-long t c = ap length (first-back t c) ∙ trees-start t c .pre .1 .1 .1 .0 .1
 
 -- as many bytes after each tree as before
-first-long : (t : ℕ) (c : AtFirst t) → length (bytes-left t c) ≡ 1536
+first-long : (t : ℕ) (c : AtFirst t) → length (bytes-left t c) ≡ above-length
 first-long t c = let s = trees-start t c in set-length (s .args .above .now) (s .args .first .place) (s .args .first .byte) (c .read-node .ensures .1) ∙ s .pre .1 .1 .1 .0 .1
 
-second-long : (t : ℕ) (c : AtSecond t) → length (c .read-node2 .last .1 .1 .1 .1 .1 .0) ≡ 1536
+second-long : (t : ℕ) (c : AtSecond t) → length (c .read-node2 .last .1 .1 .1 .1 .1 .0) ≡ above-length
 second-long t c =
     let b = first-of t c in
     let s = trees-start t b in
@@ -438,19 +352,12 @@ pub +read-node+read-split-spec : {M : Type 1} → statement M
     (read-node-at t)
     read-node.Post
     (read-node-find-kind-requires t)
-    (read-node-enum-told t)
-    (read-node-read-short-requires t)
-    (read-node-enum-told-2 t)
-    (read-node-read-stuck-requires t)
-    (read-node-enum-told-3 t)
-    (read-node-read-price-requires t)
-    (read-node-enum-told-4 t)
-    (read-node-read-split-line-requires t)
+    (read-node-enum-known-kind t)
+    (read-node-read-leaf-requires t)
+    (read-node-enum-known-kind-2 t)
+    (read-node-read-fork-line-requires t)
     (read-node-enum-known-found t)
     (read-node-enum-known-found-2 t)
-    (read-node-periods-in-requires t)
-    (read-node-mul-place t)
-    (read-node-add-place t)
     (read-node-with-split-requires t)
     (read-node-add-read-split t)
     (read-node-add-read-split-2 t)
@@ -460,11 +367,7 @@ pub +read-node+read-split-spec : {M : Type 1} → statement M
     (read-node-same-length-2 t)
     (read-node-returns-2 t)
     (read-node-same-length-3 t)
-    (read-node-returns-3 t)
-    (read-node-same-length-4 t)
-    (read-node-returns-4 t)
-    (read-node-same-length-5 t)
-    (read-node-returns-5 t))
+    (read-node-returns-3 t))
     λ t. read-split-lts.spec
     (read-split-calls t)
     (read-split-at t)

@@ -23,7 +23,8 @@ use Rattle.tree.specs.NodeLines.{is-fixed}
 use Rattle.tree.specs.Refusals.{split-line, node-form}
 use Rattle.tree.specs.Coded.{split-refusal}
 use Rattle.tree.proofs.Places.{place-inside}
-use Rattle.tree.proofs.SplitLines.{TwoValues, two-values, split-refused, split-fails, split-good}
+use Rattle.tree.specs.declared.forking.ForkKind.the-variants.{Split}
+use Rattle.tree.proofs.ForkLines.{SplitValues, split-values, fork-refused, split-fails, split-good}
 use Rattle.tree.proofs.splitting.read_split_line.Statement.{statement}
 use Rattle.tree.proofs.splitting.read_split_line.Tie as tie
 
@@ -77,10 +78,10 @@ numbers c = filling c .fill-line .last .1 .1 .1 .1 .1 .0
 -- the unit and the period that it names
 values : (c : tie.After-known-told2) →
     let a = start (filling c) .args in
-    TwoValues (instance-in (a .numbers .now)) (a .text .now) (a .at) (left c .line-good) (numbers c) (left c .values)
+    SplitValues (instance-in (a .numbers .now)) (a .text .now) (a .at) (left c .line-good) (numbers c) (left c .values)
 values c =
     let a = start (filling c) .args in
-    two-values (instance-in (a .numbers .now)) (a .text .now) (a .at) (left c .line-good) (numbers c) (left c .values)
+    split-values (instance-in (a .numbers .now)) (a .text .now) (a .at) (left c .line-good) (numbers c) (left c .values)
 
 inside : (c : tie.After-known-told2) →
     let f = filling c in
@@ -149,11 +150,11 @@ array-read-period c = search needs
 sub-period : tie.Need-sub-period
 sub-period c = values c .low-period
 
-mul-refuse-split : tie.Need-mul-refuse-split
-mul-refuse-split c = let p = start (filling c) .pre .1 .0 in omega (arith, inside c)
+mul-place : tie.Need-mul-place
+mul-place c = let p = start (filling c) .pre .1 .0 in omega (arith, inside c)
 
-add-refuse-split : tie.Need-add-refuse-split
-add-refuse-split c = let p = start (filling c) .pre .1 .0 in omega (arith, inside c)
+add-place : tie.Need-add-place
+add-place c = let p = start (filling c) .pre .1 .0 in omega (arith, inside c)
 
 refuse-split-requires : tie.Need-refuse-split-requires
 refuse-split-requires c κs = inside c
@@ -171,7 +172,7 @@ returns-2 c =
     let a = start f .args in
     let v = c .before .verdict .given in
     let P = instance-in (a .numbers .now) in
-    split-refused P (a .text .now) (a .at) (above-of P (a .above .now)) (a .depth) (v .0 .0)
+    fork-refused P (a .text .now) (a .at) (above-of P (a .above .now)) (a .depth) Split (v .0 .0)
     (ruled-refused (node-form P split-line) (line-at (a .text .now) (a .at)) (a .at) (f .fill-line .result) (is-verdict f) (v .0 .0) (v .1))
 
 returns-3 : tie.Need-returns-3
@@ -180,7 +181,7 @@ returns-3 c =
     let a = start (filling b) .args in
     let P = instance-in (a .numbers .now) in
     split-good P (a .text .now) (a .at) (above-of P (a .above .now)) (a .depth) (left b .line-good) (numbers b) (left b .values)
-    (sym (number-is (c .before)) ∙ c .if1 .left) (b .before .verdict2 .given .0 .0) (left b .next-is)
+    (sym (number-is (c .before)) ∙ c .if1 .left) _ (b .before .verdict2 .given .0 .0) (periods-are (filling b)) (left b .next-is)
 
 pub read-split-line-spec : {M : Type 1} → statement M
 read-split-line-spec =
@@ -199,8 +200,8 @@ read-split-line-spec =
     sub-unit
     array-read-period
     sub-period
-    mul-refuse-split
-    add-refuse-split
+    mul-place
+    add-place
     refuse-split-requires
     returns
     returns-2

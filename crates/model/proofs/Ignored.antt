@@ -1,0 +1,26 @@
+-- Document 02, [1]: counts are read neither by price leaves nor by `stuck`.
+use mathlib.Core.Path.{_≡_, ap}
+use mathlib.Core.Bool.{not}
+use mathlib.Core.List.{List}
+use Prim.Native.Nat.{ℕ}
+use lib.Dec.{T}
+use Rattle.model.specs.Instance.{Instance, _at_}
+use Rattle.model.specs.Above.{Marks, Above}
+use Rattle.model.specs.Leaf.{stuck-at, any-stuck, leaf-value}
+use Rattle.model.specs.declared.figures.Bound.{Bound}
+use Rattle.model.specs.declared.figures.Bound.the-variants.{Number as number}
+use Rattle.model.specs.Tree.{stuck, price, LeafHolds, leaf-bound}
+
+-- with the same statuses above, whatever counts stand: the value is the same, and so are the rules of the two leaves
+module _ (P : Instance) (A B : Above) (e : A .marks ≡ B .marks) where
+  pub prices-ignore : (q s : List ℕ) → leaf-bound P A (price q s) ≡ leaf-bound P B (price q s)
+  unfolding leaf-bound
+  prices-ignore q s = ap {B = Bound} (λ (m : Marks). number (leaf-value P m (λ t. q at t) (λ t. s at t))) e
+
+  pub prices-hold-alike : (q s : List ℕ) → LeafHolds P A (price q s) ≡ LeafHolds P B (price q s)
+  unfolding LeafHolds
+  prices-hold-alike q s = ap {B = Type 0} (λ (m : Marks). T (not (any-stuck (P .periods) (P .units) m))) e
+
+  pub stuck-holds-alike : (U : ℕ) → LeafHolds P A (stuck U) ≡ LeafHolds P B (stuck U)
+  unfolding LeafHolds
+  stuck-holds-alike U = ap {B = Type 0} (λ (m : Marks). T (stuck-at (P .periods) (P .units) m U)) e
