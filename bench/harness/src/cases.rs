@@ -13,11 +13,35 @@ pub enum Last {
     Refused(u64),
 }
 
+/// Nothing around a balanced tree.
+const ALONE: Around = Around {
+    before: "",
+    after: "",
+};
+
+/// Unit 1 is on in period 1.
+const UNIT_ON: Around = Around {
+    before: "split=1,1\nshort=1\n",
+    after: "",
+};
+
+/// At most 31 of the 32 units are on in period 2, in which no status is split.
+const COUNTED: Around = Around {
+    before: "count=2,31\n",
+    after: "short=2\n",
+};
+
+/// Unit 1 is on in period 1, and no unit may be.
+const CROWDED: Around = Around {
+    before: "split=1,1\nshort=1\ncount=1,0\n",
+    after: "short=1\n",
+};
+
 /// The afternoon peak: 32 units, 48 periods and 60 price leaves, with dear multipliers.
 fn peak(name: &'static str, times: Times, off: bool) -> Case {
     let mut r = Random::new();
     let problem = problem(&mut r, times, 100_000, 10_000, off);
-    let tree = tree("", 60, &mut || price_leaf(&mut r, 0, 999_999_999));
+    let tree = tree(ALONE, 60, &mut || price_leaf(&mut r, 0, 999_999_999));
     Case {
         name,
         input: problem + &tree,
@@ -38,7 +62,7 @@ fn left(limit: usize, problem: &str) -> usize {
 fn prices(name: &'static str, limit: usize, times: Times, off: bool) -> Case {
     let mut r = Random::new();
     let problem = problem(&mut r, times, 100_000, 10_000, off);
-    let tree = largest_tree("", left(limit, &problem), || price_leaf(&mut r, 0, 9));
+    let tree = largest_tree(ALONE, left(limit, &problem), || price_leaf(&mut r, 0, 9));
     Case {
         name,
         input: problem + &tree,
@@ -46,13 +70,11 @@ fn prices(name: &'static str, limit: usize, times: Times, off: bool) -> Case {
     }
 }
 
-/// A tree that fills its room with leaves of one line, under demands that no units can meet; unit 1 is stuck under its root.
-fn lines(name: &'static str, limit: usize, leaf: &'static str) -> Case {
+/// A tree that fills its room with leaves of one line, under demands that no units can meet; unit 1 is stuck where it is on in period 1.
+fn lines(name: &'static str, limit: usize, around: Around, leaf: &'static str) -> Case {
     let mut r = Random::new();
     let problem = with_first_unit_stuck(problem(&mut r, MOST, 320_000, 320_000, false));
-    let tree = largest_tree("split=1,1\nshort=1\n", left(limit, &problem), || {
-        leaf.to_string()
-    });
+    let tree = largest_tree(around, left(limit, &problem), || leaf.to_string());
     Case {
         name,
         input: problem + &tree,
@@ -119,14 +141,28 @@ pub fn all() -> Vec<Case> {
         peak("peak, 98 states, TD 1", MOST_STARTS, true),
         prices("65,536: price leaves", LISTING_LIMIT, MOST, true),
         prices("65,536: the same, TD 1", LISTING_LIMIT, MOST_STARTS, true),
-        lines("65,536: stuck leaves", LISTING_LIMIT, "stuck=1\n"),
-        lines("65,536: short leaves", LISTING_LIMIT, "short=1\n"),
+        lines("65,536: stuck leaves", LISTING_LIMIT, UNIT_ON, "stuck=1\n"),
+        lines("65,536: short leaves", LISTING_LIMIT, UNIT_ON, "short=1\n"),
+        lines(
+            "65,536: short leaves under a count",
+            LISTING_LIMIT,
+            COUNTED,
+            "short=2\n",
+        ),
+        lines("65,536: crowd leaves", LISTING_LIMIT, CROWDED, "crowd=1\n"),
         pieces("65,536: nothing but end="),
         schedules("nine schedules of 32 x 48", 9),
         prices("1,048,576: price leaves", TEXT_LIMIT, MOST, true),
         prices("1,048,576: the same, TD 1", TEXT_LIMIT, MOST_STARTS, true),
-        lines("1,048,576: stuck leaves", TEXT_LIMIT, "stuck=1\n"),
-        lines("1,048,576: short leaves", TEXT_LIMIT, "short=1\n"),
+        lines("1,048,576: stuck leaves", TEXT_LIMIT, UNIT_ON, "stuck=1\n"),
+        lines("1,048,576: short leaves", TEXT_LIMIT, UNIT_ON, "short=1\n"),
+        lines(
+            "1,048,576: short leaves under a count",
+            TEXT_LIMIT,
+            COUNTED,
+            "short=2\n",
+        ),
+        lines("1,048,576: crowd leaves", TEXT_LIMIT, CROWDED, "crowd=1\n"),
         damaged(
             "1,048,576: TD 1, damaged end",
             prices("", TEXT_LIMIT - 1, MOST_STARTS, true),

@@ -107,19 +107,26 @@ fn grow(text: &mut String, place: usize, leaves: usize, leaf: &mut dyn FnMut() -
     grow(text, place + 1, leaves - leaves / 2, leaf);
 }
 
-/// A tree's text of so many leaves under the node lines `above`, with splits on the places from 1 on.
-pub fn tree(above: &str, leaves: usize, leaf: &mut dyn FnMut() -> String) -> String {
-    let mut text = format!("kind=tree\nwriter=1\n{above}");
+/// The node lines of a tree's text before its balanced tree and after it.
+#[derive(Clone, Copy)]
+pub struct Around {
+    pub before: &'static str,
+    pub after: &'static str,
+}
+
+/// A tree's text of so many leaves with these lines around them, with splits on the places from 1 on.
+pub fn tree(around: Around, leaves: usize, leaf: &mut dyn FnMut() -> String) -> String {
+    let mut text = format!("kind=tree\nwriter=1\n{}", around.before);
     grow(&mut text, 1, leaves, leaf);
-    text + "end=tree\n"
+    text + around.after + "end=tree\n"
 }
 
 /// The largest such tree of at most `room` bytes.
-pub fn largest_tree(above: &str, room: usize, mut leaf: impl FnMut() -> String) -> String {
+pub fn largest_tree(around: Around, room: usize, mut leaf: impl FnMut() -> String) -> String {
     let bytes = leaf().len();
     let mut leaves = room / bytes + 1;
     loop {
-        let text = tree(above, leaves, &mut leaf);
+        let text = tree(around, leaves, &mut leaf);
         if text.len() <= room {
             return text;
         }

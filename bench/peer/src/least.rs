@@ -1,4 +1,4 @@
-//! The leaves: one unit's least value by a walk back over its states, the value of a price leaf, stuck and short.
+//! The leaves that look at runs: one unit's least value by a walk back over its states, the value of a price leaf, and stuck.
 //!
 //! The states are those of the proved walk: on for 1 to TU periods and more, off for 1 to TD + Tcold + 1 periods and more. A
 //! value that is not there is a number so large that sums with it stay above every value that is.
@@ -137,17 +137,6 @@ fn walk_value<const ALL: bool>(g: &Unit, on: &[i64], off: &[i64], fixed: &[u8]) 
 pub fn is_stuck<const ALL: bool>(g: &Unit, fixed: &[u8]) -> bool {
     let zeros = [0i64; MOST_PERIODS];
     walk_value::<ALL>(g, &zeros, &zeros, fixed) >= AT_LEAST_NONE
-}
-
-/// Whether the units not fixed off are short of demand and spare in period t.
-pub fn is_short(problem: &Problem, t: usize, fixed: &[u8]) -> bool {
-    let n = problem.periods;
-    let mut sum = 0;
-    for u in 0..problem.units {
-        let off = fixed[u * n + t] == OFF;
-        sum += if off { 0 } else { problem.fleet[u].high };
-    }
-    sum < problem.demand[t] + problem.spare[t]
 }
 
 /// The value of a price leaf, or None where a unit is stuck.

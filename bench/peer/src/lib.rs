@@ -2,7 +2,7 @@
 //!
 //! It does the same work as the proved crates: it reads the same lines, tries the same best whole output for each unit and
 //! period, and walks back over the same states. Everything else is free: flat arrays, no allocation after the docket is
-//! made, statuses set and taken back in one array, and a large number for a value that is not there.
+//! made, statuses and counts set and taken back in arrays, and a large number for a value that is not there.
 
 mod docket;
 mod judge;
@@ -10,6 +10,7 @@ mod least;
 mod lines;
 mod listing;
 mod page;
+mod period;
 mod problem;
 mod tree;
 

@@ -1,6 +1,7 @@
 //! A tree's text, judged line by line.
-use crate::least::{is_short, is_stuck, leaf_value, OFF, ON};
+use crate::least::{is_stuck, leaf_value, OFF, ON};
 use crate::lines::Lines;
+use crate::period::{is_crowd, is_short};
 use crate::problem::{Problem, MOST_PERIODS, MOST_UNITS};
 use crate::Refusal;
 
@@ -17,10 +18,14 @@ pub struct Figures {
     pub leaves: u64,
 }
 
+/// What stands above the next node: the statuses by unit and period, and the upper and the lower count of each period, all units and 0
+/// where there is none.
 struct Reader<'a, const ALL: bool> {
     problem: &'a Problem,
     lines: Lines<'a>,
     fixed: [u8; MOST_UNITS * MOST_PERIODS],
+    upper: [usize; MOST_PERIODS],
+    lower: [usize; MOST_PERIODS],
     figures: Figures,
 }
 
@@ -34,6 +39,8 @@ pub fn read<const ALL: bool>(
         problem,
         lines: Lines::new(text, from, 2),
         fixed: [0; MOST_UNITS * MOST_PERIODS],
+        upper: [problem.units; MOST_PERIODS],
+        lower: [0; MOST_PERIODS],
         figures: Figures {
             writer: 0,
             bound: None,
@@ -63,20 +70,13 @@ impl<const ALL: bool> Reader<'_, ALL> {
             return self.read_split(depth);
         }
         if self.lines.begins(b"short=") {
-            self.lines
-                .take_row(b"short=", 1, 1, self.problem.periods as u64)?;
-            let t = self.lines.values[0] as usize - 1;
-            if !is_short(self.problem, t, &self.fixed) {
-                return self.refuse_last(33);
-            }
+            self.read_short()?;
         } else if self.lines.begins(b"stuck=") {
-            self.lines
-                .take_row(b"stuck=", 1, 1, self.problem.units as u64)?;
-            let n = self.problem.periods;
-            let u = self.lines.values[0] as usize - 1;
-            if !is_stuck::<ALL>(&self.problem.fleet[u], &self.fixed[u * n..u * n + n]) {
-                return self.refuse_last(34);
-            }
+            self.read_stuck()?;
+        } else if self.lines.begins(b"crowd=") {
+            self.read_crowd()?;
+        } else if self.lines.begins(b"count=") {
+            return self.read_count(depth);
         } else {
             self.read_price()?;
         }
@@ -88,6 +88,41 @@ impl<const ALL: bool> Reader<'_, ALL> {
     fn refuse_last(&mut self, number: u64) -> Result<(), u64> {
         self.lines.line -= 1;
         Err(number)
+    }
+
+    /// Takes a line of one number from 1 to `most`, and counts it from 0.
+    #[inline(always)]
+    fn take_one(&mut self, key: &[u8], most: usize) -> Result<usize, u64> {
+        self.lines.take_row(key, 1, 1, most as u64)?;
+        Ok(self.lines.values[0] as usize - 1)
+    }
+
+    #[inline(always)]
+    fn read_short(&mut self) -> Result<(), u64> {
+        let t = self.take_one(b"short=", self.problem.periods)?;
+        if !is_short(self.problem, t, &self.fixed, self.upper[t]) {
+            return self.refuse_last(33);
+        }
+        Ok(())
+    }
+
+    #[inline(always)]
+    fn read_stuck(&mut self) -> Result<(), u64> {
+        let n = self.problem.periods;
+        let u = self.take_one(b"stuck=", self.problem.units)?;
+        if !is_stuck::<ALL>(&self.problem.fleet[u], &self.fixed[u * n..u * n + n]) {
+            return self.refuse_last(34);
+        }
+        Ok(())
+    }
+
+    #[inline(always)]
+    fn read_crowd(&mut self) -> Result<(), u64> {
+        let t = self.take_one(b"crowd=", self.problem.periods)?;
+        if !is_crowd(self.problem, t, &self.fixed, self.upper[t], self.lower[t]) {
+            return self.refuse_last(36);
+        }
+        Ok(())
     }
 
     fn read_price(&mut self) -> Result<(), u64> {
@@ -123,6 +158,29 @@ impl<const ALL: bool> Reader<'_, ALL> {
         self.fixed[place] = ON;
         self.read_node(depth + 1)?;
         self.fixed[place] = 0;
+        Ok(())
+    }
+
+    fn read_count(&mut self, depth: usize) -> Result<(), u64> {
+        let (units, periods) = (self.problem.units as u64, self.problem.periods as u64);
+        self.lines
+            .take_ranges(b"count=", 0, &[(1, periods), (0, units - 1)])?;
+        let t = self.lines.values[0] as usize - 1;
+        let count = self.lines.values[1] as usize;
+        let (upper, lower) = (self.upper[t], self.lower[t]);
+        if depth > MOST_DEPTH {
+            return self.refuse_last(32);
+        }
+        if count < lower || upper <= count {
+            return self.refuse_last(37);
+        }
+        self.figures.splits += 1;
+        self.upper[t] = count;
+        self.read_node(depth + 1)?;
+        self.upper[t] = upper;
+        self.lower[t] = count + 1;
+        self.read_node(depth + 1)?;
+        self.lower[t] = lower;
         Ok(())
     }
 }
