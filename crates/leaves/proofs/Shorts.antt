@@ -16,6 +16,7 @@ use Rattle.model.specs.Largest.{total, largest}
 use Rattle.model.specs.Leaf.{unless-off, usable, summed, available}
 use Rattle.walk.specs.Marks.{mark-of, most-of, above-of, upper-begin}
 use Rattle.walk.proofs.AboveMarks.{most-here}
+use Rattle.model.proofs.Largest.{largest-below}
 use Rattle.leaves.proofs.Units.{all-front}
 
 -- ---- one unit
@@ -113,3 +114,12 @@ module _ (P : Instance) (bytes : List ℕ) (t : ℕ) (l : t < P .periods) where
   unfolding available
   available-largest h =
       sym (ap (λ (k : Option ℕ). summed k (usable (P .units) (above-of P bytes .marks) t)) (sym (most-here (P .periods) bytes t l) ∙ most-some _ h))
+
+  -- all of them are too few, so what is available is
+  pub available-below : available P (above-of P bytes) t ≤ total (usable (P .units) (above-of P bytes .marks) t)
+  unfolding available
+  available-below = go (above-of P bytes .most t)
+    where
+      go : (o : Option ℕ) → summed o (usable (P .units) (above-of P bytes .marks) t) ≤ total (usable (P .units) (above-of P bytes .marks) t)
+      go none = omega arith
+      go (some K) = largest-below K (usable (P .units) (above-of P bytes .marks) t)

@@ -4,7 +4,7 @@ ghost use mathlib.Core.List.{[]};
 ghost use Prim.Native.Nat.{_*_, _≤_, _<_};
 ghost use lib.ListN.{length};
 ghost use Rattle.model.specs.Largest.{total};
-ghost use Rattle.model.specs.Leaf.{unless-off, usable, available};
+ghost use Rattle.model.specs.Leaf.{unless-off, usable};
 ghost use Rattle.layout.specs.Numbers.{instance-in, Laid};
 ghost use Rattle.walk.specs.Marks.{mark-of, above-of, above-length};
 ghost use Rattle.leaves.specs.LeafLeasts.{short-at};
@@ -46,26 +46,20 @@ fn sum_usable(numbers: &[u64], t: usize, above: &[u8]) -> u64
     sum
 }
 
-// What can be on in period t: all those units, or the largest of them where an upper count stands.
-fn sum_available(numbers: &[u64], t: usize, above: &[u8]) -> u64
-    requires { ⌜ Laid (now numbers) ⌝ }
-    requires { ⌜ t < instance-in (now numbers) .periods ⌝ }
-    requires { ⌜ length (now above) ≡ above-length ⌝ }
-    ensures { λ r. ⌜ r ≡ available (instance-in (now (numbers .entry))) (above-of (instance-in (now (numbers .entry))) (now (above .entry))) t ⌝ }
-{
-    let upper = above[UPPER + t];
-    if upper == 0 {
-        return sum_usable(numbers, t, above);
-    }
-    sum_largest(numbers, t, above, (upper - 1) as usize)
-}
-
-// Whether what can be on in period t is short of demand and spare.
+// Whether what can be on in period t is short of demand and spare: all those units, or else the largest of them where an upper count stands.
 pub fn is_short(numbers: &[u64], t: usize, above: &[u8]) -> bool
     requires { ⌜ Laid (now numbers) ⌝ }
     requires { ⌜ t < instance-in (now numbers) .periods ⌝ }
     requires { ⌜ length (now above) ≡ above-length ⌝ }
     ensures { λ r. ⌜ r ≡ short-at (instance-in (now (numbers .entry))) (above-of (instance-in (now (numbers .entry))) (now (above .entry))) t ⌝ }
 {
-    sum_available(numbers, t, above) < demand_at(numbers, t) + spare_at(numbers, t)
+    let need = demand_at(numbers, t) + spare_at(numbers, t);
+    if sum_usable(numbers, t, above) < need {
+        return true;
+    }
+    let upper = above[UPPER + t];
+    if upper == 0 {
+        return false;
+    }
+    sum_largest(numbers, t, above, (upper - 1) as usize) < need
 }
