@@ -4,21 +4,21 @@
  *
  * A docket that stays open is two stretches of memory that the caller owns: `numbers`, of docket_numbers() numbers of 64 bits,
  * and `rows`, of docket_rows() numbers of 16 bits. docket_fresh makes a docket of them, docket_lodge lodges a text in it,
- * docket_report and docket_outputs tell what it holds. A copy of both stretches is a docket of its own. No call ends a docket:
- * its memory is the caller's.
+ * docket_report and docket_outputs tell what it holds, and docket_units_taken how many units `short` takes in a period of its
+ * problem. A copy of both stretches is a docket of its own. No call ends a docket: its memory is the caller's.
  *
  * What every call here does, for every input, is proved: crates/docket_host/proofs/HostPromises.antt, Contracts.antt.
  *
  * What the caller owes, of every call:
  * - No pointer is null, also where no bytes or numbers are lent; each points to as many as its length says.
- * - The stretches lent to one call do not overlap. `numbers` and `values` are aligned for uint64_t, `rows` and `outputs` for
- *   uint16_t.
+ * - The stretches lent to one call do not overlap. `numbers`, `values` and `taken` are aligned for uint64_t, `rows` and `outputs`
+ *   for uint16_t.
  * - Nobody writes meanwhile to what a call reads, or touches what it writes. So threads may call at once, each with a docket of
- *   its own, and may at once ask one docket for reports and outputs, each with a buffer of its own.
+ *   its own, and may at once ask one docket for reports, outputs and units taken, each with a buffer of its own.
  * - DOCKET_STACK_BYTES of stack are free.
  *
- * Nothing is allocated, nothing is kept between calls, no file is touched, and every call returns. A text is only read, and is
- * the caller's again when the call returns. */
+ * Nothing is allocated, nothing is kept between calls, no file is touched, and every call returns. A text and the statuses of a
+ * question are only read, and are the caller's again when the call returns. */
 #ifndef DOCKET_H
 #define DOCKET_H
 
@@ -29,11 +29,11 @@
 extern "C" {
 #endif
 
-/* ---- what a call answers where it does nothing: all that was lent is as it was. No length is as large. A caller who lends what
- * is asked for, in a state that docket_fresh began and that these calls alone wrote, gets neither. */
+/* ---- what a call answers where it does nothing: all that was lent is as it was. No other answer is as large. A caller who lends
+ * what is asked for, in a state that docket_fresh began and that these calls alone wrote, gets neither. */
 
 /* Too little room: fewer numbers, rows, bytes or values are lent than the call asks for. This is looked at first, whatever the
- * state is; but how much room a report needs is asked of a docket. */
+ * state is; but how much room a report needs is asked of a docket, and how many statuses a question has is part of it. */
 #define DOCKET_TOO_SMALL SIZE_MAX
 
 /* No docket: what is lent as its state was never begun, is that of another layout, or was changed so that its problem or its
@@ -53,6 +53,9 @@ extern "C" {
 
 /* for the outputs of the held schedule: docket_outputs asks for so many, whatever is held */
 #define DOCKET_OUTPUTS ((size_t)1536)
+
+/* for what `short` takes: docket_units_taken asks for so many numbers */
+#define DOCKET_TAKEN ((size_t)2)
 
 /* Stack enough for a call. A tree of the greatest depth uses less than 265,000 bytes of it, measured; no proof covers the stack.
  * On a thread with less the process ends at the stack's guard page. */
@@ -128,6 +131,35 @@ size_t docket_report(const uint64_t *numbers, size_t numbers_length, const uint1
  * DOCKET_TOO_SMALL or DOCKET_NO_DOCKET. */
 size_t docket_outputs(const uint64_t *numbers, size_t numbers_length, const uint16_t *rows, size_t rows_length, uint16_t *outputs,
                       size_t outputs_length);
+
+/* A status in `fixed`: free, or fixed off or on. */
+enum docket_fixed { DOCKET_FREE = 0, DOCKET_FIXED_OFF = 1, DOCKET_FIXED_ON = 2 };
+
+/* What docket_units_taken returns where there is a docket: `taken` is written; the docket knows no problem; the question does not
+ * fit the problem. */
+enum docket_taken_answer { DOCKET_TAKEN_TOLD = 0, DOCKET_TAKEN_NO_PROBLEM = 1, DOCKET_TAKEN_UNFIT = 2 };
+
+/* The places of `taken`. */
+enum docket_taken {
+    DOCKET_TAKEN_SHORT = 0, /* 1 where `short` holds, else 0 */
+    DOCKET_TAKEN_UNITS = 1  /* how many units it took */
+};
+
+/* Tells whether `short` holds in a period, and how many units it takes to find out. It takes the units that are not fixed off
+ * there by number, or, where an upper count stands, the largest pU first and no more units than the count, and ends as soon as
+ * what it took reaches D + R. So they are the fewest, in that order, that reach D + R; or, where all that it may take do not,
+ * all of these, and then `short` holds.
+ *
+ * The period is counted from 1. `most` is 0 where no upper count stands, else one more than the count. `fixed` has a byte for
+ * each status, one of enum docket_fixed: that of unit u in period t, both counted from 0, at fixed[u * T + t], T being the
+ * periods of the problem. More units may be fixed on than the count: that is answered as any other question.
+ *
+ * Returned: DOCKET_TAKEN_TOLD, and the first two of `taken` are written. Or, with `taken` as it was and in this order:
+ * DOCKET_TOO_SMALL; DOCKET_NO_DOCKET; DOCKET_TAKEN_NO_PROBLEM; DOCKET_TAKEN_UNFIT, where the period is not from 1 to T, `most`
+ * is above the number of units, `fixed` has not units times periods bytes, or one of them is above 2. What follows the first
+ * two of `taken` is as it was in any case. The state is only read. */
+size_t docket_units_taken(const uint64_t *numbers, size_t numbers_length, const uint16_t *rows, size_t rows_length, size_t period,
+                          size_t most, const uint8_t *fixed, size_t fixed_length, uint64_t *taken, size_t taken_length);
 
 /* ---- a whole listing at once */
 

@@ -23,6 +23,17 @@
 static const uint16_t example_outputs[] = {60, 80, 0, 20};
 static const uint16_t dearer_outputs[] = {50, 80, 10, 20};
 
+/* questions about the example's problem, whose units give 80 and 50 where 70 and 110 are needed, and what they are told */
+static const struct told {
+    size_t period, most;
+    uint8_t fixed[4];
+    uint64_t taken[DOCKET_TAKEN];
+} example_told[] = {{1, 0, {0, 0, 0, 0}, {0, 1}}, {2, 0, {0, 0, 0, 0}, {0, 2}}, {2, 0, {2, 2, 2, 2}, {0, 2}},
+                    {2, 0, {0, 0, 0, 1}, {1, 1}}, {1, 0, {1, 0, 0, 0}, {1, 1}}, {1, 0, {0, 1, 0, 1}, {0, 1}},
+                    {2, 0, {0, 1, 0, 1}, {1, 0}}, {2, 1, {0, 0, 0, 0}, {1, 0}}, {2, 2, {0, 0, 0, 0}, {1, 1}},
+                    {1, 2, {1, 0, 0, 0}, {1, 1}}, {1, 2, {0, 0, 0, 0}, {0, 1}}, {1, 2, {2, 2, 2, 2}, {0, 1}}};
+#define EXAMPLE_TOLD (sizeof example_told / sizeof *example_told)
+
 /* The number at the place, which moves behind it; 0 where no digit stands there. */
 static inline uint64_t read_number(const char **place) {
     uint64_t number = 0;
@@ -105,26 +116,28 @@ static inline size_t lodge(struct docket *d, const uint8_t *text, size_t length,
 /* What the calls write, each before a page that may not be touched. */
 struct written {
     uint8_t *line, *buffer;
-    uint64_t *values;
+    uint64_t *values, *taken;
     uint16_t *outputs;
 };
 
 static inline struct written room_to_write(void) {
     return (struct written){room(DOCKET_LINE_BYTES), room(DOCKET_REPORT_BYTES), room(DOCKET_VALUES * sizeof(uint64_t)),
-                            room(DOCKET_OUTPUTS * sizeof(uint16_t))};
+                            room(DOCKET_TAKEN * sizeof(uint64_t)), room(DOCKET_OUTPUTS * sizeof(uint16_t))};
 }
 
 static inline void paint(const struct written *w) {
     memset(w->line, PAINT, DOCKET_LINE_BYTES);
     memset(w->buffer, PAINT, DOCKET_REPORT_BYTES);
     memset(w->values, PAINT, DOCKET_VALUES * sizeof *w->values);
+    memset(w->taken, PAINT, DOCKET_TAKEN * sizeof *w->taken);
     memset(w->outputs, PAINT, DOCKET_OUTPUTS * sizeof *w->outputs);
 }
 
 /* Whether nothing is written. */
 static inline int is_unwritten(const struct written *w) {
     return painted(w->line, DOCKET_LINE_BYTES) && painted(w->buffer, DOCKET_REPORT_BYTES) &&
-           painted(w->values, DOCKET_VALUES * sizeof *w->values) && painted(w->outputs, DOCKET_OUTPUTS * sizeof *w->outputs);
+           painted(w->values, DOCKET_VALUES * sizeof *w->values) && painted(w->taken, DOCKET_TAKEN * sizeof *w->taken) &&
+           painted(w->outputs, DOCKET_OUTPUTS * sizeof *w->outputs);
 }
 
 /* What docket_report returns, at the buffer's start. */
@@ -135,6 +148,13 @@ static inline size_t report(const struct docket *d, uint8_t *buffer) {
 /* What docket_outputs returns. */
 static inline size_t copy_outputs(const struct docket *d, uint16_t *outputs) {
     return docket_outputs(d->numbers, d->numbers_length, d->rows, d->rows_length, outputs, DOCKET_OUTPUTS);
+}
+
+/* What docket_units_taken returns. */
+static inline size_t take_units(const struct docket *d, size_t period, size_t most, const uint8_t *fixed, size_t fixed_length,
+                                uint64_t *taken) {
+    return docket_units_taken(d->numbers, d->numbers_length, d->rows, d->rows_length, period, most, fixed, fixed_length, taken,
+                              DOCKET_TAKEN);
 }
 
 /* Lodges the text of a string; whether the line of its answer is the one given. */
@@ -159,13 +179,32 @@ static inline int gives(const struct docket *d, const uint16_t *wanted, size_t w
     return length == wanted_length && memcmp(outputs, wanted, length * sizeof *outputs) == 0;
 }
 
+/* Whether the docket returns this to a question about the example's problem, and tells what is told where it tells. */
+static inline int answers_told(const struct docket *d, const struct told *told, size_t wanted) {
+    uint64_t taken[DOCKET_TAKEN];
+    memset(taken, PAINT, sizeof taken);
+    return take_units(d, told->period, told->most, told->fixed, sizeof told->fixed, taken) == wanted &&
+           (wanted == DOCKET_TAKEN_TOLD ? memcmp(taken, told->taken, sizeof taken) == 0 : painted(taken, sizeof taken));
+}
+
+/* Whether it does so to each of them. */
+static inline int answers_example(const struct docket *d, size_t wanted) {
+    int good = 1;
+    for (size_t k = 0; k < EXAMPLE_TOLD; k++) {
+        good = answers_told(d, &example_told[k], wanted) && good;
+    }
+    return good;
+}
+
 /* Whether the example's texts, lodged in a docket that holds nothing, are held. */
 static inline int lodges_example(struct docket *d) {
     return lodges(d, PROBLEM, PROBLEM_HELD) && lodges(d, SCHEDULE, SCHEDULE_HELD) && lodges(d, TREE, TREE_HELD);
 }
 
 /* Whether the docket holds what the example's texts gave it. */
-static inline int holds_example(const struct docket *d) { return reports(d, ALL_HELD) && gives(d, example_outputs, 4); }
+static inline int holds_example(const struct docket *d) {
+    return reports(d, ALL_HELD) && gives(d, example_outputs, 4) && answers_example(d, DOCKET_TAKEN_TOLD);
+}
 
 /* Whether the texts of the input, lodged in turn in the docket, begun anew, give the answers of its listing, then the report. */
 static inline int lists(struct docket *d, const struct input *input) {

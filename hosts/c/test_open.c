@@ -1,7 +1,11 @@
 /* Tests of the open docket: ./test_open FILE.. lodges the texts of each FILE.txt in turn, the memory lent between pages that may
- * not be touched, on a stack that shows how far it was used, and compares with FILE.out. An input that is too long for a listing
- * is left out. The last line is 'N passed, M failed'. */
-#include "test_calls.h"
+ * not be touched, on a stack that shows how far it was used, and compares with FILE.out; after each text it asks how many units
+ * are taken. An input that is too long for a listing is left out. SEED repeats the questions of a printed seed. The last line is
+ * 'N passed, M failed'. */
+#include "test_questions.h"
+
+/* how many questions are asked after each text */
+#define QUESTIONS 4
 
 /* A stretch of memory that is lent: how many bytes the call asks for, how many are lent, and how many there are up to a page that
  * may not be touched. */
@@ -14,7 +18,7 @@ struct stretch {
 enum lending { UP_TO, FROM, LONGER, LENDINGS };
 
 /* what a call is lent besides a text */
-enum part { NUMBERS, ROWS, LINE, VALUES, BUFFER, OUTPUTS, PARTS };
+enum part { NUMBERS, ROWS, LINE, VALUES, BUFFER, OUTPUTS, TAKEN, PARTS };
 
 struct lent {
     struct stretch parts[PARTS];
@@ -22,10 +26,11 @@ struct lent {
     enum lending how;
 };
 
-/* The outputs of the schedule that was held last, read from its text. */
-struct outputs {
+/* What the docket holds, read from the texts: the outputs of the schedule that was held last, and the problem. */
+struct held {
     uint16_t all[DOCKET_OUTPUTS];
     size_t count;
+    struct capacities known;
 };
 
 /* An input whose texts are lodged, and whether all is as it must be. */
@@ -52,6 +57,7 @@ static struct lent lend(enum lending how) {
     lent.parts[VALUES] = stretch(how, DOCKET_VALUES * sizeof(uint64_t), 4 * sizeof(uint64_t));
     lent.parts[BUFFER] = stretch(how, DOCKET_REPORT_BYTES, 50);
     lent.parts[OUTPUTS] = stretch(how, DOCKET_OUTPUTS * sizeof(uint16_t), 5 * sizeof(uint16_t));
+    lent.parts[TAKEN] = stretch(how, DOCKET_TAKEN * sizeof(uint64_t), 3 * sizeof(uint64_t));
     return lent;
 }
 
@@ -73,7 +79,7 @@ static int rest_is_left(const struct lent *lent) {
 }
 
 /* The outputs in the `run=` lines of a schedule's text. */
-static void read_outputs(const uint8_t *text, size_t length, struct outputs *held) {
+static void read_outputs(const uint8_t *text, size_t length, struct held *held) {
     held->count = 0;
     for (size_t at = 0; at < length; at = (size_t)((const uint8_t *)memchr(text + at, '\n', length - at) - text) + 1) {
         const char *place = (const char *)text + at;
@@ -84,12 +90,31 @@ static void read_outputs(const uint8_t *text, size_t length, struct outputs *hel
 }
 
 /* Whether docket_outputs gives the outputs of the schedule held. */
-static int gives_outputs(const struct lent *lent, const struct outputs *held) {
+static int gives_outputs(const struct lent *lent, const struct held *held) {
     struct docket d = docket(lent);
     const struct stretch *s = &lent->parts[OUTPUTS];
     uint16_t *outputs = (uint16_t *)(void *)s->start;
     size_t answer = docket_outputs(d.numbers, d.numbers_length, d.rows, d.rows_length, outputs, s->lent / sizeof(uint16_t));
     return answer == held->count && memcmp(outputs, held->all, answer * sizeof(uint16_t)) == 0;
+}
+
+/* Where so many bytes are lent, which end where such a page begins, or begin where one ends. */
+static uint8_t *place_for(const struct lent *lent, size_t length) {
+    return lent->how == FROM ? lent->texts : lent->texts + DOCKET_MOST_INPUT - length;
+}
+
+/* Whether questions about the units taken are answered as they must be, and the docket stays. */
+static int answers_questions(const struct lent *lent, const struct capacities *known, const struct docket *before) {
+    static struct question q;
+    struct docket d = docket(lent);
+    const struct stretch *s = &lent->parts[TAKEN];
+    int good = 1;
+    for (int k = 0; k < QUESTIONS; k++) {
+        make_question(known, &q);
+        uint8_t *fixed = place_for(lent, q.length);
+        good = answers_rightly(&d, known, &q, fixed, (uint64_t *)(void *)s->start, s->lent / sizeof(uint64_t)) && good;
+    }
+    return good && same_docket(&d, before);
 }
 
 /* Whether the report, asked for at the last place where it fits, is the one given, and no other byte of the buffer is written. */
@@ -107,13 +132,13 @@ static int gives_report(const struct lent *lent, const uint8_t *wanted, size_t l
 
 /* Lodges a text; whether its answer's line is the next of what is wanted, its values are those of the line, and nothing else is
  * written. The place moves behind the line. */
-static int lodge_text(struct job *job, const uint8_t *text, size_t length, size_t *at, struct outputs *held) {
+static int lodge_text(struct job *job, const uint8_t *text, size_t length, size_t *at, struct held *held) {
     static uint64_t numbers[1024];
     static uint16_t rows[2048];
     struct docket d = docket(job->lent), before = {numbers, d.numbers_length, rows, d.rows_length};
     const struct stretch *line = &job->lent->parts[LINE], *values = &job->lent->parts[VALUES];
     uint64_t wanted[DOCKET_VALUES];
-    uint8_t *lodged = job->lent->how == FROM ? job->lent->texts : job->lent->texts + DOCKET_MOST_INPUT - length;
+    uint8_t *lodged = place_for(job->lent, length);
     memcpy(lodged, text, length);
     copy_docket(&before, &d);
     size_t written = docket_lodge(d.numbers, d.numbers_length, d.rows, d.rows_length, lodged, length, line->start, line->lent,
@@ -129,19 +154,23 @@ static int lodge_text(struct job *job, const uint8_t *text, size_t length, size_
         good = good && same_docket(&d, &before);
     } else if (wanted[DOCKET_FIGURE] == DOCKET_A_COST) {
         read_outputs(text, length, held);
+    } else if (wanted[DOCKET_FIGURE] == DOCKET_NOTHING) {
+        held->known = read_capacities(text, length);
     }
-    return good && gives_outputs(job->lent, held);
+    copy_docket(&before, &d);
+    good = good && gives_outputs(job->lent, held) && answers_questions(job->lent, &held->known, &before);
+    return good && rest_is_left(job->lent);
 }
 
 /* Lodges the texts of an input in a docket begun over paint, and asks for its report. */
 static void *lodge_input(void *given) {
-    static struct outputs held;
+    static struct held held;
     struct job *job = given;
     for (int part = 0; part < PARTS; part++) {
         memset(job->lent->parts[part].start, PAINT, job->lent->parts[part].all);
     }
     struct docket d = docket(job->lent);
-    held.count = 0;
+    held = (struct held){.count = 0};
     job->good = docket_fresh(d.numbers, d.numbers_length, d.rows, d.rows_length) == 0 && rest_is_left(job->lent);
     job->good = job->good && gives_outputs(job->lent, &held);
     const struct bytes *text = &job->input->text, *listing = &job->input->listing;
@@ -178,6 +207,7 @@ int main(int argc, char **argv) {
     for (int how = 0; how < LENDINGS; how++) {
         lents[how] = lend(how);
     }
+    printf("seed %" PRIu64 "\n", begin_random());
     size_t most = 0;
     const char *deepest = "no input";
     for (int i = 1; i < argc; i++) {
@@ -185,6 +215,7 @@ int main(int argc, char **argv) {
         deepest = used > most ? argv[i] : deepest;
         most = used > most ? used : most;
     }
+    count_answers(20);
     size_t own = run_painted(nothing, NULL);
     printf("stack used by the calls: at most %zu bytes, %zu of them the thread's own, by %s\n", most, own, deepest);
     count(most > 0 && most <= DOCKET_STACK_BYTES, "the stack named in docket.h");

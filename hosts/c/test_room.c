@@ -1,10 +1,11 @@
 /* Tests of too little room: every call, lent too little of each slice. The last line is 'N passed, M failed'. */
 #include "test_calls.h"
 
-enum slice { NUMBERS, ROWS, LINE, VALUES, BUFFER, OUTPUTS, SLICES };
+enum slice { NUMBERS, ROWS, LINE, VALUES, BUFFER, OUTPUTS, TAKEN, SLICES };
 
-static const char *const names[SLICES] = {"numbers", "rows", "line", "values", "buffer", "outputs"};
-static const size_t widths[SLICES] = {sizeof(uint64_t), sizeof(uint16_t), 1, sizeof(uint64_t), 1, sizeof(uint16_t)};
+static const char *const names[SLICES] = {"numbers", "rows", "line", "values", "buffer", "outputs", "taken"};
+static const size_t widths[SLICES] = {
+    sizeof(uint64_t), sizeof(uint16_t), 1, sizeof(uint64_t), 1, sizeof(uint16_t), sizeof(uint64_t)};
 
 #define LONGEST_BUFFER ((size_t)300)
 
@@ -32,15 +33,25 @@ static size_t call_outputs(void) {
     return docket_outputs(slice(NUMBERS), lent[NUMBERS], slice(ROWS), lent[ROWS], slice(OUTPUTS), lent[OUTPUTS]);
 }
 
+/* Too little room is told before all else, also where the question does not fit. */
+static size_t call_units_taken(void) {
+    static const uint8_t fixed[4];
+    static size_t period;
+    period = period % 3 + 1;
+    return docket_units_taken(slice(NUMBERS), lent[NUMBERS], slice(ROWS), lent[ROWS], period, 0, fixed, sizeof fixed,
+                              slice(TAKEN), lent[TAKEN]);
+}
+
 /* The calls, and which slices each is lent. */
 static const struct call {
     const char *name;
     size_t (*call)(void);
     int takes[SLICES];
-} calls[] = {{"docket_fresh", call_fresh, {1, 1, 0, 0, 0, 0}},
-             {"docket_lodge", call_lodge, {1, 1, 1, 1, 0, 0}},
-             {"docket_report", call_report, {1, 1, 0, 0, 1, 0}},
-             {"docket_outputs", call_outputs, {1, 1, 0, 0, 0, 1}}};
+} calls[] = {{"docket_fresh", call_fresh, {1, 1, 0, 0, 0, 0, 0}},
+             {"docket_lodge", call_lodge, {1, 1, 1, 1, 0, 0, 0}},
+             {"docket_report", call_report, {1, 1, 0, 0, 1, 0, 0}},
+             {"docket_outputs", call_outputs, {1, 1, 0, 0, 0, 1, 0}},
+             {"docket_units_taken", call_units_taken, {1, 1, 0, 0, 0, 0, 1}}};
 
 /* What a slice holds before each call: as much of the state as is lent of it; paint in the others. */
 static const void *content(enum slice s) {
@@ -154,7 +165,8 @@ static void test_state(const char *next, const char *report, const char *held) {
 
 int main(void) {
     const size_t least[SLICES] = {docket_numbers(), docket_rows(),  DOCKET_LINE_BYTES,
-                                  DOCKET_VALUES,    LONGEST_BUFFER, DOCKET_OUTPUTS};
+                                  DOCKET_VALUES,    LONGEST_BUFFER, DOCKET_OUTPUTS,
+                                  DOCKET_TAKEN};
     for (int s = 0; s < SLICES; s++) {
         asked[s] = least[s];
         ends[s] = (uint8_t *)room(least[s] * widths[s]) + least[s] * widths[s];

@@ -2,8 +2,7 @@
  * call. SEED repeats the changes of a printed seed. The last line is 'N passed, M failed'. */
 #include "test_calls.h"
 #include "test_changes.h"
-
-#include <time.h>
+#include "test_questions.h"
 
 #define STATES 100000
 
@@ -106,6 +105,37 @@ static int tells(size_t bytes, size_t held) {
            memcmp(w.outputs, before.rows, due * sizeof *w.outputs) == 0 && same_docket(&changed, &before);
 }
 
+/* The capacities of a sound state; none where no problem is known. */
+static struct capacities known_capacities(const uint64_t *numbers) {
+    struct capacities known = {0};
+    if (numbers[AT_KNOWN]) {
+        known.periods = numbers[AT_PERIODS];
+        known.units = numbers[AT_COUNT];
+    }
+    for (size_t t = 0; t < known.periods; t++) {
+        known.needed[t] = numbers[AT_DEMAND + t] + numbers[AT_SPARE + t];
+    }
+    for (size_t u = 0; u < known.units; u++) {
+        known.most[u] = numbers[AT_UNITS + u * UNIT_NUMBERS + PU];
+    }
+    return known;
+}
+
+/* Asks the changed state how many units are taken; whether that is answered as it must be. */
+static int answers_question(int sound) {
+    static struct question q;
+    static uint8_t *fixed;
+    fixed = fixed == NULL ? room(LONGEST_FIXED) : fixed;
+    struct capacities known = sound ? known_capacities(before.numbers) : (struct capacities){0};
+    make_question(&known, &q);
+    uint8_t *last = fixed + LONGEST_FIXED - q.length;
+    if (sound) {
+        return answers_rightly(&changed, &known, &q, last, w.taken, DOCKET_TAKEN) && same_docket(&changed, &before);
+    }
+    memcpy(last, q.fixed, q.length);
+    return did_nothing(take_units(&changed, q.period, q.most, last, q.length, w.taken));
+}
+
 /* Lodges a text in the changed state, which is then laid out again; whether that is answered as it must be. */
 static int lodges_rightly(const uint8_t *text, size_t length, int sound) {
     size_t answer = lodge(&changed, text, length, w.line, w.values);
@@ -129,14 +159,8 @@ static int ask_all(const struct input *input, int sound) {
     size_t bytes = report(&changed, w.buffer);
     good = good && (sound || did_nothing(bytes));
     size_t held = copy_outputs(&changed, w.outputs);
-    return good && (sound ? tells(bytes, held) : did_nothing(held));
-}
-
-/* Begins the random numbers by the seed given, or one of the clock. */
-static void begin_random(void) {
-    const char *seed = getenv("SEED");
-    random_state = seed == NULL ? (uint64_t)time(NULL) : strtoull(seed, NULL, 10);
-    printf("seed %" PRIu64 ", %d states from %zu of dockets\n", random_state, STATES, bases_count);
+    good = good && (sound ? tells(bytes, held) : did_nothing(held));
+    return answers_question(sound) && answers_question(sound) && good;
 }
 
 int main(int argc, char **argv) {
@@ -150,7 +174,7 @@ int main(int argc, char **argv) {
         inputs[k] = read_input(argv[k + 1]);
         keep_bases(&inputs[k]);
     }
-    begin_random();
+    printf("seed %" PRIu64 ", %d states from %zu of dockets\n", begin_random(), STATES, bases_count);
     for (int i = 0; i < STATES; i++) {
         enum kind kind = (enum kind)between(0, KINDS - 1);
         const struct input *input = make_state(kind);
@@ -163,6 +187,7 @@ int main(int argc, char **argv) {
         count(wrong[kind] == 0, "%zu states are not answered rightly: %s", wrong[kind], kind_names[kind]);
         count(made[kind] >= STATES / 10, "fewer than a tenth: %s", kind_names[kind]);
     }
+    count_answers(STATES / 200);
     for (size_t k = 0; k < inputs_count; k++) {
         free_input(&inputs[k]);
     }

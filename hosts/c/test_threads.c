@@ -9,8 +9,8 @@
 /* where the threads wait for one another before they begin */
 static pthread_barrier_t begin;
 
-/* What a thread does: with which docket, which inputs it lodges from which on, or what it must be told and how often it asks; and
- * how often that went wrong. */
+/* What a thread does: with which docket, which inputs it lodges from which on, or what it must be told, how often it asks and
+ * from which question on; and how often that went wrong. */
 struct work {
     struct docket d;
     const struct input *inputs;
@@ -33,7 +33,9 @@ static void *ask(void *given) {
     struct work *w = given;
     pthread_barrier_wait(&begin);
     for (size_t k = 0; k < w->count; k++) {
-        w->wrong += !reports(&w->d, w->report) || !gives(&w->d, w->outputs, 4);
+        const struct told *told = &example_told[(w->first + k) % EXAMPLE_TOLD];
+        int good = reports(&w->d, w->report) && gives(&w->d, w->outputs, 4) && answers_told(&w->d, told, DOCKET_TAKEN_TOLD);
+        w->wrong += !good;
     }
     return NULL;
 }
@@ -74,12 +76,12 @@ static void test_asking(void) {
     count(lodges(&other, PROBLEM, PROBLEM_HELD) && lodges(&other, DEARER, DEARER_HELD), "another docket");
     copy_docket(&kept, &one);
     for (size_t k = 0; k < THREADS; k++) {
-        all[k] = (struct work){.d = one, .report = ALL_HELD, .outputs = example_outputs, .count = TIMES};
+        all[k] = (struct work){.d = one, .report = ALL_HELD, .outputs = example_outputs, .count = TIMES, .first = k};
     }
     test_work(ask, all, "that ask one docket");
     count(same_docket(&one, &kept), "the docket that is asked stays as it was");
     for (size_t k = 0; k < THREADS; k += 2) {
-        all[k] = (struct work){.d = other, .report = ONLY_DEARER_HELD, .outputs = dearer_outputs, .count = TIMES};
+        all[k] = (struct work){.d = other, .report = ONLY_DEARER_HELD, .outputs = dearer_outputs, .count = TIMES, .first = k};
     }
     test_work(ask, all, "that ask two dockets");
 }

@@ -9,7 +9,7 @@ file=${1:-$here/docket/libdocket.so}
 [ -f "$archive" ] || { echo "no $archive: run 'rt staticlib docket_host' in the repository" >&2; exit 1; }
 work=$(mktemp -d)
 trap 'rm -rf "$work" "$file.new"' EXIT
-calls=$(sed -n 's/^size_t \(docket_[a-z]*\)(.*/\1;/p' "$header")
+calls=$(sed -n 's/^size_t \(docket_[a-z_]*\)(.*/\1;/p' "$header")
 echo "{ global: $calls local: *; };" >"$work/exports"
 "${CC:-cc}" -shared -o "$file.new" -Wl,-soname,libdocket.so -Wl,-z,defs "-Wl,--version-script=$work/exports" \
   -Wl,--whole-archive "$archive" -Wl,--no-whole-archive

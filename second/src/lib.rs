@@ -7,6 +7,7 @@
 //! - `minimum`: the least value of one unit under multipliers
 //! - `above`: what the split lines above a node say
 //! - `leaf`: when a leaf holds and what it is worth
+//! - `taken`: how many units the sum for `short` takes
 //! - `tree`: nodes and the bound
 //! - `docket`: what is held, and the report
 //! - `listing`: the listing program on bytes
@@ -22,10 +23,12 @@ pub mod minimum;
 pub mod problem;
 pub mod refusal;
 pub mod schedule;
+pub mod taken;
 pub mod text;
 pub mod tree;
 
 pub use docket::{fresh, lodge, report, Answer, Docket, Figures, HeldBound, HeldCost};
 pub use listing::listing;
 pub use refusal::Refusal;
+pub use taken::{capacity_taken, Taken, TakenAnswer};
 pub use tree::Bound;

@@ -509,14 +509,7 @@ fn decision_67_a_price_leaf_leaves_the_ramp_from_p0_out() {
 
 /// A problem of one period with units of these pU that may be on or off at will, and this need.
 fn of_capacities(capacities: &[i64], needed: i64) -> String {
-    let units: String = capacities
-        .iter()
-        .map(|most| format!("unit=0,0,0,1,{most},1,1,-1,1,1,0,0,0,0,0\n"))
-        .collect();
-    let count = capacities.len();
-    format!(
-        "kind=problem\nperiods=1\nunits={count}\ndemand=0\nspare={needed}\n{units}end=problem\n"
-    )
+    at_will(capacities, &[0], &[needed])
 }
 
 /// The answer to a tree on such a problem.

@@ -75,7 +75,7 @@ module _ (d : Docket) (long : Long d) where
   valid-here : (valid-problem (d .problem) ≡ true) ↔ Valid (d .problem)
   valid-here = valid-is (d .problem) (long .0) (long .1) (long .2)
 
-  known-sound-is : d .known ≡ true → (sound d ≡ true) ↔ KnownSound d
+  pub known-sound-is : d .known ≡ true → (sound d ≡ true) ↔ KnownSound d
   unfolding sound
   known-sound-is k = (
     λ e.

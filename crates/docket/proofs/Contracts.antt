@@ -13,9 +13,11 @@ use ghost.Atoms.{Atoms}
 use Rattle.docket.specs.Docket.{fresh-docket}
 use Rattle.docket.specs.Lodging.{lodge-of}
 use Rattle.docket.specs.Report.{report-of, buffer-of}
+use Rattle.docket.specs.Taking.{taken-of}
 use Rattle.docket.proofs.Docket.fresh as fresh
 use Rattle.docket.proofs.Docket.lodge as lodge
 use Rattle.docket.proofs.Docket.report as report
+use Rattle.docket.proofs.Docket.units_taken as units-taken
 
 module _ {M : Type 1} (𝓤 : URA M) (H : Heap 𝓤) (A : Atoms 𝓤) (m : Memory → SProp 𝓤) (run : Routine → Fun 𝓤) where
   -- fresh(): a docket that holds nothing
@@ -41,3 +43,12 @@ module _ {M : Type 1} (𝓤 : URA M) (H : Heap 𝓤) (A : Atoms 𝓤) (m : Memor
             (fact 𝓤 (now (e .1 .0) ≡ buffer-of (a .0) (now (a .1 .0)) (a .1 .1 .0)));
       })
   report-says = refl
+
+  -- units_taken(docket, period, most, fixed): what is told of the units that `short` takes
+  pub units-taken-says : units-taken.spec 𝓤 H A m run
+      ≡ closing 𝓤 H A units-taken.ended (λ κs a. record {
+        ghost = Unit {0};
+        requires = λ g. emp 𝓤;
+        ensures = λ g r e. fact 𝓤 (r ≡ taken-of (a .0) (a .1 .0) (a .1 .1 .0) (now (a .1 .1 .1 .0)));
+      })
+  units-taken-says = refl

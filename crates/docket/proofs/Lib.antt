@@ -24,6 +24,8 @@ pub mod NeverHeld
 pub mod Contracts
 pub mod Promises
 pub mod CountLines
+pub mod Questions
+pub mod UnitsTold
 pub mod Midnight
 pub mod Requested
 pub mod Interleaved

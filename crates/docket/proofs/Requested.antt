@@ -5,12 +5,12 @@ use mathlib.Core.Path.{_≡_, refl}
 use mathlib.Core.Bool.{Bool, true, false}
 use mathlib.Core.List.{List, [], _∷_, _++_, map}
 use mathlib.Core.Logic.{_↔_}
-use mathlib.Core.Option.{none, some}
-use Prim.Native.Nat.{ℕ, suc, _+_, _-_, _≤_, _<_}
+use mathlib.Core.Option.{Option, none, some}
+use Prim.Native.Nat.{ℕ, suc, _+_, _-_, _≤_, _<_, min}
 use native.Mathlib.Omega.{arith}
 use lib.Dec.{lit<, lit≤}
 use lib.IntN.{pos}
-use lib.ListN.{length}
+use lib.ListN.{length, take}
 use lib.Signed.{_≤ℤ_}
 use Rattle.decimal.specs.Decimal.{digits, digits-by}
 use Rattle.model.specs.declared.generator.Generator.{Generator}
@@ -21,8 +21,9 @@ use Rattle.model.specs.Cost.{cost}
 use Rattle.model.specs.Breach.{Breach}
 use Rattle.model.specs.Broken.{Of, OffRamp, Broken, Lower}
 use Rattle.model.specs.Above.{Above, root, count, side}
-use Rattle.model.specs.Largest.{total, LargestSum}
-use Rattle.model.specs.Leaf.{usable, available, Crowded, those}
+use Rattle.model.specs.Largest.{total, falling, largest, LargestSum, FallingOrder}
+use Rattle.model.specs.Leaf.{usable, available, not-off, Crowded, those}
+use Rattle.model.specs.Turns.{in-turn, took, Fewest}
 use Rattle.model.specs.Tree.{short, crowd, stuck, price, Tree, leaf, fork, Narrows, GoodFork, GoodLeaf, LeafHolds, leaf-bound, Limits, tree-figures}
 use Rattle.model.specs.Agreement.{running, Agrees, LeafOf, OneLeaf}
 use Rattle.model.specs.Possible.{Possible, possible, NodeOf, above-node, counts-above}
@@ -30,9 +31,12 @@ use Rattle.model.specs.Unread.{AlikeButMidnight}
 use Rattle.model.proofs.Sides as sides
 use Rattle.model.proofs.Leaves as leaves
 use Rattle.model.proofs.Capacities as capacities
+use Rattle.model.proofs.FallingOrders as orders
+use Rattle.model.proofs.Turns as turns
 use Rattle.model.proofs.Ignored as ignored
 use Rattle.model.proofs.Narrowing as narrowing
 use Rattle.model.proofs.Unread as unread
+use Rattle.walk.specs.Marks.{mark-of, marks-in}
 use Rattle.text.specs.Lines.{Line, ended, later, lines-of, kind-tree, end-problem}
 use Rattle.text.specs.Rendering.{plain-line}
 use Rattle.text.specs.LineRefused.{Renders}
@@ -47,7 +51,10 @@ use Rattle.tree.specs.Refusals.{count-line, node-form, NodeBreaks, BrokenAt}
 use Rattle.tree.specs.WellFormed as tree-lines
 use Rattle.tree.proofs.SplitCounts.{split-lines}
 use Rattle.answer.specs.StatedAnswers.{AnswerValues, refused, Carries}
+use Rattle.leaves.specs.declared.short.Taken.{Taken}
 use Rattle.docket.specs.declared.Docket.{Docket}
+use Rattle.docket.specs.declared.taking.TakenAnswer.{TakenAnswer}
+use Rattle.docket.specs.declared.taking.TakenAnswer.the-variants.{NoProblem, Unfit, Taken as taken}
 use Rattle.docket.specs.declared.held.BoundBy.{BoundBy}
 use Rattle.docket.specs.declared.held.HeldBound.the-variants as bound
 use Rattle.docket.specs.Verdicts.{Verdict, problem}
@@ -55,10 +62,13 @@ use Rattle.docket.specs.Texts.{Short, Begins, Is, Are, no-more, then}
 use Rattle.docket.specs.Lodging.{lodge-of}
 use Rattle.docket.specs.Promised.{after, answer, given, ScheduleText, Long, JudgesBy}
 use Rattle.docket.specs.Specimens.{problem-of, listed-problem, tree-text, count-twice, specimens, Answered}
-use Rattle.docket.specs.Requested.{NodeLineDue, Midnight, in-period-1, UnitLineDue}
+use Rattle.docket.specs.Docket.{sound}
+use Rattle.docket.specs.Taking.{FitQuestion, asked, taken-under, taken-of}
+use Rattle.docket.specs.Requested.{NodeLineDue, TakenThere, Told, AsAsked, Midnight, in-period-1, UnitLineDue}
 use Rattle.docket.proofs.SpecimenTexts.{is-listed-problem}
 use Rattle.docket.proofs.SpecimenList.{specimens-answered}
 use Rattle.docket.proofs.CountLines as count-lines
+use Rattle.docket.proofs.UnitsTold as telling
 use Rattle.docket.proofs.Midnight as midnight
 use Rattle.docket.proofs.Promises as promises
 
@@ -121,6 +131,52 @@ module _ (P : Instance) (W : WellFormed P) where
       → (possible P (side (count t K) b A) t < possible P A t) × ((v : ℕ) → (t ≡ v → ⊥) → possible P (side (count t K) b A) v ≡ possible P A v)
   counts-narrow A t K g b = (narrowing.counts-narrow P (W .units-in .0) A t K g b, narrowing.others-keep P A t K b)
 
+-- ---- [2] The capacity sum may stop when enough
+
+-- The units that `short` may use are taken in turn: by number where no upper count stands; where K stands the largest pU first, the first K of them in falling order,
+-- which is one order of their pU and no other
+pub taken-in-turn : (P : Instance) (A : Above) (t : ℕ)
+    → (A .most t ≡ none → in-turn P A t ≡ usable (P .units) (A .marks) t)
+    × ((K : ℕ) → A .most t ≡ some K → (o : List ℕ) → FallingOrder (usable (P .units) (A .marks) t) o → in-turn P A t ≡ take K o)
+taken-in-turn P A t = (turns.turns-free P A t, turns.turns-counted P A t)
+
+pub one-order : (l : List ℕ) → (o : List ℕ) × FallingOrder l o × ((p : List ℕ) → FallingOrder l p → p ≡ o)
+one-order l = (falling l, orders.falling-is l, orders.falling-one l)
+
+-- so that all that it sums are the units not fixed off, or K of them if they are more
+pub summed-many : (P : Instance) (A : Above) (t : ℕ)
+    → (A .most t ≡ none → length (in-turn P A t) ≡ not-off (P .units) (A .marks) t)
+    × ((K : ℕ) → A .most t ≡ some K → length (in-turn P A t) ≡ min K (not-off (P .units) (A .marks) t))
+summed-many P A t = turns.turns-many P A t
+
+-- As many are taken as are the fewest, from the front, that reach d, or all if they don't: `took` is that number, and no other is
+pub takes-fewest : (l : List ℕ) (d : ℕ) → Fewest l d (took l d) × ((n : ℕ) → Fewest l d n → n ≡ took l d)
+takes-fewest l d = (turns.took-is l d, λ n F. turns.fewest-one l d n (took l d) F (turns.took-is l d))
+
+-- What is promised of `short` is the same: the sum of those taken is below d exactly where the sum of all is, and that sum is what `short` summed before
+pub stops-same : (l : List ℕ) (d : ℕ) → (total (take (took l d) l) < d) ↔ (total l < d)
+stops-same = turns.stops-same
+
+pub sum-stays : (P : Instance) (A : Above) (t : ℕ) → total (in-turn P A t) ≡ available P A t
+sum-stays = turns.in-turn-total
+
+-- So a `short` leaf that holds has taken all that it sums, and only one that does not, which is 33, ends with fewer
+pub all-taken : (P : Instance) (A : Above) (t : ℕ) → LeafHolds P A (short t) → took (in-turn P A t) (P .demand at t + P .spare at t) ≡ length (in-turn P A t)
+unfolding LeafHolds
+all-taken P A t h = turns.took-all (in-turn P A t) (P .demand at t + P .spare at t) (omega (arith, h .1, turns.in-turn-total P A t))
+
+-- What a docket tells who asks is, of every value of it, what `Told` says (docket/specs/Requested.antt) under the problem by which it judges, and one answer alone is that
+pub told-anywhere : (d : Docket) → Long d → (o : Option Instance) → JudgesBy d o → (period most : ℕ) (fixed : List ℕ) → Told period most fixed o (taken-of d period most fixed)
+told-anywhere = telling.told-anywhere
+
+pub told-one : (period most : ℕ) (fixed : List ℕ) (o : Option Instance) (a b : TakenAnswer) → Told period most fixed o a → Told period most fixed o b → a ≡ b
+told-one = telling.told-one
+
+-- It is what holds of a leaf of a tree, where the same statuses and the same upper count stand for the period, whatever stands for other periods
+pub asked-as-leaf : (P : Instance) (period most : ℕ) (fixed : List ℕ) → FitQuestion P period most fixed → (A : Above) → AsAsked P (period - 1) most fixed A
+    → (u : Taken) → TakenThere P (asked P (period - 1) most fixed) (period - 1) u → TakenThere P A (period - 1) u
+asked-as-leaf P period most fixed F A a = telling.asked-there P period most fixed F A a
+
 -- For every list of texts, lodged in turn in a fresh docket: vs is what they are, `given vs` the problem that they gave, `answer texts text` the answer to
 -- one text more
 module _ (texts : List (List ℕ)) (vs : List Verdict) (are : Are none texts vs) where
@@ -160,6 +216,11 @@ module _ (texts : List (List ℕ)) (vs : List Verdict) (are : Are none texts vs)
     pub thirty-six-exactly : (t : ℕ) → NodeLineDue P text before (ended (plain-line crowd-key (suc t ∷ []))) A d → t < P .periods
         → (answer texts text ≡ refused 36 (2 + length before) 0 0) ↔ (Crowded P A t → ⊥)
     thirty-six-exactly = count-lines.crowd-gets-36 texts vs are P known text before A d
+
+  -- ---- [2] again: asked of the docket after the texts
+
+  pub units-told : (period most : ℕ) (fixed : List ℕ) → Told period most fixed (given vs) (taken-of (after texts) period most fixed)
+  units-told = telling.told-after texts vs are
 
   -- ---- [3] Yesterday's last output
 
@@ -283,3 +344,26 @@ unfolding lines-counted
 twice-refused =
     thirty-seven-exactly (listed-problem ∷ []) (problem example ∷ []) (then is-listed-problem no-more) example refl count-twice lines-counted (side (count 1 1) false root) 1 1 1 twice-due
     (lit< tt) (lit≤ tt) (lit≤ tt) .1 (λ n. omega (arith, n .1))
+
+-- ---- A witness: under document 01's problem, whose units have 80 and 50, `short` in period 2, where D + R is 110, takes both by number; where one unit at most may run
+-- it takes the larger and is short; with the first unit off there it takes the other and is short; a period 3 does not fit. Before any problem there is nothing to tell
+
+abbrev told-then : ℕ → ℕ → List ℕ → TakenAnswer
+told-then = taken-of (after (listed-problem ∷ []))
+
+told-there : (period most : ℕ) (fixed : List ℕ) → told-then period most fixed ≡ taken-under example period most fixed
+told-there = telling.told-as (listed-problem ∷ []) (problem example ∷ []) (then is-listed-problem no-more) example refl
+
+pub told-witnessed : (told-then 2 0 (0 ∷ 0 ∷ 0 ∷ 0 ∷ []) ≡ taken (record { short = false; units = 2 }))
+    × (told-then 2 2 (0 ∷ 0 ∷ 0 ∷ 0 ∷ []) ≡ taken (record { short = true; units = 1 }))
+    × (told-then 2 0 (0 ∷ 1 ∷ 0 ∷ 2 ∷ []) ≡ taken (record { short = true; units = 1 }))
+    × (told-then 3 0 (0 ∷ 0 ∷ 0 ∷ 0 ∷ []) ≡ Unfit)
+    × (taken-of (after []) 2 0 (0 ∷ 0 ∷ 0 ∷ 0 ∷ []) ≡ NoProblem)
+unfolding taken-under taken-of in-turn took usable available largest falling sound marks-in mark-of
+told-witnessed = (
+  told-there 2 0 (0 ∷ 0 ∷ 0 ∷ 0 ∷ []),
+  told-there 2 2 (0 ∷ 0 ∷ 0 ∷ 0 ∷ []),
+  told-there 2 0 (0 ∷ 1 ∷ 0 ∷ 2 ∷ []),
+  told-there 3 0 (0 ∷ 0 ∷ 0 ∷ 0 ∷ []),
+  refl,
+)

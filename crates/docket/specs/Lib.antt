@@ -3,6 +3,7 @@ pub mod Docket
 pub mod Verdicts
 pub mod Lodging
 pub mod Report
+pub mod Taking
 pub mod Texts
 pub mod ReportDue
 pub mod Demand3

@@ -1,15 +1,21 @@
 -- The words of the page of what document 02 asks beyond demands 1 to 3.
 use mathlib.Core.Path.{_≡_}
-use mathlib.Core.Bool.{not}
+use mathlib.Core.Bool.{true, not}
 use mathlib.Core.List.{List, _∷_, _++_}
-use Prim.Native.Nat.{ℕ, suc}
+use mathlib.Core.Logic.{_↔_}
+use mathlib.Core.Option.{Option, none, some}
+use Prim.Native.Nat.{ℕ, suc, _+_, _*_, _-_, _<_}
 use lib.Dec.{T}
 use lib.ListN.{length}
 use Rattle.model.specs.declared.generator.Generator.{Generator}
-use Rattle.model.specs.Instance.{Instance}
+use Rattle.model.specs.Instance.{Instance, _at_}
 use Rattle.model.specs.Ranges.{Between}
 use Rattle.model.specs.Breach.{Breach}
 use Rattle.model.specs.Above.{Above, root}
+use Rattle.model.specs.Leaf.{available}
+use Rattle.model.specs.Turns.{in-turn, Fewest}
+use Rattle.walk.specs.Marks.{mark-of, most-of}
+use Rattle.leaves.specs.declared.short.Taken.{Taken}
 use Rattle.text.specs.Lines.{Line, later, lines-of, kind-problem, kind-tree}
 use Rattle.text.specs.LineRefused.{Beginning}
 use Rattle.problem.specs.Units.{unit-form}
@@ -17,7 +23,10 @@ use Rattle.problem.specs.Rendering.{lines-after}
 use Rattle.problem.specs.Refusals.{FormAt, InLimits}
 use Rattle.tree.specs.Places.{node-at, LineAt}
 use Rattle.tree.specs.Refusals.{WrittenTree, written-lines, HoldsSoFar}
+use Rattle.docket.specs.declared.taking.TakenAnswer.{TakenAnswer}
+use Rattle.docket.specs.declared.taking.TakenAnswer.the-variants.{NoProblem, Unfit, Taken as taken}
 use Rattle.docket.specs.Texts.{Short, Begins}
+use Rattle.docket.specs.Taking.{FitQuestion, asked}
 
 -- ---- [1] Splitting on how many units are on
 
@@ -34,6 +43,25 @@ pub record NodeLineDue (P : Instance) (text : List ℕ) (before : List Line) (x 
   pub nodes-before : ℕ
   pub after-writer : length before ≡ suc nodes-before
   pub place : LineAt root 0 (some-tree .tree) nodes-before (node-at A d)
+
+-- ---- [2] The capacity sum may stop when enough
+
+-- in period t, counted from 0, with A above: whether what `short` sums is below D + R, and the fewest, in the order in which they are taken, that reach it, or all
+pub record TakenThere (P : Instance) (A : Above) (t : ℕ) (u : Taken) : Type 0 where
+  pub short : (u .short ≡ true) ↔ (available P A t < P .demand at t + P .spare at t)
+  pub units : Fewest (in-turn P A t) (P .demand at t + P .spare at t) (u .units)
+
+-- what is told where this problem, or none, is the one judged by: that there is none; that the question does not fit it; or what was taken, under what the
+-- question names
+pub data Told (period most : ℕ) (fixed : List ℕ) : Option Instance → TakenAnswer → Type 0 where
+  no-problem : Told period most fixed none NoProblem
+  unfit : {P : Instance} → (FitQuestion P period most fixed → ⊥) → Told period most fixed (some P) Unfit
+  fit : {P : Instance} {u : Taken} → FitQuestion P period most fixed → TakenThere P (asked P (period - 1) most fixed) (period - 1) u → Told period most fixed (some P) (taken u)
+
+-- A has in period t the statuses and the upper count that a question names
+pub record AsAsked (P : Instance) (t most : ℕ) (fixed : List ℕ) (A : Above) : Type 0 where
+  pub statuses : (u : ℕ) → u < length (P .units) → A .marks u t ≡ mark-of (fixed at (u * P .periods + t))
+  pub upper : A .most t ≡ most-of most
 
 -- ---- [3] Yesterday's last output
 

@@ -3,10 +3,12 @@ ghost use mathlib.Core.Path.{_≡_};
 ghost use Rattle.docket.specs.Docket.{fresh-docket};
 ghost use Rattle.docket.specs.Lodging.{lodge-of};
 ghost use Rattle.docket.specs.Report.{report-of, buffer-of};
+ghost use Rattle.docket.specs.Taking.{taken-of};
 use crate::admission::Admission;
 use crate::held::Held;
 use crate::held::HeldBound;
 use crate::held::HeldCost;
+use crate::taking::TakenAnswer;
 use answer::Answer;
 use model::arrays::Problem;
 use report::ReportAnswer;
@@ -17,6 +19,7 @@ pub mod held;
 mod holding;
 mod lodging;
 pub mod sound;
+pub mod taking;
 
 // A problem if one is known, what is held under it, and the held schedule's rows: row u from u times T on, zeros after the last.
 pub struct Docket {
@@ -86,5 +89,17 @@ impl Docket {
             docket: self,
             answer,
         }
+    }
+
+    // Whether `short` holds in the period, counted from 1, and how many units it takes, where these statuses are fixed and this upper count stands: `most` is 0
+    // for none and else one more than the count, unit u's statuses begin at u times the periods. A docket that is not sound knows no problem.
+    pub fn units_taken(self, period: usize, most: usize, fixed: &[u8]) -> TakenAnswer
+        ensures { λ r. ⌜ r ≡ taken-of self period most (now (fixed .entry)) ⌝ }
+    {
+        if sound::knows(self) {
+            let problem = self.problem;
+            return taking::answer_taken(problem, period, most, fixed);
+        }
+        TakenAnswer::NoProblem
     }
 }

@@ -1,12 +1,12 @@
 -- What a call does, by what its parts gave: one law for each way through the code.
 use mathlib.Core.Path.{_≡_, refl, ap, _∙_}
 use mathlib.Core.Bool.{Bool, true, false, cond}
-use mathlib.Core.List.{List, []}
+use mathlib.Core.List.{List, [], _∷_}
 use mathlib.Core.Logic.{_↔_}
 use Prim.Native.Nat.{ℕ, _≤_, _<_}
 use native.Mathlib.Omega.{arith}
 use lib.Dec.{ltb, leb}
-use lib.ListN.{length}
+use lib.ListN.{length, set}
 use lib.Seq.{paste}
 use borrow.Author.Tests.{ltb-false, leb-true, le-ltb, le-leb}
 use Rattle.layout.proofs.Fronts.{front-more}
@@ -20,6 +20,9 @@ use Rattle.docket.specs.declared.Reported.{Reported}
 use Rattle.docket.specs.Lodging.{lodge-of}
 use Rattle.docket.specs.Report.{report-of, buffer-of}
 use Rattle.docket.specs.Demand3.{Unheld}
+use Rattle.docket.specs.declared.taking.TakenAnswer.{TakenAnswer}
+use Rattle.docket.specs.declared.taking.TakenAnswer.the-variants.{NoProblem, Unfit, Taken}
+use Rattle.docket.specs.Taking.{taken-of}
 use Rattle.list.proofs.AnswerSizes.{answer-fits}
 use Rattle.state.specs.Layout.{docket-in}
 use Rattle.state.specs.Kept.{long, holds, lodged-numbers, lodged-rows, outputs-count, outputs-of}
@@ -29,7 +32,7 @@ use Rattle.state.proofs.Opening.{holds-sound}
 use Rattle.state.proofs.Outputs.{outputs-few}
 use Rattle.state.proofs.Lodged as state
 use Rattle.docket_host.specs.HostAnswer.{too-little-room}
-use Rattle.docket_host.specs.Calls.{no-docket, guarded, fresh-answer, fresh-numbers, fresh-rows, lends, lodge-room, lodge-answer, lodge-numbers, lodge-rows, lodge-line, lodge-values, report-number, report-answer, report-bytes, outputs-room, outputs-answer, outputs-rows}
+use Rattle.docket_host.specs.Calls.{no-docket, guarded, fresh-answer, fresh-numbers, fresh-rows, lends, lodge-room, lodge-answer, lodge-numbers, lodge-rows, lodge-line, lodge-values, report-number, report-answer, report-bytes, outputs-room, outputs-answer, outputs-rows, taken-room, taken-number, taken-written, taken-answer, taken-numbers}
 
 -- ---- what a test of room says
 
@@ -180,3 +183,51 @@ module _ (v w o : List ℕ) where
     outputs-done d ed r er o′ eo =
         let s = outputs-by in
         (er ∙ ap outputs-count ed ∙ s .0, eo ∙ ap (λ (x : Docket). over (outputs-of x) o) ed ∙ s .1)
+
+-- ---- how many units `short` takes
+
+pub taken-lent : (v w o : List ℕ) → taken-room v w o ≡ true → (long v w ≡ true) × (2 ≤ length o)
+taken-lent v w o e = go (long v w) refl e
+  where
+    go : (t : Bool) → long v w ≡ t → cond t (leb 2 (length o)) false ≡ true → (long v w ≡ true) × (2 ≤ length o)
+    go true h k = (h, leb-true 2 (length o) k)
+    go false h k = clash k
+
+-- two numbers stored one after the other
+pub two-stored : (o : List ℕ) (x y : ℕ) → 2 ≤ length o → set (set o 0 x) 1 y ≡ over (x ∷ (y ∷ [])) o
+two-stored [] x y h = absurd (omega arith)
+two-stored (a ∷ []) x y h = absurd (omega arith)
+two-stored (a ∷ (b ∷ o)) x y h = refl
+
+module _ (v w : List ℕ) (period most : ℕ) (fixed o : List ℕ) where
+  abbrev pub Counts : (r : ℕ) (o′ : List ℕ) → Type 0
+  Counts r o′ = (r ≡ taken-answer v w period most fixed o) × (o′ ≡ taken-numbers v w period most fixed o)
+
+  pub taken-short : taken-room v w o ≡ false → Counts too-little-room o
+  unfolding taken-answer taken-numbers
+  taken-short e = (rw e refl, rw e refl)
+
+  pub taken-none : taken-room v w o ≡ true → holds v w ≡ false → Counts no-docket o
+  unfolding taken-answer taken-numbers
+  taken-none e i = (rw (e, i) refl, rw (e, i) refl)
+
+  module _ (e : taken-room v w o ≡ true) (i : holds v w ≡ true) where
+    pub taken-by : Counts (taken-number (taken-of (docket-in v w) period most fixed)) (taken-written (taken-of (docket-in v w) period most fixed) o)
+    unfolding taken-answer taken-numbers
+    taken-by = (rw (e, i) refl, rw (e, i) refl)
+
+    -- what is told is none of the two numbers
+    pub taken-apart : taken-answer v w period most fixed o ≤ 2
+    taken-apart = omega (arith, taken-by .0, go (taken-of (docket-in v w) period most fixed))
+      where
+        go : (a : TakenAnswer) → taken-number a ≤ 2
+        go NoProblem = omega arith
+        go Unfit = omega arith
+        go (Taken t) = omega arith
+
+    pub taken-done : (d : Docket) → d ≡ docket-in v w → (a : TakenAnswer) → a ≡ taken-of d period most fixed → (r : ℕ) → r ≡ taken-number a
+        → (o′ : List ℕ) → o′ ≡ taken-written a o → Counts r o′
+    taken-done d ed a ea r er o′ eo =
+        let s = taken-by in
+        let k : a ≡ taken-of (docket-in v w) period most fixed = ea ∙ ap (λ (x : Docket). taken-of x period most fixed) ed in
+        (er ∙ ap taken-number k ∙ s .0, eo ∙ ap (λ (x : TakenAnswer). taken-written x o) k ∙ s .1)

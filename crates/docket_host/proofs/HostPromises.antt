@@ -26,6 +26,7 @@ use Rattle.list.specs.Listing.{listing-text, listed-of}
 use Rattle.docket.specs.Demand3.{Unheld}
 use Rattle.docket.specs.ReportDue.{ReportDue}
 use Rattle.docket.specs.Promised.{after, answer, given}
+use Rattle.docket.specs.Taking.{taken-of}
 use Rattle.docket.proofs.Promises as promised
 use Rattle.state.specs.Layout.{numbers-count, rows-count, layout-mark, docket-in}
 use Rattle.state.specs.Kept.{long, holds, kept-numbers, kept-rows, State, docket-kept, HoldsDocket, outputs-of}
@@ -35,7 +36,7 @@ use Rattle.state.proofs.Again as again
 use Rattle.state.proofs.ReachedFits as reached
 use Rattle.state.proofs.Outputs as held
 use Rattle.docket_host.specs.HostAnswer.{too-little-room, host-answer}
-use Rattle.docket_host.specs.Calls.{no-docket, lends, lodge-room, fresh-answer, fresh-numbers, fresh-rows, lodge-answer, lodge-numbers, lodge-rows, lodge-line, lodge-values, report-answer, report-bytes, outputs-room, outputs-answer, outputs-rows}
+use Rattle.docket_host.specs.Calls.{no-docket, lends, lodge-room, fresh-answer, fresh-numbers, fresh-rows, lodge-answer, lodge-numbers, lodge-rows, lodge-line, lodge-values, report-answer, report-bytes, outputs-room, outputs-answer, outputs-rows, taken-room, taken-number, taken-written, taken-answer, taken-numbers}
 use Rattle.docket_host.specs.Lending.{Lending, heard, fresh-state, after-calls, HostReport}
 use Rattle.docket_host.proofs.Calls as call
 use Rattle.docket_host.proofs.Hosted as hosted
@@ -55,6 +56,8 @@ use Rattle.docket_host.proofs.docket_report.Statement as report
 use Rattle.docket_host.proofs.docket_report.Met as report-met
 use Rattle.docket_host.proofs.docket_outputs.Statement as outputs
 use Rattle.docket_host.proofs.docket_outputs.Met as outputs-met
+use Rattle.docket_host.proofs.docket_units_taken.Statement as units-taken
+use Rattle.docket_host.proofs.docket_units_taken.Met as units-taken-met
 use Rattle.docket_host.proofs.docket_listing.Statement as listing
 use Rattle.docket_host.proofs.docket_listing.Met as listing-met
 
@@ -62,8 +65,8 @@ use Rattle.docket_host.proofs.docket_listing.Met as listing-met
 -- back (Contracts.antt), so that the definitions named below (specs/Calls.antt) are what the calls do
 
 pub calls-end : {M : Type 1} → rules.statement M × numbers-asked.statement M × rows-asked.statement M × fresh.statement M × lodge.statement M × report.statement M
-    × outputs.statement M × listing.statement M
-calls-end = (rules-met.met, numbers-met.met, rows-met.met, fresh-met.met, lodge-met.met, report-met.met, outputs-met.met, listing-met.met)
+    × outputs.statement M × units-taken.statement M × listing.statement M
+calls-end = (rules-met.met, numbers-met.met, rows-met.met, fresh-met.met, lodge-met.met, report-met.met, outputs-met.met, units-taken-met.met, listing-met.met)
 
 -- ---- What is asked for. A state has room exactly in as many numbers and rows as the calls say, and slices with room hold a docket exactly where they begin
 -- with the mark and the docket that they are read as is sound
@@ -105,6 +108,14 @@ report-none = call.report-none
 pub outputs-none : (v w o : List ℕ) → outputs-room v w o ≡ true → holds v w ≡ false → (no-docket ≡ outputs-answer v w o) × (o ≡ outputs-rows v w o)
 outputs-none = call.outputs-none
 
+pub taken-short : (v w : List ℕ) (period most : ℕ) (fixed o : List ℕ) → taken-room v w o ≡ false
+    → (too-little-room ≡ taken-answer v w period most fixed o) × (o ≡ taken-numbers v w period most fixed o)
+taken-short = call.taken-short
+
+pub taken-none : (v w : List ℕ) (period most : ℕ) (fixed o : List ℕ) → taken-room v w o ≡ true → holds v w ≡ false
+    → (no-docket ≡ taken-answer v w period most fixed o) × (o ≡ taken-numbers v w period most fixed o)
+taken-none = call.taken-none
+
 -- Of slices that hold a docket, whoever wrote them: no length of a line and no count of outputs is one of the two numbers
 
 pub length-apart : (v w text line values : List ℕ) → lodge-room v w line values ≡ true → holds v w ≡ true → lodge-answer v w text line values < no-docket
@@ -112,6 +123,9 @@ length-apart = call.length-apart
 
 pub outputs-apart : (v w o : List ℕ) → outputs-room v w o ≡ true → holds v w ≡ true → outputs-answer v w o < no-docket
 outputs-apart = call.outputs-apart
+
+pub taken-apart : (v w : List ℕ) (period most : ℕ) (fixed o : List ℕ) → taken-room v w o ≡ true → holds v w ≡ true → taken-answer v w period most fixed o ≤ 2
+taken-apart = call.taken-apart
 
 -- Of any slices: a text that would be refused or passed leaves the state as it was
 pub unheld-leaves : (v w text line values : List ℕ) → Unheld (stated (lodge-of (docket-in v w) text .answer))
@@ -129,8 +143,8 @@ values-long = numbers.answer-numbers-long
 pub values-tell : (s t : Stated) → answer-numbers s ≡ answer-numbers t → s ≡ t
 values-tell = numbers.numbers-tell
 
--- ---- After every list of calls, from a fresh state. `heard calls` are the texts of those that were lent enough; the others do nothing. `docket_report` and
--- `docket_outputs` only read the state, so that they may be called in between
+-- ---- After every list of calls, from a fresh state. `heard calls` are the texts of those that were lent enough; the others do nothing. `docket_report`,
+-- `docket_outputs` and `docket_units_taken` only read the state, so that they may be called in between
 
 module _ (v w : List ℕ) (room : long v w ≡ true) (calls : List Lending) where
   abbrev s : State
@@ -174,6 +188,13 @@ module _ (v w : List ℕ) (room : long v w ≡ true) (calls : List Lending) wher
   pub outputs-told : (o : List ℕ) → 1536 ≤ length o
       → (outputs-answer (s .numbers) (s .rows) o ≡ length (outputs-of (after texts))) × (outputs-rows (s .numbers) (s .rows) o ≡ over (outputs-of (after texts)) o)
   outputs-told = hosted.outputs-told s texts state-holds
+
+  -- The units taken that are told are those of the docket after the texts (`units-told` of crates/docket/proofs/Requested.antt): 0, and at the front of what is lent 1 for
+  -- short or 0 and how many; or 1 where no problem is known and 2 where the question does not fit it, and what is lent stays
+  pub taken-told : (period most : ℕ) (fixed o : List ℕ) → 2 ≤ length o
+      → (taken-answer (s .numbers) (s .rows) period most fixed o ≡ taken-number (taken-of (after texts) period most fixed))
+      × (taken-numbers (s .numbers) (s .rows) period most fixed o ≡ taken-written (taken-of (after texts) period most fixed) o)
+  taken-told = hosted.taken-told s (after texts) state-holds
 
   -- A report's length is at most 171, or too little room is said; in 256 bytes there is room
   pub report-length : (b : List ℕ) (k : ℕ) → (report-answer (s .numbers) (s .rows) b k ≤ 171) ⊎ (report-answer (s .numbers) (s .rows) b k ≡ too-little-room)

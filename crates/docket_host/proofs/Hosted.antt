@@ -1,4 +1,4 @@
--- What calls on a state that holds a docket give: its answers, its reports, its outputs.
+-- What calls on a state that holds a docket give: its answers, its reports, its outputs, and what it tells of the units that `short` takes.
 use mathlib.Core.Path.{_≡_, refl, sym, ap, _∙_}
 use mathlib.Core.Bool.{Bool, true, false, cond}
 use mathlib.Core.List.{List}
@@ -25,6 +25,7 @@ use Rattle.docket.specs.Lodging.{lodge-of}
 use Rattle.docket.specs.Report.{text-shown, report-of, buffer-of}
 use Rattle.docket.specs.ReportDue.{WrittenOr43, ReportDue}
 use Rattle.docket.specs.Promised.{after, answer}
+use Rattle.docket.specs.Taking.{taken-of}
 use Rattle.docket.proofs.Lists.{reached-sound}
 use Rattle.docket.proofs.ReportSizes.{reached-most}
 use Rattle.docket.proofs.Promises.{reports}
@@ -32,9 +33,9 @@ use Rattle.state.specs.Kept.{State, state-next, HoldsDocket, outputs-count, out
 use Rattle.state.proofs.ReachedFits.{reached-fits}
 use Rattle.state.proofs.Outputs.{outputs-long}
 use Rattle.docket_host.specs.HostAnswer.{too-little-room}
-use Rattle.docket_host.specs.Calls.{lends, lodge-room, lodge-answer, lodge-line, lodge-values, report-number, report-answer, report-bytes, outputs-room, outputs-answer, outputs-rows}
+use Rattle.docket_host.specs.Calls.{lends, lodge-room, lodge-answer, lodge-line, lodge-values, report-number, report-answer, report-bytes, outputs-room, outputs-answer, outputs-rows, taken-room, taken-number, taken-written, taken-answer, taken-numbers}
 use Rattle.docket_host.specs.Lending.{Lending, called, HostReport}
-use Rattle.docket_host.proofs.Calls.{lodge-by, report-by, outputs-by}
+use Rattle.docket_host.proofs.Calls.{lodge-by, report-by, outputs-by, taken-by}
 
 -- ---- one call
 
@@ -122,3 +123,15 @@ module _ (s : State) (texts : List (List ℕ)) (h : HoldsDocket s (after texts))
       let t = outputs-by (s .numbers) (s .rows) o outputs-room-is (h .is) in
       let long = outputs-long (after texts) (reached-sound texts) (reached-fits texts .rows-long) in
       (sym (t .0) ∙ ap outputs-count (h .docket-is) ∙ sym long, sym (t .1) ∙ ap (λ (d : Docket). over (outputs-of d) o) (h .docket-is))
+
+-- ---- the units that `short` takes
+
+module _ (s : State) (d : Docket) (h : HoldsDocket s d) (period most : ℕ) (fixed o : List ℕ) (room : 2 ≤ length o) where
+  taken-room-is : taken-room (s .numbers) (s .rows) o ≡ true
+  taken-room-is = rw (h .room, le-leb 2 (length o) room) refl
+
+  pub taken-told : (taken-answer (s .numbers) (s .rows) period most fixed o ≡ taken-number (taken-of d period most fixed))
+      × (taken-numbers (s .numbers) (s .rows) period most fixed o ≡ taken-written (taken-of d period most fixed) o)
+  taken-told =
+      let t = taken-by (s .numbers) (s .rows) period most fixed o taken-room-is (h .is) in
+      (sym (t .0) ∙ ap (λ (x : Docket). taken-number (taken-of x period most fixed)) (h .docket-is), sym (t .1) ∙ ap (λ (x : Docket). taken-written (taken-of x period most fixed) o) (h .docket-is))

@@ -1,6 +1,6 @@
 -- What the calls on an open docket answer, and what every slice that they are lent then holds. v and w are the two slices of its state.
 use mathlib.Core.Bool.{Bool, false, cond}
-use mathlib.Core.List.{List}
+use mathlib.Core.List.{List, [], _∷_}
 use Prim.Native.Nat.{ℕ}
 use lib.Dec.{ltb, leb}
 use lib.ListN.{length}
@@ -14,6 +14,9 @@ use Rattle.docket.specs.declared.Lodged.{Lodged}
 use Rattle.docket.specs.Docket.{fresh-docket}
 use Rattle.docket.specs.Lodging.{lodge-of}
 use Rattle.docket.specs.Report.{report-of, buffer-of}
+use Rattle.docket.specs.declared.taking.TakenAnswer.{TakenAnswer}
+use Rattle.docket.specs.declared.taking.TakenAnswer.the-variants.{NoProblem, Unfit, Taken}
+use Rattle.docket.specs.Taking.{taken-of}
 use Rattle.state.specs.Layout.{docket-in}
 use Rattle.state.specs.Kept.{long, holds, kept-numbers, kept-rows, lodged-numbers, lodged-rows, outputs-count, outputs-of}
 use Rattle.docket_host.specs.HostAnswer.{too-little-room}
@@ -98,3 +101,27 @@ outputs-answer v w o = guarded (outputs-room v w o) (holds v w) too-little-room 
 
 unfoldable pub outputs-rows : List ℕ → List ℕ → List ℕ → List ℕ
 outputs-rows v w o = guarded (outputs-room v w o) (holds v w) o o (over (outputs-of (docket-in v w)) o)
+
+-- ---- how many units `short` takes: room for two numbers is asked for
+
+abbrev pub taken-room : List ℕ → List ℕ → List ℕ → Bool
+taken-room v w o = cond (long v w) (leb 2 (length o)) false
+
+-- 0 where units were taken, 1 where no problem is known, 2 where the question does not fit it
+abbrev pub taken-number : TakenAnswer → ℕ
+taken-number NoProblem = 1
+taken-number Unfit = 2
+taken-number (Taken t) = 0
+
+-- 1 for short or 0, and how many were taken, at the front of what is lent; in the other cases it stays
+abbrev pub taken-written : TakenAnswer → List ℕ → List ℕ
+taken-written NoProblem o = o
+taken-written Unfit o = o
+taken-written (Taken t) o = over (cond (t .short) 1 0 ∷ (t .units ∷ [])) o
+
+module _ (v w : List ℕ) (period most : ℕ) (fixed o : List ℕ) where
+  unfoldable pub taken-answer : ℕ
+  taken-answer = guarded (taken-room v w o) (holds v w) too-little-room no-docket (taken-number (taken-of (docket-in v w) period most fixed))
+
+  unfoldable pub taken-numbers : List ℕ
+  taken-numbers = guarded (taken-room v w o) (holds v w) o o (taken-written (taken-of (docket-in v w) period most fixed) o)

@@ -1,11 +1,15 @@
 // The docket for programs in C, Rust and Python (hosts/), in the archive libdocket_host.a: a docket that stays open, whose state lies in two
 // slices that the caller lends and keeps between calls; and the listing, one function on bytes.
 ghost use mathlib.Core.Path.{_≡_};
+ghost use mathlib.Core.Bool.{cond};
+ghost use Prim.Native.Nat.{_≤_};
+ghost use lib.ListN.{length};
 ghost use Rattle.list.specs.Listing.{listed-of, output-of};
 ghost use Rattle.state.specs.Layout.{numbers-count, rows-count};
 ghost use Rattle.docket_host.specs.HostAnswer.{host-answer};
-ghost use Rattle.docket_host.specs.Calls.{rules, fresh-answer, fresh-numbers, fresh-rows, lodge-room, lodge-answer, lodge-numbers, lodge-rows, lodge-line, lodge-values, report-number, report-answer, report-bytes, outputs-room, outputs-answer, outputs-rows};
+ghost use Rattle.docket_host.specs.Calls.{rules, fresh-answer, fresh-numbers, fresh-rows, lodge-room, lodge-answer, lodge-numbers, lodge-rows, lodge-line, lodge-values, report-number, report-answer, report-bytes, outputs-room, outputs-answer, outputs-rows, taken-room, taken-number, taken-written, taken-answer, taken-numbers};
 use docket::Docket;
+use docket::taking::TakenAnswer;
 use list::Listed;
 use report::ReportAnswer;
 
@@ -154,6 +158,70 @@ pub extern "C" fn docket_outputs(numbers: &[u64], rows: &[u16], outputs: &mut [u
         if opened.is {
             let docket = opened.docket;
             return state::copy_outputs(docket, outputs);
+        }
+        return NO_DOCKET;
+    }
+    TOO_SMALL
+}
+
+// Whether as much is lent as `docket_units_taken` asks for.
+fn has_taken_room(numbers: &[u64], rows: &[u16], taken: &[u64]) -> bool
+    ensures { λ r. ⌜ r ≡ taken-room (now (numbers .entry)) (now (rows .entry)) (now (taken .entry)) ⌝ }
+{
+    if state::is_long(numbers, rows) {
+        return 2 <= taken.len();
+    }
+    false
+}
+
+// 1 for short, 0 for enough.
+fn short_number(short: bool) -> u64
+    ensures { λ r. ⌜ r ≡ cond short 1 0 ⌝ }
+{
+    if short {
+        return 1;
+    }
+    0
+}
+
+// The answer as one number; where units were taken, `taken` begins with whether they are short and how many they are.
+fn tell_taken(answer: TakenAnswer, taken: &mut [u64]) -> usize
+    requires { ⌜ 2 ≤ length (now taken) ⌝ }
+    ensures number { λ r. ⌜ r ≡ taken-number answer ⌝ }
+    ensures taken { λ _. ⌜ now (taken .exit) ≡ taken-written answer (now (taken .entry)) ⌝ }
+{
+    match answer {
+        TakenAnswer::NoProblem => 1,
+        TakenAnswer::Unfit => 2,
+        TakenAnswer::Taken(found) => {
+            taken[0] = short_number(found.short);
+            taken[1] = found.units as u64;
+            0
+        }
+    }
+}
+
+// How many units `short` takes in the period, counted from 1, where these statuses are fixed and this upper count stands (0 for none, else one more than
+// it): 0, and `taken` begins with 1 for short or 0 and then how many; 1 where no problem is known, 2 where the question does not fit it. Or TOO_SMALL or
+// NO_DOCKET. Nothing else is changed.
+#[no_mangle]
+pub extern "C" fn docket_units_taken(
+    numbers: &[u64],
+    rows: &[u16],
+    period: usize,
+    most: usize,
+    fixed: &[u8],
+    taken: &mut [u64],
+) -> usize
+    ensures answer { λ r. ⌜ r ≡ taken-answer (now (numbers .entry)) (now (rows .entry)) period most (now (fixed .entry)) (now (taken .entry)) ⌝ }
+    ensures taken { λ _. ⌜ now (taken .exit) ≡ taken-numbers (now (numbers .entry)) (now (rows .entry)) period most (now (fixed .entry)) (now (taken .entry)) ⌝ }
+{
+    if has_taken_room(numbers, rows, taken) {
+        let opened = state::opened_in(numbers, rows);
+        if opened.is {
+            let docket = opened.docket;
+            let answer = docket.units_taken(period, most, fixed);
+            return tell_taken(answer, taken);
         }
         return NO_DOCKET;
     }

@@ -2,3 +2,4 @@
 pub mod Parting
 pub mod OrderNumbers
 pub mod Copies
+pub mod LongTexts

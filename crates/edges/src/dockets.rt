@@ -4,6 +4,7 @@ ghost use Prim.Native.Nat.{_<_};
 ghost use lib.ListN.{take};
 ghost use Rattle.docket.specs.Lodging.{lodge-of};
 use crate::orders::Order;
+use crate::questions;
 use crate::show;
 use crate::texts;
 use crate::words;
@@ -49,6 +50,16 @@ fn ask(d: Docket, a: u64, b: u64, s: &[u8]) -> Docket
 {
     let name = words::rest(words::rest(s));
     show::ask(name, d, (a % 161) as usize, b as usize)
+}
+
+// The docket after a question about units, whose statuses are the text; prints the line of the case, whose name follows two numbers.
+fn units(d: Docket, a: u64, b: u64, s: &[u8], size: usize, text: &[u8]) -> Docket
+    ensures { λ r. ⌜ r ≡ d ⌝ }
+{
+    let name = words::rest(words::rest(s));
+    let answer = questions::ask(d, a as usize, b as usize, texts::front(text, size));
+    show::taken(name, answer);
+    d
 }
 
 // The docket that knows a problem, or none.
@@ -136,6 +147,7 @@ fn after(d: Docket, order: Order, size: usize, line: &[u8], text: &[u8]) -> Dock
         3 => give(d, size, text),
         4 => Docket::fresh(),
         15 => ask(d, order.a, order.b, s),
+        16 => units(d, order.a, order.b, s, size, text),
         _ => set(d, code, order.a, order.b),
     }
 }

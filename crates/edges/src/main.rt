@@ -1,7 +1,8 @@
-// Carries out the orders of standard input, one to a line: lodges texts in dockets, asks for reports, and prints a line for each text that is
-// lodged under a name and for each report. The orders are `text`, `more`, `fill` and `cut`, which make the text; `lodge`, `give` and `ask`;
-// `fresh`, `keep` and `take`, which say in which docket; and `set`, which makes dockets that no lodging makes. The file stdin beside src/ has
-// the cases, and says above them what each order does. A line that is no order is printed, so that the file stdout does not fit.
+// Carries out the orders of standard input, one to a line: lodges texts in dockets, asks for reports and about units, and prints a line for
+// each text that is lodged under a name and for each thing asked. The orders are `text`, `more`, `fill` and `cut`, which make the text;
+// `lodge`, `give`, `ask` and `units`; `fresh`, `keep` and `take`, which say in which docket; and `set`, which makes dockets that no lodging
+// makes. The file stdin beside src/ has the cases, and says above them what each order does. A line that is no order is printed, so that the
+// file stdout does not fit.
 ghost use mathlib.Core.Path.{_≡_};
 ghost use lib.ListN.{length};
 use crate::dockets::Dockets;
@@ -9,6 +10,7 @@ use libc::STDIN_FILENO;
 
 mod dockets;
 mod orders;
+mod questions;
 mod show;
 mod texts;
 mod words;

@@ -1,5 +1,5 @@
 // The orders, one to a line. An order's code is its place among what lines begin with (`read`): 0 to 4 have no number, 5 to 11 one, 12 to
-// 15 two, and 16 is no order.
+// 16 two, and 17 is no order.
 use crate::show;
 use crate::words;
 use crate::words::Numeral;
@@ -25,7 +25,7 @@ fn bare(code: usize, from: usize) -> Order {
 // No order; prints the line.
 fn misread(line: &[u8]) -> Order {
     show::misread(line);
-    bare(16, 0)
+    bare(17, 0)
 }
 
 // Which of the beginnings, each ended by a slash, the line has.
@@ -38,12 +38,12 @@ fn begin(line: &[u8], beginnings: &[u8]) -> Order {
             return bare(code, end - at);
         }
         if end == beginnings.len() {
-            return bare(16, 0);
+            return bare(17, 0);
         }
         at = end + 1;
         code += 1;
     }
-    bare(16, 0)
+    bare(17, 0)
 }
 
 // The largest first number that an order may have.
@@ -128,18 +128,18 @@ fn is_note(line: &[u8]) -> bool {
 // The order that the line is.
 pub fn read(line: &[u8]) -> Order {
     if is_note(line) {
-        return bare(16, 0);
+        return bare(17, 0);
     }
     let order = begin(
         line,
-        b"lodge /text /more /give/fresh/cut /keep /take /set known /set periods /set outputs /fill /set cost /set bound -/set bound /ask /",
+        b"lodge /text /more /give/fresh/cut /keep /take /set known /set periods /set outputs /fill /set cost /set bound -/set bound /ask /units /",
     );
     let code = order.code;
     let from = order.from;
     match code {
         0 | 1 | 2 => followed(line, order),
         3 | 4 => whole(line, order),
-        16 => misread(line),
+        17 => misread(line),
         _ => with_numbers(line, code, from),
     }
 }

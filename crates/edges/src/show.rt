@@ -7,6 +7,8 @@ use docket::Docket;
 use docket::Lodged;
 use docket::held::HeldBound;
 use docket::held::HeldCost;
+use docket::taking::TakenAnswer;
+use leaves::short::Taken;
 use libc::STDOUT_FILENO;
 use model::arrays::Problem;
 use model::figures::Bound;
@@ -252,4 +254,31 @@ pub fn ask(name: &[u8], d: Docket, n: usize, at: usize) -> Docket
     let mut buffer = [0u8; 160];
     fill(&mut buffer);
     ask_in(name, d, &mut buffer[..n], at)
+}
+
+// Prints whether the units are short or enough, and how many were taken.
+fn print_units(taken: Taken) {
+    if taken.short {
+        print(b"short");
+    } else {
+        print(b"enough");
+    }
+    print_value(taken.units as u64);
+}
+
+// Prints the answer to a question about units.
+fn print_taken(answer: TakenAnswer) {
+    match answer {
+        TakenAnswer::NoProblem => print(b"no problem"),
+        TakenAnswer::Unfit => print(b"unfit"),
+        TakenAnswer::Taken(taken) => print_units(taken),
+    }
+}
+
+// Prints a line: the case's name and the answer.
+pub fn taken(name: &[u8], answer: TakenAnswer) {
+    print(name);
+    print(b": ");
+    print_taken(answer);
+    print(b"\n");
 }

@@ -1,17 +1,19 @@
 -- A problem laid out is had again, with what stands past its periods and units: each array is read from its place.
 use mathlib.Core.Path.{_≡_, refl, sym, ap, _∙_}
 use mathlib.Core.Bool.{Bool, true, false, not, cond}
-use mathlib.Core.List.{List, [], _++_, append-nil}
-use Prim.Native.Nat.{ℕ, suc, _<_}
+use mathlib.Core.List.{List, _++_}
+use Prim.Native.Nat.{ℕ, suc, _-_, _≤_, _<_}
 use native.Mathlib.Omega.{arith}
 use lib.Dec.{eqb}
-use lib.ListN.{length, getD, drop}
-use lib.Seq.{take-at, ext-getD}
+use lib.ListN.{length, getD, drop, replicate, length-append, length-replicate}
+use lib.Seq.{take-at, drop-at, ext-getD}
 use Rattle.model.specs.declared.generator.Generator.{Generator}
 use Rattle.model.specs.declared.arrays.Problem.{Problem}
-use Rattle.model.specs.Held.{view, Valid, blank-generator}
-use Rattle.layout.specs.Numbers.{generator-numbers, all-numbers, laid-out, generator-of, generator-in, generators-in, problem-in, instance-in, Laid}
+use Rattle.model.specs.Held.{view, pad, Valid, blank-generator}
+use Rattle.layout.specs.Numbers.{generator-numbers, all-numbers, laid-out, ranked-out, generator-of, generator-in, generators-in, problem-in, instance-in, Laid}
+use Rattle.layout.specs.Ranks.{ranked}
 use Rattle.layout.proofs.Readings.{generators-long, generators-at, instance-is}
+use Rattle.layout.proofs.Ranks.{ranked-long}
 use Rattle.layout.proofs.Places.{laid-long, from-demand, from-spare, from-unit}
 
 status-back : (b : Bool) → not (eqb (cond b 1 0) 0) ≡ b
@@ -47,12 +49,33 @@ module _ (p : Problem) (demand-long : length (p .demand) ≡ 48) (spare-long : l
         ) refl
 
   module _ (valid : Valid p) where
-    pub laid-is : instance-in (laid-out p) ≡ view p
+    pub laid-is : (l : List ℕ) → instance-in (laid-out p ++ l) ≡ view p
     unfolding laid-out view
-    laid-is =
-        instance-is (laid-out p) (valid .well-formed .periods-in .1) (valid .units-fit)
-        ∙ ap view (ap problem-in (sym (append-nil (laid-out p))) ∙ problem-again [])
+    laid-is l = instance-is (laid-out p ++ l) (valid .well-formed .periods-in .1) (valid .units-fit) ∙ ap view (problem-again l)
 
-    -- and it is well-formed
-    pub laid : Laid (laid-out p)
-    laid = record { long = laid-long p demand-long spare-long units-long; well-formed = rw laid-is (valid .well-formed) }
+    -- with the ranks behind it, it is well-formed and its units are in order
+    pub ranked-is : instance-in (ranked-out p) ≡ view p
+    unfolding ranked-out
+    ranked-is = laid-is (pad 0 32 (ranked (view p .units)))
+
+    pub laid : Laid (ranked-out p)
+    unfolding ranked-out pad
+    laid =
+        let units = view p .units in
+        let many : length units ≤ 32 = valid .well-formed .units-in .1 in
+        let long = laid-long p demand-long spare-long units-long in
+        record {
+          long =
+              length-append (laid-out p) (pad 0 32 (ranked units))
+              ∙ omega (
+                arith,
+                long,
+                length-append (ranked units) (replicate (32 - length (ranked units)) 0),
+                length-replicate {A = ℕ} (32 - length (ranked units)) 0,
+                ranked-long units,
+              );
+          well-formed = rw ranked-is (valid .well-formed);
+          in-order =
+              rw (ranked-is, drop-at (laid-out p) (pad 0 32 (ranked units)) 610 long)
+              (take-at (ranked units) (replicate (32 - length (ranked units)) 0) (length units) (ranked-long units));
+        }

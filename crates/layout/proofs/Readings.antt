@@ -8,6 +8,7 @@ use lib.Seq.{getD-take, getD-drop, take-all, take-take}
 use Rattle.model.specs.declared.generator.Generator.{Generator}
 use Rattle.model.specs.Instance.{_at_}
 use Rattle.model.specs.Held.{view, blank-generator}
+use Rattle.layout.specs.Ranks.{ranked}
 use Rattle.layout.specs.Numbers.{generator-in, generators-in, problem-in, instance-in}
 
 module _ (v : List ℕ) where
@@ -49,6 +50,10 @@ module _ (v : List ℕ) where
 
     pub pU-at : v at (98 + u * 16 + 4) ≡ getD (instance-in v .units) u blank-generator .pU
     pU-at = sym (ap (λ (g : Generator). g .pU) unit-at ∙ getD-drop (98 + u * 16) v 4 0)
+
+    pub rank-at : take (length (instance-in v .units)) (drop 610 v) ≡ ranked (instance-in v .units) → v at (610 + u) ≡ getD (ranked (instance-in v .units)) u 0
+    rank-at e =
+        sym (getD-take (length (instance-in v .units)) (drop 610 v) u 0 inside ∙ getD-drop 610 v u 0) ∙ ap (λ (l : List ℕ). getD l u 0) e
 
   module _ (t : ℕ) (within : t < instance-in v .periods) where
     pub demand-at : v at (2 + t) ≡ instance-in v .demand at t

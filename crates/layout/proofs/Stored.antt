@@ -1,5 +1,5 @@
 -- The problem's numbers are stored from an array's front, piece after piece: the counts, the demand, the spare, and one generator after the other.
-use mathlib.Core.Path.{_≡_, refl, sym, ap, _∙_}
+use mathlib.Core.Path.{_≡_, refl, sym, ap, ap₂, _∙_}
 use mathlib.Core.List.{List, [], _∷_, _++_, append-nil, append-assoc}
 use Prim.Native.Nat.{ℕ, zero, suc, _+_, _*_, _<_, _≤_}
 use native.Mathlib.Numerals.{add-one}
@@ -8,8 +8,9 @@ use lib.ListN.{length, getD, set, take, drop, replicate, length-append, take-app
 use lib.Seq.{paste, length-take-le, take-all, take-at, drop-length}
 use Rattle.model.specs.declared.generator.Generator.{Generator}
 use Rattle.model.specs.declared.arrays.Problem.{Problem}
-use Rattle.model.specs.Held.{blank-generator}
-use Rattle.layout.specs.Numbers.{generator-numbers, all-numbers, laid-out}
+use Rattle.model.specs.Held.{view, pad, blank-generator}
+use Rattle.layout.specs.Numbers.{generator-numbers, all-numbers, laid-out, ranked-out}
+use Rattle.layout.specs.Ranks.{ranked}
 use Rattle.layout.proofs.Fronts.{front, front-more}
 use Rattle.layout.proofs.Places.{all-long, laid-long}
 
@@ -81,3 +82,15 @@ module _ (p : Problem) (demand-long : length (p .demand) ≡ 48) (spare-long : l
         ∙ ap (λ (k : ℕ). laid-out p ++ drop k d) (laid-long p demand-long spare-long units-long ∙ sym long)
         ∙ ap (λ (l : List ℕ). laid-out p ++ l) (drop-length d)
         ∙ append-nil (laid-out p)
+
+  -- with the ranks behind it: they fill the array
+  pub ranked-stored : (numbers ranks v w : List ℕ) → numbers ≡ laid-out p → ranks ≡ pad 0 32 (ranked (view p .units)) → length ranks ≡ 32
+      → v ≡ stored (replicate 642 0) 0 numbers → w ≡ stored v 610 ranks → w ≡ ranked-out p
+  unfolding ranked-out
+  ranked-stored numbers ranks v w laid order many first second =
+      let long : length numbers ≡ 610 = ap length laid ∙ laid-long p demand-long spare-long units-long in
+      second
+      ∙ front-more numbers (replicate 642 0) v ranks 610 (first ∙ front-more [] (replicate 642 0) (replicate 642 0) numbers 0 refl refl) long
+      ∙ ap (λ (k : ℕ). (numbers ++ ranks) ++ drop k (replicate 642 0)) (length-append numbers ranks ∙ let e : length numbers + length ranks ≡ 642 = omega (arith, long, many) in e)
+      ∙ append-nil (numbers ++ ranks)
+      ∙ ap₂ _++_ laid order

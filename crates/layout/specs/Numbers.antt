@@ -1,6 +1,7 @@
 -- A problem's numbers in one list of 610: the periods T, the units, 48 demands, 48 spares, and 16 numbers for each of 32
 -- generators, on being 0 or 1. Of the demands and the spares the
--- first T are the problem's, of the generators as many as it has units.
+-- first T are the problem's, of the generators as many as it has units. A tree is read under 642: behind those the ranks of the units, the
+-- largest first.
 use mathlib.Core.Path.{_≡_}
 use mathlib.Core.Bool.{not, cond}
 use mathlib.Core.List.{List, [], _∷_, _++_}
@@ -11,6 +12,8 @@ use Rattle.model.specs.declared.generator.Generator.{Generator}
 use Rattle.model.specs.declared.arrays.Problem.{Problem}
 use Rattle.model.specs.Instance.{Instance, _at_}
 use Rattle.model.specs.Ranges.{WellFormed}
+use Rattle.model.specs.Held.{pad, view}
+use Rattle.layout.specs.Ranks.{ranked}
 
 -- a generator's numbers
 abbrev pub generator-numbers : Generator → List ℕ
@@ -25,6 +28,10 @@ all-numbers (g ∷ gs) = generator-numbers g ++ all-numbers gs
 -- the numbers that a problem's arrays hold, with what stands past its periods and units
 unfoldable pub laid-out : Problem → List ℕ
 laid-out p = p .periods ∷ p .units ∷ (p .demand ++ (p .spare ++ all-numbers (p .generators)))
+
+-- the same with the units' ranks behind them, zeros after the last
+unfoldable pub ranked-out : Problem → List ℕ
+ranked-out p = laid-out p ++ pad 0 32 (ranked (view p .units))
 
 -- the generator whose numbers the list begins with
 abbrev pub generator-of : List ℕ → Generator
@@ -75,7 +82,8 @@ instance-in v = record {
   units = generators-in v 0 (v at 1);
 }
 
--- the numbers are a well-formed problem's
+-- the numbers are a well-formed problem's, with its units' ranks behind them
 pub record Laid (v : List ℕ) : Type 0 where
-  pub long : length v ≡ 610
+  pub long : length v ≡ 642
   pub well-formed : WellFormed (instance-in v)
+  pub in-order : take (length (instance-in v .units)) (drop 610 v) ≡ ranked (instance-in v .units)

@@ -4,13 +4,14 @@ ghost use mathlib.Core.Bool.{cond};
 ghost use Prim.Native.Nat.{_≤_, _<_};
 ghost use lib.ListN.{length, getD};
 ghost use Rattle.model.specs.Instance.{_at_};
-ghost use Rattle.model.specs.Held.{view, Valid, blank-generator};
+ghost use Rattle.model.specs.Held.{blank-generator};
 ghost use Rattle.layout.specs.Numbers.{generator-numbers, laid-out, generator-of, instance-in, Laid};
 use crate::copies::store;
 use model::arrays::Problem;
 use model::generator::Generator;
 
 pub mod copies;
+pub mod ranking;
 pub mod reading;
 
 // 1 for on, 0 for off.
@@ -47,10 +48,9 @@ fn generator_numbers(g: Generator) -> [u64; 16]
     ]
 }
 
-// The problem's numbers; a well-formed problem is had again from them.
+// The problem's numbers.
 pub fn lay_out(problem: Problem) -> [u64; 610]
-    ensures whole { λ r. ⌜ r ≡ laid-out problem ⌝ }
-    ensures read { λ r. ⌜ (Valid problem → Laid r × (instance-in r ≡ view problem)) ⌝ }
+    ensures { λ r. ⌜ r ≡ laid-out problem ⌝ }
 {
     let demand = problem.demand;
     let spare = problem.spare;

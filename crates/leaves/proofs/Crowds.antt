@@ -16,7 +16,7 @@ use Rattle.model.specs.Leaf.{unless-off, usable, if-fixed-on, fixed-on, not-off
 use Rattle.walk.specs.Marks.{mark-of, upper-begin, lower-begin, most-of, above-of}
 use Rattle.walk.proofs.AboveMarks.{most-here, least-here}
 use Rattle.leaves.specs.LeafLeasts.{above-most, crowd-at}
-use Rattle.leaves.proofs.Shorts.{usable-length}
+use Rattle.leaves.proofs.MarkBytes.{usable-length}
 
 -- ---- what the test says
 
@@ -62,19 +62,6 @@ unfolding mark-of
 fixed-on-other x h = rw (ne-eqb x 2 h) (go (eqb x 1))
   where
     go : (b : Bool) → 0 ≡ if-fixed-on (cond b (fixed false) free)
-    go true = refl
-    go false = refl
-
--- 0 only where it fixes off
-pub not-off-one : (x : ℕ) → x ≡ 1 → 0 ≡ length (unless-off (mark-of x) 0 [])
-unfolding mark-of
-not-off-one x e = rw (eq-eqb x 1 e) refl
-
-pub not-off-other : (x : ℕ) → (x ≡ 1 → ⊥) → 1 ≡ length (unless-off (mark-of x) 0 [])
-unfolding mark-of
-not-off-other x h = rw (ne-eqb x 1 h) (go (eqb x 2))
-  where
-    go : (b : Bool) → 1 ≡ length (unless-off (cond b (fixed true) free) 0 [])
     go true = refl
     go false = refl
 

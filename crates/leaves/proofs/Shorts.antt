@@ -1,96 +1,98 @@
--- Short: the sum of the pU of the units not fixed off, unit by unit, its size, and what the byte of an upper count makes of it.
-use mathlib.Core.Path.{_≡_, refl, sym, _∙_, ap}
+-- Short: the units in the order of their ranks are the units not fixed off, by number or the largest first, and the byte of an upper count says which.
+use mathlib.Core.Path.{_≡_, refl, sym, _∙_, ap, ap₂}
 use mathlib.Core.Bool.{Bool, true, false, cond}
-use mathlib.Core.List.{List, [], _∷_}
+use mathlib.Core.List.{List, [], _∷_, map}
 use mathlib.Core.Option.{Option, none, some}
-use Prim.Native.Nat.{ℕ, zero, suc, _+_, _*_, _-_, _≤_, _<_}
+use Prim.Native.Nat.{ℕ, zero, suc, _+_, _*_, _-_, _/_, _%_, _≤_, _<_}
 use native.Mathlib.Omega.{arith}
-use borrow.Author.Tests.{eq-eqb, ne-eqb}
-use lib.Dec.{eqb}
-use lib.ListN.{length, getD, take, length-take}
+use lib.Dec.{ltb}
+use lib.ListN.{length, getD, take}
+use lib.Seq.{take-all}
 use Rattle.model.specs.declared.generator.Generator.{Generator}
 use Rattle.model.specs.Instance.{Instance, _at_}
 use Rattle.model.specs.Ranges.{All, GoodUnit}
+use Rattle.model.specs.Held.{blank-generator}
 use Rattle.model.specs.Above.{Mark, free, fixed, Marks, rest}
-use Rattle.model.specs.Largest.{total, largest}
-use Rattle.model.specs.Leaf.{unless-off, usable, summed, available}
-use Rattle.walk.specs.Marks.{mark-of, most-of, above-of, upper-begin}
+use Rattle.model.specs.Largest.{total, falling}
+use Rattle.model.specs.Leaf.{unless-off, usable, those}
+use Rattle.model.specs.Turns.{turned, in-turn, took}
+use Rattle.model.proofs.Sorting.{falling-those, falling-map}
+use Rattle.model.proofs.Turns.{in-turn-total}
+use Rattle.layout.specs.Ranks.{rank, unit-of, pU-of, ranks-from, ranked}
+use Rattle.layout.proofs.Ranks.{unit-back, pU-back, ranks-at, pU-inside}
+use Rattle.walk.specs.Marks.{most-of, above-of, upper-begin}
 use Rattle.walk.proofs.AboveMarks.{most-here}
-use Rattle.model.proofs.Largest.{largest-below}
-use Rattle.leaves.proofs.Units.{all-front}
+use Rattle.leaves.specs.LeafLeasts.{short-at, taken-from}
+use Rattle.leaves.specs.declared.short.Taken.{Taken}
+use Rattle.leaves.proofs.MarkBytes.{usable-length}
+use Rattle.leaves.proofs.Takings.{may, values}
 
--- ---- one unit
+-- the unit of a rank is not fixed off in period t
+abbrev pub usable-rank : Marks → ℕ → ℕ → Bool
+usable-rank m t r = may (m (unit-of r) t)
 
--- nothing where it is fixed off
-pub unless-off-one : (x v : ℕ) → x ≡ 1 → 0 ≡ total (unless-off (mark-of x) v [])
-unfolding mark-of
-unless-off-one x v e = rw (eq-eqb x 1 e)
+-- the rank of unit u stands for its mark and its pU
+pub rank-may : (gs : List Generator) → length gs ≤ 32 → (m : Marks) (t u : ℕ) → u < length gs → usable-rank m t (getD (ranks-from 0 gs) u 0) ≡ may (m u t)
+rank-may gs few m t u h =
+    ap (λ (k : ℕ). may (m k t)) (ap unit-of (ranks-at gs u h) ∙ unit-back u (getD gs u blank-generator .pU) (omega arith))
 
-pub unless-off-other : (x v : ℕ) → (x ≡ 1 → ⊥) → v ≡ total (unless-off (mark-of x) v [])
-unfolding mark-of
-unless-off-other x v h = rw (ne-eqb x 1 h) (go (eqb x 2))
+pub rank-value : (gs : List Generator) (u : ℕ) → u < length gs → pU-of (getD (ranks-from 0 gs) u 0) ≡ getD gs u blank-generator .pU
+rank-value gs u h = ap pU-of (ranks-at gs u h) ∙ pU-back u (getD gs u blank-generator .pU)
+
+pub pU-small : (gs : List Generator) → All GoodUnit gs → (u : ℕ) → u < length gs → getD gs u blank-generator .pU ≤ 10000
+pU-small [] a u h = absurd (omega arith)
+pU-small (g ∷ gs) a zero h = omega (arith, a .0 .in-range .pU-in)
+pU-small (g ∷ gs) a (suc u) h = pU-small gs (a .1) u (omega arith)
+
+-- a unit adds no more than its pU
+pub adds-most : (x : Mark) (v : ℕ) → total (unless-off x v []) ≤ v
+adds-most free v = omega arith
+adds-most (fixed true) v = omega arith
+adds-most (fixed false) v = omega arith
+
+-- ---- by number
+
+usable-ranks-from : (u : ℕ) (gs : List Generator) (m m′ : Marks) (t : ℕ) → u + length gs ≤ 32 → ((k : ℕ) → m′ k t ≡ m (u + k) t)
+    → map pU-of (those (usable-rank m t) (ranks-from u gs)) ≡ usable gs m′ t
+unfolding usable
+usable-ranks-from u [] m m′ t h e = refl
+usable-ranks-from u (g ∷ gs) m m′ t h e =
+    rw (unit-back u (g .pU) (omega arith)) (go (m u t) (m′ 0 t) (let i : u + 0 ≡ u = omega arith in e 0 ∙ ap (λ (k : ℕ). m k t) i)
+    (usable-ranks-from (suc u) gs m (rest m′) t (omega arith) (λ k. let i : u + suc k ≡ suc u + k = omega arith in e (suc k) ∙ ap (λ (k : ℕ). m k t) i)))
   where
-    go : (b : Bool) → v ≡ total (unless-off (cond b (fixed true) free) v [])
-    go true = omega arith
-    go false = omega arith
+    others : List ℕ
+    others = those (usable-rank m t) (ranks-from (suc u) gs)
 
--- before others
-unless-off-total : (x : Mark) (v : ℕ) (l : List ℕ) → total (unless-off x v l) ≡ total (unless-off x v []) + total l
-unless-off-total free v l = omega arith
-unless-off-total (fixed true) v l = omega arith
-unless-off-total (fixed false) v l = omega arith
+    go : (x y : Mark) → y ≡ x → map pU-of others ≡ usable gs (rest m′) t
+        → map pU-of (cond (may x) (rank u (g .pU) ∷ others) others) ≡ unless-off y (g .pU) (usable gs (rest m′) t)
+    go x y i k = rw i (one x)
+      where
+        one : (x : Mark) → map pU-of (cond (may x) (rank u (g .pU) ∷ others) others) ≡ unless-off x (g .pU) (usable gs (rest m′) t)
+        one free = ap₂ _∷_ (pU-back u (g .pU)) k
+        one (fixed true) = ap₂ _∷_ (pU-back u (g .pU)) k
+        one (fixed false) = k
 
-unless-off-most : (x : Mark) (v : ℕ) → total (unless-off x v []) ≤ v
-unless-off-most free v = omega arith
-unless-off-most (fixed true) v = omega arith
-unless-off-most (fixed false) v = omega arith
+module _ (gs : List Generator) (few : length gs ≤ 32) (m : Marks) (t : ℕ) where
+  usable-ranks : map pU-of (those (usable-rank m t) (ranks-from 0 gs)) ≡ usable gs m t
+  usable-ranks = usable-ranks-from 0 gs m m t (omega arith) (λ k. let i : k ≡ 0 + k = omega arith in ap (λ (k : ℕ). m k t) i)
 
--- ---- all units
+  pub by-number : values (usable-rank m t) pU-of (ranks-from 0 gs) (length gs) ≡ usable gs m t
+  by-number = ap (take (length gs)) usable-ranks ∙ take-all (length gs) (usable gs m t) (usable-length gs m t)
 
--- one unit more
-pub usable-more : (u : ℕ) (l : List Generator) (d : Generator) (m : Marks) (t : ℕ) → u < length l
-    → total (usable (take (suc u) l) m t) ≡ total (usable (take u l) m t) + total (unless-off (m u t) (getD l u d .pU) [])
-unfolding usable
-usable-more u [] d m t h = absurd (omega arith)
-usable-more zero (g ∷ l) d m t h = omega arith
-usable-more (suc u) (g ∷ l) d m t h =
-    omega (
-      arith,
-      unless-off-total (m 0 t) (g .pU) (usable (take (suc u) l) (rest m) t),
-      unless-off-total (m 0 t) (g .pU) (usable (take u l) (rest m) t),
-      usable-more u l d (rest m) t (omega arith),
-    )
+  -- ---- the largest first
 
-usable-fits : (gs : List Generator) → All GoodUnit gs → (m : Marks) (t : ℕ) → total (usable gs m t) ≤ length gs * 10000
-unfolding usable
-usable-fits [] h m t = omega arith
-usable-fits (g ∷ gs) h m t =
-    omega (
-      arith,
-      usable-fits gs (h .1) (rest m) t,
-      unless-off-total (m 0 t) (g .pU) (usable gs (rest m) t),
-      unless-off-most (m 0 t) (g .pU),
-      h .0 .in-range .pU-in,
-    )
+  pub by-size : (K : ℕ) → values (usable-rank m t) pU-of (ranked gs) K ≡ take K (falling (usable gs m t))
+  unfolding ranked
+  by-size K =
+      ap (take K)
+      (ap (map pU-of) (falling-those (usable-rank m t) (ranks-from 0 gs))
+      ∙ falling-map pU-of (λ x y h. omega arith) (those (usable-rank m t) (ranks-from 0 gs))
+      ∙ ap falling usable-ranks)
 
--- of at most 32 units
-pub usable-small : (l : List Generator) → length l ≤ 32 → All GoodUnit l → (m : Marks) (t : ℕ) → total (usable l m t) ≤ 320_000
-usable-small l h good m t = omega (arith, usable-fits l good m t)
+  -- ---- what one unit adds is small
 
--- of the first u units
-pub usable-front-small : (u : ℕ) (l : List Generator) → length l ≤ 32 → All GoodUnit l → (m : Marks) (t : ℕ) → total (usable (take u l) m t) ≤ 320_000
-usable-front-small u l h good m t = usable-small (take u l) (omega (arith, length-take u l)) (all-front GoodUnit u l good) m t
-
-unless-off-length : (m : Mark) (x : ℕ) (l : List ℕ) → length (unless-off m x l) ≤ suc (length l)
-unless-off-length free x l = omega arith
-unless-off-length (fixed true) x l = omega arith
-unless-off-length (fixed false) x l = omega arith
-
--- they are no more than the units
-pub usable-length : (gs : List Generator) (m : Marks) (t : ℕ) → length (usable gs m t) ≤ length gs
-unfolding usable
-usable-length [] m t = omega arith
-usable-length (g ∷ gs) m t = omega (arith, usable-length gs (rest m) t, unless-off-length (m 0 t) (g .pU) (usable gs (rest m) t))
+  pub value-small : All GoodUnit gs → (i : ℕ) → i < length gs → (x : Mark) → total (unless-off x (pU-of (getD (ranked gs) i 0)) []) ≤ 10000
+  value-small good i h x = omega (arith, adds-most x (pU-of (getD (ranked gs) i 0)), pU-inside gs i few good h)
 
 -- ---- with the upper count's byte
 
@@ -102,24 +104,24 @@ most-some zero h = absurd (h refl)
 most-some (suc K) h = ap some (let e : K ≡ suc K - 1 = omega arith in e)
 
 module _ (P : Instance) (bytes : List ℕ) (t : ℕ) (l : t < P .periods) where
-  -- none stands: all of them
-  pub available-all : bytes at (upper-begin + t) ≡ 0 → total (usable (P .units) (above-of P bytes .marks) t) ≡ available P (above-of P bytes) t
-  unfolding available
-  available-all e =
-      sym (ap (λ (k : Option ℕ). summed k (usable (P .units) (above-of P bytes .marks) t)) (sym (most-here (P .periods) bytes t l) ∙ most-none _ e))
+  abbrev need : ℕ
+  need = P .demand at t + P .spare at t
 
-  -- one stands: so many of the largest
-  pub available-largest : (bytes at (upper-begin + t) ≡ 0 → ⊥)
-      → largest (bytes at (upper-begin + t) - 1) (usable (P .units) (above-of P bytes .marks) t) ≡ available P (above-of P bytes) t
-  unfolding available
-  available-largest h =
-      sym (ap (λ (k : Option ℕ). summed k (usable (P .units) (above-of P bytes .marks) t)) (sym (most-here (P .periods) bytes t l) ∙ most-some _ h))
+  answers : (l : List ℕ) (d : ℕ) (o : Option ℕ) → d ≡ need → l ≡ turned o (usable (P .units) (above-of P bytes .marks) t) → o ≡ above-of P bytes .most t
+      → taken-from l d ≡ record { short = short-at P (above-of P bytes) t; units = took (in-turn P (above-of P bytes) t) need }
+  unfolding in-turn
+  answers l d o e i j =
+      let A = above-of P bytes in
+      let k : l ≡ in-turn P A t = i ∙ ap (λ (o : Option ℕ). turned o (usable (P .units) (A .marks) t)) j in
+      ap₂ taken-from k e ∙ ap (λ (n : ℕ). record { short = ltb n need; units = took (in-turn P A t) need }) (in-turn-total P A t)
 
-  -- all of them are too few, so what is available is
-  pub available-below : available P (above-of P bytes) t ≤ total (usable (P .units) (above-of P bytes .marks) t)
-  unfolding available
-  available-below = go (above-of P bytes .most t)
-    where
-      go : (o : Option ℕ) → summed o (usable (P .units) (above-of P bytes .marks) t) ≤ total (usable (P .units) (above-of P bytes .marks) t)
-      go none = omega arith
-      go (some K) = largest-below K (usable (P .units) (above-of P bytes .marks) t)
+  -- none stands: by number
+  pub answers-all : (d : ℕ) → d ≡ need → bytes at (upper-begin + t) ≡ 0
+      → taken-from (usable (P .units) (above-of P bytes .marks) t) d ≡ record { short = short-at P (above-of P bytes) t; units = took (in-turn P (above-of P bytes) t) need }
+  answers-all d e b = answers _ d none e refl (sym (most-none _ b) ∙ most-here (P .periods) bytes t l)
+
+  -- one stands: the largest first, and so many
+  pub answers-largest : (d : ℕ) → d ≡ need → (bytes at (upper-begin + t) ≡ 0 → ⊥)
+      → taken-from (take (bytes at (upper-begin + t) - 1) (falling (usable (P .units) (above-of P bytes .marks) t))) d
+      ≡ record { short = short-at P (above-of P bytes) t; units = took (in-turn P (above-of P bytes) t) need }
+  answers-largest d e b = answers _ d (some (bytes at (upper-begin + t) - 1)) e refl (sym (most-some _ b) ∙ most-here (P .periods) bytes t l)

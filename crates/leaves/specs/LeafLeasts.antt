@@ -8,9 +8,12 @@ use lib.Dec.{ltb}
 use Rattle.model.specs.declared.generator.Generator.{Generator}
 use Rattle.model.specs.Instance.{Instance, _at_}
 use Rattle.model.specs.Above.{Marks, Above}
+use Rattle.model.specs.Largest.{total}
+use Rattle.model.specs.Turns.{took}
 use Rattle.model.specs.Leaf.{available, fixed-on, not-off, any-stuck, units-least, leaf-value}
 use Rattle.least.specs.declared.unit.Least.{Least}
 use Rattle.least.specs.declared.unit.Least.the-variants.{Stuck, Value}
+use Rattle.leaves.specs.declared.short.Taken.{Taken}
 
 -- of all units, in n periods
 abbrev pub leasts-of : ℕ → (ℕ → ℕ) → (ℕ → ℕ) → List Generator → Marks → Least
@@ -23,6 +26,10 @@ leaf-of P m q s = cond (any-stuck (P .periods) (P .units) m) Stuck (Value (leaf-
 -- whether `short` holds: what is available in period t is below D + R
 abbrev pub short-at : Instance → Above → ℕ → Bool
 short-at P A t = ltb (available P A t) (P .demand at t + P .spare at t)
+
+-- what is answered where the numbers of l are taken from its front until they reach d: whether they do not, and how many were taken
+abbrev pub taken-from : List ℕ → ℕ → Taken
+taken-from l d = record { short = ltb (total l) d; units = took l d }
 
 -- whether n is above the upper count, if one stands
 abbrev pub above-most : ℕ → Option ℕ → Bool

@@ -1,14 +1,14 @@
 // Whether the statuses fixed in a period cannot agree with the counts that stand for it.
 ghost use mathlib.Core.Path.{_≡_};
-ghost use mathlib.Core.List.{[]};
 ghost use Prim.Native.Nat.{_*_, _≤_, _<_};
 ghost use lib.ListN.{length};
-ghost use Rattle.model.specs.Leaf.{unless-off, if-fixed-on, fixed-on, not-off};
+ghost use Rattle.model.specs.Leaf.{if-fixed-on, fixed-on, not-off};
 ghost use Rattle.layout.specs.Numbers.{instance-in, Laid};
 ghost use Rattle.walk.specs.Marks.{mark-of, most-of, above-of, above-length};
 ghost use Rattle.leaves.specs.LeafLeasts.{above-most, crowd-at};
 use crate::counts::LOWER;
 use crate::counts::UPPER;
+use crate::marks::not_off_of;
 use layout::periods_in;
 use layout::units_in;
 
@@ -20,16 +20,6 @@ fn fixed_on_of(mark: u8) -> usize
         return 1;
     }
     0
-}
-
-// 1 for a unit that is not fixed off.
-fn not_off_of(mark: u8) -> usize
-    ensures { λ r. ⌜ r ≡ length (unless-off (mark-of mark) 0 []) ⌝ }
-{
-    if mark == 1 {
-        return 0;
-    }
-    1
 }
 
 // How many units are fixed on in period t.

@@ -1,65 +1,97 @@
-// Whether the units that may be on are short of a period's demand and spare.
+// Whether the units that may be on are short of a period's demand and spare: they are taken one after the other until they reach it.
 ghost use mathlib.Core.Path.{_≡_};
-ghost use mathlib.Core.List.{[]};
-ghost use Prim.Native.Nat.{_*_, _≤_, _<_};
-ghost use lib.ListN.{length};
-ghost use Rattle.model.specs.Largest.{total};
-ghost use Rattle.model.specs.Leaf.{unless-off, usable};
+ghost use Prim.Native.Nat.{_+_, _*_, _≤_, _<_};
+ghost use lib.ListN.{length, take};
+ghost use Rattle.model.specs.Instance.{_at_};
+ghost use Rattle.model.specs.Largest.{falling};
+ghost use Rattle.model.specs.Leaf.{usable};
+ghost use Rattle.model.specs.Turns.{in-turn, took};
 ghost use Rattle.layout.specs.Numbers.{instance-in, Laid};
-ghost use Rattle.walk.specs.Marks.{mark-of, above-of, above-length};
-ghost use Rattle.leaves.specs.LeafLeasts.{short-at};
+ghost use Rattle.walk.specs.Marks.{above-of, above-length};
+ghost use Rattle.leaves.specs.LeafLeasts.{short-at, taken-from};
 use crate::counts::UPPER;
-use crate::largest::sum_largest;
+use crate::marks::not_off_of;
+use crate::marks::usable_of;
 use layout::demand_at;
 use layout::pU_at;
 use layout::periods_in;
+use layout::ranking::pU_of;
+use layout::ranking::rank_at;
+use layout::ranking::unit_of;
 use layout::spare_at;
 use layout::units_in;
 
-// pU, but 0 for a unit that is fixed off.
-fn usable_of(mark: u8, high: u64) -> u64
-    ensures { λ r. ⌜ r ≡ total (unless-off (mark-of mark) high []) ⌝ }
-{
-    if mark == 1 {
-        return 0;
-    }
-    high
+// Whether the units taken are short, and how many they are.
+pub struct Taken {
+    pub short: bool,
+    pub units: usize,
 }
 
-// The sum of the pU of all units that are free or fixed on in period t.
-fn sum_usable(numbers: &[u64], t: usize, above: &[u8]) -> u64
+// The units that are free or fixed on in period t, taken by number until they reach the need.
+fn take_by_number(numbers: &[u64], t: usize, above: &[u8], need: u64) -> Taken
     requires { ⌜ Laid (now numbers) ⌝ }
     requires { ⌜ t < instance-in (now numbers) .periods ⌝ }
     requires { ⌜ length (instance-in (now numbers) .units) * instance-in (now numbers) .periods ≤ length (now above) ⌝ }
-    ensures { λ r. ⌜ r ≡ total (usable (instance-in (now (numbers .entry)) .units) (above-of (instance-in (now (numbers .entry))) (now (above .entry)) .marks) t) ⌝ }
+    requires { ⌜ need ≤ 640_000 ⌝ }
+    ensures { λ r. ⌜ r ≡ taken-from (usable (instance-in (now (numbers .entry)) .units) (above-of (instance-in (now (numbers .entry))) (now (above .entry)) .marks) t) need ⌝ }
 {
     let n = periods_in(numbers);
     let units = units_in(numbers);
     let mut sum = 0;
+    let mut taken = 0;
     let mut begin = 0;
     let mut u = 0;
-    while u < units {
-        sum += usable_of(above[begin + t], pU_at(numbers, u));
+    while u < units && sum < need {
+        let mark = above[begin + t];
+        sum += usable_of(mark, pU_at(numbers, u));
+        taken += not_off_of(mark);
         begin += n;
         u += 1;
     }
-    sum
+    Taken {
+        short: sum < need,
+        units: taken,
+    }
 }
 
-// Whether what can be on in period t is short of demand and spare: all those units, or else the largest of them where an upper count stands.
-pub fn is_short(numbers: &[u64], t: usize, above: &[u8]) -> bool
+// Those units, taken the largest first, and `most` of them at most, until they reach the need.
+fn take_largest(numbers: &[u64], t: usize, above: &[u8], need: u64, most: usize) -> Taken
+    requires { ⌜ Laid (now numbers) ⌝ }
+    requires { ⌜ t < instance-in (now numbers) .periods ⌝ }
+    requires { ⌜ length (instance-in (now numbers) .units) * instance-in (now numbers) .periods ≤ length (now above) ⌝ }
+    requires { ⌜ need ≤ 640_000 ⌝ }
+    ensures { λ r. ⌜ r ≡ taken-from (take most (falling (usable (instance-in (now (numbers .entry)) .units) (above-of (instance-in (now (numbers .entry))) (now (above .entry)) .marks) t))) need ⌝ }
+{
+    let n = periods_in(numbers);
+    let units = units_in(numbers);
+    let mut sum = 0;
+    let mut taken = 0;
+    let mut i = 0;
+    while i < units && taken < most && sum < need {
+        let rank = rank_at(numbers, i);
+        let mark = above[unit_of(rank) * n + t];
+        sum += usable_of(mark, pU_of(rank));
+        taken += not_off_of(mark);
+        i += 1;
+    }
+    Taken {
+        short: sum < need,
+        units: taken,
+    }
+}
+
+// Whether what can be on in period t is short of demand and spare, and how many units were taken until that was plain: by number, or the largest first
+// where an upper count stands, and no more than it.
+pub fn sum_until(numbers: &[u64], t: usize, above: &[u8]) -> Taken
     requires { ⌜ Laid (now numbers) ⌝ }
     requires { ⌜ t < instance-in (now numbers) .periods ⌝ }
     requires { ⌜ length (now above) ≡ above-length ⌝ }
-    ensures { λ r. ⌜ r ≡ short-at (instance-in (now (numbers .entry))) (above-of (instance-in (now (numbers .entry))) (now (above .entry))) t ⌝ }
+    ensures { λ r. ⌜ r ≡ record { short = short-at (instance-in (now (numbers .entry))) (above-of (instance-in (now (numbers .entry))) (now (above .entry))) t; units = took (in-turn (instance-in (now (numbers .entry))) (above-of (instance-in (now (numbers .entry))) (now (above .entry))) t) (instance-in (now (numbers .entry)) .demand at t + instance-in (now (numbers .entry)) .spare at t) } ⌝ }
 {
     let need = demand_at(numbers, t) + spare_at(numbers, t);
-    if sum_usable(numbers, t, above) < need {
-        return true;
-    }
     let upper = above[UPPER + t];
     if upper == 0 {
-        return false;
+        return take_by_number(numbers, t, above, need);
     }
-    sum_largest(numbers, t, above, (upper - 1) as usize) < need
+    take_largest(numbers, t, above, need, (upper - 1) as usize)
 }

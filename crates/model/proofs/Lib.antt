@@ -3,6 +3,7 @@ pub mod Integers
 pub mod Tests
 pub mod Sums
 pub mod Largest
+pub mod FallingOrders
 pub mod Members
 pub mod Every
 pub mod RangeTests
@@ -11,6 +12,8 @@ pub mod Valid
 pub mod Lists
 pub mod Duality
 pub mod Capacities
+pub mod Turns
+pub mod Sorting
 pub mod Sides
 pub mod LeafSound
 pub mod Soundness

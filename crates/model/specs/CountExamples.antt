@@ -42,17 +42,17 @@ lower-count = refl
 abbrev wide : ℕ → Generator
 wide pU = line 0 1 0 1 pU 1 1 true 1 99 99 0 0 0 0 1
 
-abbrev plant : ℕ → ℕ → ℕ → Instance
+abbrev pub plant : ℕ → ℕ → ℕ → Instance
 plant x y z = record { periods = 1; demand = 1 ∷ []; spare = 0 ∷ []; units = wide x ∷ wide y ∷ wide z ∷ [] }
 
 -- below what A fixes: unit U off, or on; at most K units on, or more than K
-abbrev off : ℕ → Above → Above
+abbrev pub off : ℕ → Above → Above
 off U A = side (status U 0) false A
 
-abbrev on : ℕ → Above → Above
+abbrev pub on : ℕ → Above → Above
 on U A = side (status U 0) true A
 
-abbrev at-most : ℕ → Above → Above
+abbrev pub at-most : ℕ → Above → Above
 at-most K A = side (count 0 K) false A
 
 abbrev more-than : ℕ → Above → Above

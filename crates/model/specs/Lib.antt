@@ -9,6 +9,7 @@ pub mod Broken
 pub mod Above
 pub mod Largest
 pub mod Leaf
+pub mod Turns
 pub mod Walk
 pub mod Prices
 pub mod Table
@@ -21,3 +22,4 @@ pub mod Unread
 pub mod Examples
 pub mod TreeExamples
 pub mod CountExamples
+pub mod TurnExamples

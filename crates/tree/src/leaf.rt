@@ -18,7 +18,7 @@ use least::stuck::is_unit_stuck;
 use least::unit::Least;
 use leaves::crowd::is_crowd;
 use leaves::price::leaf_value;
-use leaves::short::is_short;
+use leaves::short::sum_until;
 use model::figures::Bound;
 use model::figures::TreeFigures;
 use model::ranges::Price;
@@ -65,7 +65,8 @@ fn read_short(
     match found {
         NamedLine::Refused { number } => Read::Refused { number, line },
         NamedLine::Names { index, next } => {
-            if is_short(numbers, index, above) {
+            let taken = sum_until(numbers, index, above);
+            if taken.short {
                 return Read::Tree {
                     next,
                     line: line + 1,

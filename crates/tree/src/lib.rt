@@ -7,7 +7,7 @@ ghost use Rattle.tree.specs.Course.{IsTree};
 ghost use Rattle.tree.specs.ReadAnswers.{Came, ended-as, tree-read};
 use crate::leaf::Read;
 use crate::node::read_node;
-use layout::lay_out;
+use layout::ranking::lay_out_ranked;
 use model::arrays::Problem;
 use model::figures::TreeFigures;
 use reader::Written;
@@ -66,7 +66,7 @@ pub fn read_tree(problem: Problem, text: &[u8]) -> TreeRead
         Written::Refused { number } => TreeRead::Refused(refusal::refuse(number, 2, 0, 0)),
         Written::By { writer } => {
             let next = line.next;
-            let numbers = lay_out(problem);
+            let numbers = lay_out_ranked(problem);
             let mut above = [0u8; 1632];
             let read = read_node(&numbers, text, next, 3, 0, &mut above, TreeFigures::none());
             read_end(text, writer, read)

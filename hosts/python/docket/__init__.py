@@ -29,6 +29,7 @@ from ._library import MOST_INPUT, MOST_TEXT, STACK_BYTES
 from ._listing import listing, rules
 from .answer import NEVER, Answer, Figures, Held, Never, Passed, Problem, Refused, Schedule, Tree, Verdict
 from .report import Report
+from .taken import Fixed, UnitsTaken
 
 __all__ = [
     "MOST_INPUT",
@@ -38,6 +39,7 @@ __all__ = [
     "Answer",
     "Docket",
     "Figures",
+    "Fixed",
     "Held",
     "Never",
     "Passed",
@@ -46,6 +48,7 @@ __all__ = [
     "Report",
     "Schedule",
     "Tree",
+    "UnitsTaken",
     "Verdict",
     "listing",
     "rules",

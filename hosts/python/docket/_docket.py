@@ -4,9 +4,10 @@ import threading
 from typing import Any, NoReturn, final
 
 from ._lent import Bytes, lent
-from ._library import LINE_BYTES, MOST_TEXT, OUTPUTS, REPORT_BYTES, VALUES, checked, library
+from ._library import LINE_BYTES, MOST_TEXT, OUTPUTS, REPORT_BYTES, TAKEN, VALUES, checked, library
 from .answer import Answer, answer_of
 from .report import Report, report_of
+from .taken import UnitsTaken, most_of, period_of, taken_of
 
 _NUMBERS = library.docket_numbers()
 _ROWS = library.docket_rows()
@@ -16,6 +17,7 @@ _Line = ctypes.c_char * LINE_BYTES
 _Values = ctypes.c_uint64 * VALUES
 _Report = ctypes.c_char * REPORT_BYTES
 _Outputs = ctypes.c_uint16 * OUTPUTS
+_Taken = ctypes.c_uint64 * TAKEN
 
 
 @final
@@ -63,6 +65,30 @@ class Docket:
         with self._lock:
             count = library.docket_outputs(self._numbers, _NUMBERS, self._rows, _ROWS, outputs, OUTPUTS)
         return outputs[: checked(count)]
+
+    def units_taken(self, period: int, most: int | None = None, *, fixed: Bytes) -> UnitsTaken:
+        """Whether `short` holds in a period of the problem, counted from 1, and how many units it takes to find out.
+
+        It takes the units that are not fixed off there by number, or, where `most` is an upper count, the largest pU
+        first and no more units than the count, and ends as soon as what it took reaches D + R. So they are the fewest,
+        in that order, that reach D + R; or, where all that it may take do not, all of these, and then `short` holds.
+
+        `fixed` has a byte for each status, one of Fixed: that of unit u in period t, both counted from 0, at u * T + t,
+        T being the periods of the problem; `bytes(I * T)` fixes nothing. It is lent as a text is.
+
+        A ValueError says that the docket knows no problem, or that the question does not fit it: the period is not 1 to
+        T, `most` is not below the number of units, there are not as many bytes as units times periods, or one is above
+        2. For what is no whole number or no bytes there is a TypeError.
+        """
+        number, upper = period_of(period), most_of(most)
+        # a problem has as many statuses as outputs
+        given = lent("units_taken", fixed, OUTPUTS, is_text=False)
+        taken = _Taken()
+        with self._lock:
+            answer = library.docket_units_taken(
+                self._numbers, _NUMBERS, self._rows, _ROWS, number, upper, given, len(given), taken, TAKEN
+            )
+        return taken_of(checked(answer), taken[:])
 
     def copy(self) -> "Docket":
         """A docket of its own that holds the same."""

@@ -4,14 +4,14 @@
 Bytes = bytes | bytearray | memoryview
 
 
-def lent(call: str, given: Bytes, most: int) -> bytes:
+def lent(call: str, given: Bytes, most: int, is_text: bool = True) -> bytes:
     """The bytes given to a call that refuses more than `most` by their length alone: of more, at least one more.
 
     Bytes are returned as they are; any other buffer is copied, since a thread may change it during the call.
     """
     if type(given) is bytes:
         return given
-    if isinstance(given, str):
+    if is_text and isinstance(given, str):
         raise TypeError(f"{call} takes bytes: read the file in binary mode, or encode the text as ASCII")
     try:
         view = memoryview(given)

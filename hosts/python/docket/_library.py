@@ -11,6 +11,7 @@ LINE_BYTES = 128
 VALUES = 16
 REPORT_BYTES = 256
 OUTPUTS = 1_536
+TAKEN = 2
 OUTPUT_BYTES = 1_048_576
 
 #: A text of more bytes is refused by 11.
@@ -38,6 +39,7 @@ CALLS = {
     "docket_lodge": _STATE + 3 * _STRETCH,
     "docket_report": _STATE + _STRETCH + [_LENGTH],
     "docket_outputs": _STATE + _STRETCH,
+    "docket_units_taken": _STATE + 2 * [_LENGTH] + 2 * _STRETCH,
     "docket_listing": 2 * _STRETCH,
 }
 
@@ -74,7 +76,7 @@ def _load(path: str) -> ctypes.CDLL:
 
 
 def checked(length: int) -> int:
-    """The length that a call returned; a RuntimeError where the call did nothing."""
+    """What a call returned, which is mostly a length; a RuntimeError where the call did nothing."""
     if length == _TOO_SMALL:
         raise RuntimeError(f"the library wants more room than this module lends: it is of another version; {BUILD}")
     if length == _NO_DOCKET:

@@ -1,5 +1,5 @@
 /* A library with the calls of docket.h that answers as ODD says: 1 too little room, 2 no docket, 3 an answer, 4 figures
- * and 5 a report that nobody knows. With 0 it lacks a call. */
+ * and 5 a report that nobody knows, 6 an answer about units taken that nobody knows. With 0 it lacks a call. */
 #include <stdint.h>
 #include <string.h>
 
@@ -30,6 +30,11 @@ size_t docket_outputs(const uint64_t *numbers, size_t n, const uint16_t *rows, s
     return 0;
 }
 #endif
+size_t docket_units_taken(const uint64_t *numbers, size_t n, const uint16_t *rows, size_t r, size_t period, size_t most,
+                          const uint8_t *fixed, size_t f, uint64_t *taken, size_t t) {
+    (void)numbers, (void)n, (void)rows, (void)r, (void)period, (void)most, (void)fixed, (void)f, (void)taken, (void)t;
+    return ODD == 1 ? SIZE_MAX : ODD == 2 ? SIZE_MAX - 1 : ODD == 6 ? 9 : 0;
+}
 size_t docket_listing(const uint8_t *input, size_t i, uint8_t *output, size_t o) {
     (void)input, (void)i, (void)output, (void)o;
     return SIZE_MAX;

@@ -6,7 +6,7 @@ import unittest
 
 import docket
 from common import NOTHING, PROBLEM, SCHEDULE, TREE, large_problem, schedule
-from docket import NEVER, Answer, Docket, Held, Never, Passed, Problem, Refused, Report, Schedule, Tree
+from docket import NEVER, Answer, Docket, Held, Never, Passed, Problem, Refused, Report, Schedule, Tree, UnitsTaken
 
 
 def example() -> Docket:
@@ -72,7 +72,9 @@ class Answers(unittest.TestCase):
     def test_values_do_not_change(self) -> None:
         desk = example()
         answer = desk.lodge(TREE)
-        values = (answer, answer.verdict, answer.verdict.figures, desk.lodge(b"").verdict, desk.report(), Schedule(1))
+        refused, taken = desk.lodge(b"").verdict, desk.units_taken(1, fixed=bytes(4))
+        self.assertEqual(taken, UnitsTaken(False, 1))
+        values = (answer, answer.verdict, answer.verdict.figures, refused, desk.report(), Schedule(1), taken)
         for value in values:
             for field in dataclasses.fields(value):
                 with self.assertRaises(dataclasses.FrozenInstanceError):

@@ -65,7 +65,7 @@ class Object(unittest.TestCase):
         pointer = {True: ctypes.c_void_p, False: ctypes.c_size_t}
         self.assertEqual(_library.CALLS, {name: [pointer[it] for it in takes] for name, takes in declared().items()})
         constants = dict(re.findall(r"^#define DOCKET_(\w+) \(\(size_t\)(\d+)\)$", HEADER.read_text(), re.MULTILINE))
-        self.assertEqual(len(constants), 8)
+        self.assertEqual(len(constants), 9)
         for name, value in constants.items():
             self.assertEqual(getattr(_library, name), int(value), name)
 
@@ -138,6 +138,10 @@ class Search(unittest.TestCase):
         self.assertEqual(line, f"RuntimeError: {said}")
         line = self.last_line(library, "import docket; docket.listing(b'')")
         self.assertEqual(line, f"RuntimeError: {words[1]}")
+        ask = "import docket; docket.Docket().units_taken(1, fixed=b'')"
+        for odd, said in {1: words[1], 2: words[2], 6: words[3]}.items():
+            library = compiled(PYTHON / "tests" / "odd_library.c", self.folder / f"{odd}.so", f"-DODD={odd}")
+            self.assertEqual(self.last_line(library, ask), f"RuntimeError: {said}")
 
     def test_the_error_names_the_file(self) -> None:
         program = "try:\n import docket\nexcept ImportError as error:\n print(error.name, error.path)"

@@ -5,7 +5,7 @@ from collections.abc import Callable
 
 import docket
 from common import PROBLEM, SCHEDULE, cut, inputs, run_python, schedule
-from docket import Docket, Held, Schedule
+from docket import Docket, Held, Schedule, UnitsTaken
 
 MANY = 8
 
@@ -19,7 +19,8 @@ desk.lodge(PROBLEM)
 told = []
 
 def tell(number, frame):
-    told.append((desk.lodge(SCHEDULE).line, desk.report().cost, desk.outputs(), desk.copy().outputs()))
+    taken = desk.units_taken(2, fixed=bytes(4))
+    told.append((desk.lodge(SCHEDULE).line, desk.report().cost, desk.outputs(), desk.copy().outputs(), taken.units))
 
 signal.signal(signal.SIGALRM, tell)
 signal.setitimer(signal.ITIMER_REAL, 0.0005, 0.0005)
@@ -27,6 +28,7 @@ lines, end = set(), time.monotonic() + 0.5
 while time.monotonic() < end:
     lines.add(desk.lodge(b"kind=schedule").line)
     desk.report()
+    desk.units_taken(1, fixed=bytes(4))
 signal.setitimer(signal.ITIMER_REAL, 0)
 print(len(told) > 10, lines, set(map(str, told[1:])))
 """
@@ -72,6 +74,8 @@ class Threads(unittest.TestCase):
                 self.assertLessEqual(report.cost, cost)
                 _, first, _, second = desk.outputs()
                 self.assertIn((first, second), pairs)
+                self.assertEqual(desk.units_taken(2, writer % 2, fixed=bytes(4)), UnitsTaken(True, writer % 2))
+                self.assertEqual(desk.units_taken(2, fixed=bytearray(4)), UnitsTaken(False, 2))
 
         for turn in range(5):
             order = sorted(written, key=lambda writer: writer * 7919 % 257, reverse=turn % 2 == 1)
@@ -103,7 +107,13 @@ class Threads(unittest.TestCase):
     def test_each_call_waits_for_the_docket(self) -> None:
         desk = Docket()
         desk.lodge(PROBLEM)
-        calls = (lambda: desk.lodge(SCHEDULE), desk.report, desk.outputs, desk.copy)
+        calls = (
+            lambda: desk.lodge(SCHEDULE),
+            desk.report,
+            desk.outputs,
+            desk.copy,
+            lambda: desk.units_taken(1, fixed=bytes(4)),
+        )
         threads = [threading.Thread(target=call) for call in calls]
         with desk._lock:
             for thread in threads:
@@ -117,6 +127,6 @@ class Threads(unittest.TestCase):
 
     def test_a_signal_may_use_the_docket_that_it_interrupts(self) -> None:
         ran = run_python("-c", f"import sys; sys.path.append('hosts/python/tests')\n{SIGNALS}")
-        told = "('answer=passed,1980', 1980, [60, 80, 0, 20], [60, 80, 0, 20])"
+        told = "('answer=passed,1980', 1980, [60, 80, 0, 20], [60, 80, 0, 20], 2)"
         self.assertEqual((ran.returncode, ran.stderr), (0, ""))
         self.assertEqual(ran.stdout, f"True {{'answer=refused,12,1,0,0'}} {{{told!r}}}\n")

@@ -3,6 +3,7 @@
 use crate::answer::Answer;
 use crate::report::Report;
 use crate::sys;
+use crate::taken::{Fixed, UnitsTaken};
 use std::fmt;
 
 /// A text of more bytes is refused by 11.
@@ -18,7 +19,7 @@ pub fn rules() -> u64 {
 ///
 /// It lives in memory: what must be kept for good are the texts that were lodged, for they decide everything. Calls run on their
 /// caller's stack, of which [`STACK_BYTES`](crate::STACK_BYTES) are enough. Threads that lodge in one docket share it in a `Mutex`;
-/// reports and outputs may be asked for at once.
+/// reports, outputs and units taken may be asked for at once.
 ///
 /// ```
 /// use docket::{Bound, Docket, Figures, Verdict};
@@ -93,6 +94,48 @@ impl Docket {
         let mut outputs = [0; sys::OUTPUTS];
         let answer = sys::outputs(&self.numbers, &self.rows, &mut outputs);
         written(&outputs, answer).to_vec()
+    }
+
+    /// Whether `short` holds in a period of the problem, counted from 1, and how many units it takes to find out.
+    ///
+    /// It takes the units that are not fixed off there by number, or, where `most` is an upper count, the largest pU first and
+    /// no more units than the count, and ends as soon as what it took reaches D + R. So they are the fewest, in that order, that
+    /// reach D + R; or, where all that it may take do not, all of these, and then `short` holds.
+    ///
+    /// `fixed` has the status of unit u in period t, both counted from 0, at u * T + t, T being the problem's periods. The
+    /// question is [`Unfit`](UnitsTaken::Unfit) where the period is not from 1 to T, an upper count is not below the number of
+    /// units, or there are not as many statuses as units times periods. The docket stays as it is.
+    ///
+    /// ```
+    /// use docket::{Docket, Fixed, UnitsTaken};
+    ///
+    /// let mut docket = Docket::new();
+    /// let free = [Fixed::Free; 3];
+    /// assert_eq!(docket.units_taken(1, None, &free), UnitsTaken::NoProblem);
+    ///
+    /// // three units of pU 30, 50 and 80, in one period that needs 100
+    /// docket.lodge(b"kind=problem\nperiods=1\nunits=3\ndemand=90\nspare=10\n\
+    ///                unit=0,0,0,1,30,1,1,-1,1,1,0,0,0,0,0\n\
+    ///                unit=0,0,0,1,50,1,1,-1,1,1,0,0,0,0,0\n\
+    ///                unit=0,0,0,1,80,1,1,-1,1,1,0,0,0,0,0\nend=problem\n");
+    /// // by number all three are needed, largest first two
+    /// assert_eq!(docket.units_taken(1, None, &free), UnitsTaken::Taken { short: false, units: 3 });
+    /// assert_eq!(docket.units_taken(1, Some(2), &free), UnitsTaken::Taken { short: false, units: 2 });
+    ///
+    /// let largest_off = [Fixed::Free, Fixed::Free, Fixed::Off];
+    /// match docket.units_taken(1, None, &largest_off) {
+    ///     UnitsTaken::Taken { short, units } => assert_eq!((short, units), (true, 2)),
+    ///     other => panic!("{other:?}"),
+    /// }
+    /// assert_eq!(docket.units_taken(2, None, &free), UnitsTaken::Unfit);
+    /// ```
+    pub fn units_taken(&self, period: usize, most: Option<usize>, fixed: &[Fixed]) -> UnitsTaken {
+        let mut taken = [0; sys::TAKEN];
+        // a count of which there is no next number is above the number of units either way
+        let most = most.map_or(0, |count| count.saturating_add(1));
+        let fixed = sys::bytes(fixed);
+        let answer = sys::units_taken(&self.numbers, &self.rows, period, most, fixed, &mut taken);
+        UnitsTaken::of(answer, taken)
     }
 }
 

@@ -25,17 +25,21 @@ mod answer;
 mod bound;
 mod docket;
 mod listing;
+#[cfg(test)]
+mod questions;
 mod report;
 #[cfg(test)]
 mod states;
 #[allow(unsafe_code)]
 mod sys;
+mod taken;
 
 pub use answer::{Answer, Figures, Refusal, Verdict};
 pub use bound::Bound;
 pub use docket::{rules, Docket, MOST_TEXT};
 pub use listing::{listing, listing_of, Error, MOST_INPUT, OUTPUT_BYTES};
 pub use report::Report;
+pub use taken::{Fixed, UnitsTaken};
 
 /// Stack enough for a call: a tree of the greatest depth uses less than 265,000 bytes of it, measured. A thread of the standard
 /// library has twice as much, unless its builder says otherwise; on one with less the process ends at the stack's guard page.

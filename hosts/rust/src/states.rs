@@ -52,6 +52,9 @@ fn the_present_one_is_a_docket() {
     assert_eq!(buffer.get(..length), Some(REPORT));
     let count = sys::outputs(&numbers, &rows, &mut outputs);
     assert_eq!(outputs.get(..count), Some(&[60, 80, 0, 20][..]));
+    let mut taken = [7; sys::TAKEN];
+    let told = sys::units_taken(&numbers, &rows, 2, 0, &[0; 4], &mut taken);
+    assert_eq!((told, taken), (sys::TOLD, [0, 2]));
     let length = sys::lodge(&mut numbers, &mut rows, SCHEDULE, &mut line, &mut values);
     assert_eq!(line.get(..length), Some(&b"answer=passed,1980\n"[..]));
 }
@@ -74,7 +77,11 @@ fn every_other_one_is_none() {
         );
         let told = sys::report(&numbers, &rows, &mut buffer);
         let copied = sys::outputs(&numbers, &rows, &mut outputs);
-        assert_eq!([lodged, told, copied], [NO_DOCKET; 3], "{}", path.display());
+        let mut taken = [7; sys::TAKEN];
+        let asked = sys::units_taken(&numbers, &rows, 2, 0, &[0; 4], &mut taken);
+        let answers = [lodged, told, copied, asked];
+        assert_eq!(answers, [NO_DOCKET; 4], "{}", path.display());
+        assert_eq!(taken, [7; sys::TAKEN]);
         assert_eq!((after, rows_after), (numbers, rows));
         assert_eq!((line, values), ([7; sys::LINE_BYTES], [7; sys::VALUES]));
         assert!(buffer.iter().all(|&byte| byte == 7) && outputs.iter().all(|&output| output == 7));

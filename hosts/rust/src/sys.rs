@@ -1,6 +1,9 @@
 //! The functions and numbers of the archive, as `hosts/c/docket.h` declares them; each function that is lent memory stands behind
 //! one that is lent slices.
 
+use crate::taken::Fixed;
+use std::slice;
+
 /// The bytes lent for the line of an answer.
 pub const LINE_BYTES: usize = 128;
 
@@ -12,6 +15,9 @@ pub const REPORT_BYTES: usize = 256;
 
 /// The numbers lent for the outputs of the held schedule.
 pub const OUTPUTS: usize = 1_536;
+
+/// The numbers lent for what `short` takes.
+pub const TAKEN: usize = 2;
 
 /// The answer of a call that is lent too little.
 pub const TOO_SMALL: usize = usize::MAX;
@@ -33,6 +39,15 @@ pub const A_BOUND_BELOW_0: u64 = 3;
 
 /// Second of an answer's numbers: a tree's bound is never.
 pub const NEVER: u64 = 4;
+
+/// The answer of `docket_units_taken` that has written what it tells.
+pub const TOLD: usize = 0;
+
+/// The answer of `docket_units_taken` of a docket that knows no problem.
+pub const NO_PROBLEM: usize = 1;
+
+/// The answer of `docket_units_taken` to a question that does not fit the problem.
+pub const UNFIT: usize = 2;
 
 // SAFETY: the archive defines these functions with these types. Those marked safe are lent nothing and ask for nothing.
 unsafe extern "C" {
@@ -79,6 +94,19 @@ unsafe extern "C" {
         rows_length: usize,
         outputs: *mut u16,
         outputs_length: usize,
+    ) -> usize;
+
+    fn docket_units_taken(
+        numbers: *const u64,
+        numbers_length: usize,
+        rows: *const u16,
+        rows_length: usize,
+        period: usize,
+        most: usize,
+        fixed: *const u8,
+        fixed_length: usize,
+        taken: *mut u64,
+        taken_length: usize,
     ) -> usize;
 
     fn docket_listing(
@@ -159,6 +187,38 @@ pub fn outputs(numbers: &[u64], rows: &[u16], outputs: &mut [u16]) -> usize {
             outputs.len(),
         )
     }
+}
+
+/// `docket_units_taken` on slices.
+pub fn units_taken(
+    numbers: &[u64],
+    rows: &[u16],
+    period: usize,
+    most: usize,
+    fixed: &[u8],
+    taken: &mut [u64],
+) -> usize {
+    // SAFETY: three slices that are only read and one borrowed apart.
+    unsafe {
+        docket_units_taken(
+            numbers.as_ptr(),
+            numbers.len(),
+            rows.as_ptr(),
+            rows.len(),
+            period,
+            most,
+            fixed.as_ptr(),
+            fixed.len(),
+            taken.as_mut_ptr(),
+            taken.len(),
+        )
+    }
+}
+
+/// The bytes of statuses, each a byte.
+pub fn bytes(fixed: &[Fixed]) -> &[u8] {
+    // SAFETY: a `Fixed` is a byte by its representation, and every byte of it may be read.
+    unsafe { slice::from_raw_parts(fixed.as_ptr().cast(), fixed.len()) }
 }
 
 /// `docket_listing` on slices.

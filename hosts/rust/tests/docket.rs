@@ -3,7 +3,7 @@ mod common;
 
 use common::both::Both;
 use common::{example, texts};
-use docket::{Bound, Docket, Verdict};
+use docket::{Bound, Docket, Fixed, UnitsTaken, Verdict};
 use std::thread;
 
 /// Other texts for the problem of the example: a dearer schedule, a tree with a lower bound, a schedule against the rules.
@@ -36,6 +36,8 @@ fn a_docket_begins_with_nothing() {
         assert_eq!(figures(&docket), (None, None, None, None));
         assert_eq!(docket.report().gap(), None);
         assert!(docket.outputs().is_empty());
+        let answer = docket.units_taken(1, None, &[]);
+        assert_eq!(answer, UnitsTaken::NoProblem);
     }
     assert_eq!(docket::rules(), 3);
 }
@@ -80,12 +82,15 @@ fn a_docket_goes_to_another_thread_and_is_asked_by_several_at_once() {
     let lodging = thread::spawn(|| Both::after(&texts(&example())).docket);
     let docket = lodging.join().expect("a docket");
     let held = (Some(1980), Some(7), Some(Bound::Number(1980)), Some(3));
+    let (short, units) = (false, 2);
+    let taken = UnitsTaken::Taken { short, units };
     thread::scope(|scope| {
         for _ in 0..8 {
             scope.spawn(|| {
                 for _ in 0..1_000 {
                     assert_eq!(figures(&docket), held);
                     assert_eq!(docket.outputs(), [60, 80, 0, 20]);
+                    assert_eq!(docket.units_taken(2, None, &[Fixed::Free; 4]), taken);
                 }
             });
         }

@@ -1,6 +1,7 @@
 //! Texts and short ways of asking that several tests share.
 #![allow(dead_code)]
 
+use second::inputs::problems::joined;
 use second::{fresh, lodge, Answer, Bound, Docket, Figures, Refusal};
 
 /// The problem of document 01's listing example, its units having 60 and 0 for p0.
@@ -133,5 +134,18 @@ pub fn one_unit(periods: usize, unit: &str) -> String {
     let zeros = vec!["0"; periods].join(",");
     format!(
         "kind=problem\nperiods={periods}\nunits=1\ndemand={zeros}\nspare={zeros}\nunit={unit}\nend=problem\n"
+    )
+}
+
+/// A problem with units of these pU that may be on or off at will, and this demand and spare.
+pub fn at_will(capacities: &[i64], demand: &[i64], spare: &[i64]) -> String {
+    let units: String = capacities
+        .iter()
+        .map(|most| format!("unit=0,0,0,1,{most},1,1,-1,1,1,0,0,0,0,0\n"))
+        .collect();
+    let (periods, count) = (demand.len(), capacities.len());
+    let (demand, spare) = (joined(demand), joined(spare));
+    format!(
+        "kind=problem\nperiods={periods}\nunits={count}\ndemand={demand}\nspare={spare}\n{units}end=problem\n"
     )
 }

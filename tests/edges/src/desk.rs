@@ -1,7 +1,8 @@
 //! What the orders work on, and the orders.
 
 use crate::given::Given;
-use crate::show::{answer_shown, report_shown};
+use crate::show::{answer_shown, report_shown, taken_shown};
+use second::capacity_taken;
 
 /// One byte more than a text may have.
 const ROOM: usize = 1_048_577;
@@ -33,6 +34,7 @@ impl Desk {
             "lodge" if !rest.is_empty() => self.lodge(rest),
             "give" if line == word => self.give(),
             "ask" => self.ask(rest),
+            "units" => self.units(rest),
             "fresh" if line == word => self.take(Given::default()),
             "keep" => self.keep(kept(rest)?),
             "take" => self.take(self.dockets.get(kept(rest)?)?.clone()),
@@ -99,6 +101,19 @@ impl Desk {
         Some(())
     }
 
+    fn units(&mut self, rest: &str) -> Option<()> {
+        let (period, rest) = parted(rest);
+        let (most, name) = parted(rest);
+        let (period, most) = (number(period)?, number(most)?);
+        if name.is_empty() {
+            return None;
+        }
+        let fixed: Vec<u8> = self.text.iter().map(status_of).collect();
+        let answer = capacity_taken(&self.dockets[0].judged(), period, most, &fixed);
+        self.lines.push(format!("{name}: {}", taken_shown(answer)));
+        Some(())
+    }
+
     fn keep(&mut self, place: usize) -> Option<()> {
         *self.dockets.get_mut(place)? = self.dockets[0].clone();
         Some(())
@@ -132,4 +147,9 @@ fn bytes_of(line: &str) -> Vec<u8> {
     line.bytes()
         .map(|byte| if byte == b'/' { 10 } else { byte })
         .collect()
+}
+
+/// The status that a byte of the text stands for: 0, 1 and 2 for the digits 0, 1 and 2.
+fn status_of(byte: &u8) -> u8 {
+    byte.wrapping_sub(48)
 }

@@ -19,7 +19,7 @@ impl Default for Given {
 }
 
 impl Given {
-    /// The docket by which texts and reports are judged.
+    /// The docket by which texts are judged, and reports and questions about units answered.
     pub fn judged(&self) -> Docket {
         match self {
             Given::Made(docket) => docket.clone(),

@@ -1,6 +1,6 @@
 //! What a line shows.
 
-use second::{report, Answer, Docket, Figures, Refusal};
+use second::{report, Answer, Docket, Figures, Refusal, TakenAnswer};
 use std::fmt;
 
 /// What a docket holds: of the rows the first five outputs, with zeros after the last.
@@ -99,5 +99,15 @@ fn figures_shown(figures: Figures) -> String {
             splits,
             leaves,
         } => format!(",{bound},{splits},{leaves}"),
+    }
+}
+
+/// The answer to a question about units.
+pub fn taken_shown(answer: TakenAnswer) -> String {
+    match answer {
+        TakenAnswer::NoProblem => "no problem".to_string(),
+        TakenAnswer::Unfit => "unfit".to_string(),
+        TakenAnswer::Taken(taken) if taken.short => format!("short,{}", taken.units),
+        TakenAnswer::Taken(taken) => format!("enough,{}", taken.units),
     }
 }

@@ -26,7 +26,7 @@ fn orders() -> (Vec<&'static str>, Vec<&'static str>) {
     (orders, others[1..].to_vec())
 }
 
-/// 116 at least: cases may be added, and none may be lost or stand twice.
+/// 251 at least: cases may be added, and none may be lost or stand twice.
 #[test]
 fn each_case_has_a_line_and_a_name_of_its_own() {
     let cases: Vec<&str> = PROVED
@@ -37,11 +37,12 @@ fn each_case_has_a_line_and_a_name_of_its_own() {
         .iter()
         .filter_map(|line| line.split(": ").next())
         .collect();
-    let asked = orders()
-        .0
-        .into_iter()
-        .filter(|line| line.starts_with("lodge ") || line.starts_with("ask "));
-    assert!(cases.len() >= 116);
+    let asked = orders().0.into_iter().filter(|line| {
+        ["lodge ", "ask ", "units "]
+            .iter()
+            .any(|order| line.starts_with(order))
+    });
+    assert!(cases.len() >= 251);
     assert_eq!(cases.len(), names.len());
     assert_eq!(cases.len(), asked.count());
 }
@@ -52,7 +53,7 @@ fn the_last_lines_are_no_orders() {
         .lines()
         .filter_map(|line| line.strip_prefix("not understood: "));
     assert_eq!(shown.collect::<Vec<_>>(), orders().1);
-    assert!(orders().1.len() >= 9);
+    assert!(orders().1.len() >= 12);
 }
 
 #[test]
@@ -68,6 +69,9 @@ fn a_line_that_is_no_order_shows() {
         "take",
         "take 1 2",
         "ask 161 0 x",
+        "units 1 0",
+        "units 1 -1 x",
+        "units 18446744073709551616 0 x",
     ];
     let fields = [
         "set known 2",

@@ -4,7 +4,6 @@ use Prim.Native.Nat.{_-_, _≤_}
 use native.Mathlib.Omega.{arith}
 use borrow.Author.Needs.{needs}
 use lib.ListN.{length, length-map}
-use Rattle.layout.proofs.Again.{laid-is, laid}
 use Rattle.layout.proofs.Stored.{begun, begun-none, begun-more, begun-all}
 use Rattle.layout.proofs.lay_out.Statement.{statement}
 use Rattle.layout.proofs.lay_out.Tie as tie
@@ -105,10 +104,8 @@ returns c =
     let front = loop .before .before in
     let p = start front .args .problem in
     let l = longs (start front) in
-    let e =
     begun-all p (l .0) (l .1) (l .2) _ _ (front .before .before .before .before .store .ensures) (front .store2 .ensures) (loop .loop .numbers) (loop .loop .u)
-    (omega arith) (long front) (loop .loop .inv .2) in
-    (e, λ valid. rw e (laid p (l .0) (l .1) (l .2) valid, laid-is p (l .0) (l .1) (l .2) valid))
+    (omega arith) (long front) (loop .loop .inv .2)
 
 pub lay-out-spec : {M : Type 1} → statement M
 lay-out-spec =

@@ -80,7 +80,7 @@ returns c =
     let s = n .before .before .before .before .before .before in
     let h : layout-mark ∷ n .known-number .result ∷ [] ≡ head (s .args .docket) = ap (λ (x : ℕ). layout-mark ∷ x ∷ []) (n .known-number .ensures) in (
       stored-all (s .args .docket) (s .args .numbers .now) (layout-mark ∷ n .known-number .result ∷ []) (k .cost-numbers .result) (b .bound-numbers .result) (l .lay-out .result)
-          (s1 .store .last .0) (s2 .store2 .last .0) (s3 .store3 .last .0) (s4 .store4 .last .0) h (k .cost-numbers .ensures) (b .bound-numbers .ensures) (l .lay-out .ensures .0)
+          (s1 .store .last .0) (s2 .store2 .last .0) (s3 .store3 .last .0) (s4 .store4 .last .0) h (k .cost-numbers .ensures) (b .bound-numbers .ensures) (l .lay-out .ensures)
           (s1 .store .ensures) (s2 .store2 .ensures) (s3 .store3 .ensures) (s4 .store4 .ensures),
       r .store-rows .ensures,
     )

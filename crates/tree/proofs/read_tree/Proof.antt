@@ -31,8 +31,8 @@ refuse-requires c κs = search needs
 enum-known-written-2 : tie.Need-enum-known-written-2
 enum-known-written-2 c = search needs
 
-lay-out-requires : tie.Need-lay-out-requires
-lay-out-requires c κs = search needs
+lay-out-ranked-requires : tie.Need-lay-out-ranked-requires
+lay-out-ranked-requires c κs = search needs
 
 slice-aggregate-read-node : tie.Need-slice-aggregate-read-node
 slice-aggregate-read-node c = search needs
@@ -65,7 +65,7 @@ read-node-requires : tie.Need-read-node-requires
 read-node-requires c κs =
     let o = c .before .before .before in
     let s = o .before .before .before .before .before .before in
-    (o .lay-out .ensures .1 (s .pre .0) .0, (placed c, (omega arith, refl)))
+    (o .lay-out-ranked .ensures .1 .0, (placed c, (omega arith, refl)))
 
 read-end-requires : tie.Need-read-end-requires
 read-end-requires c κs =
@@ -95,7 +95,7 @@ returns-2 c =
     let text = s .args .text .now in
     let w = good .written2 .given .0 .0 in
     let next = r .read-writer .result .next in
-    let tree = subst (λ (Q : Instance). n .read-node .result ≡ node-read Q text next 3 (n .before .none .result) (above-of Q (replicate 1632 0)) 0) (o .lay-out .ensures .1 (s .pre .0) .1) (n .read-node .ensures .0) in
+    let tree = subst (λ (Q : Instance). n .read-node .result ≡ node-read Q text next 3 (n .before .none .result) (above-of Q (replicate 1632 0)) 0) (o .lay-out-ranked .ensures .1 .1) (n .read-node .ensures .0) in
     let node = rw (root-is P, n .before .none .ensures) at tree in
     c .read-end .ensures
     ∙ ended-read P text w (n .read-node .result)
@@ -111,7 +111,7 @@ read-tree-spec =
     enum-known-written
     refuse-requires
     enum-known-written-2
-    lay-out-requires
+    lay-out-ranked-requires
     slice-aggregate-read-node
     slice-aggregate-read-node-2
     none-requires

@@ -6,6 +6,7 @@ use native.Mathlib.Omega.{arith}
 use Rattle.model.specs.declared.figures.Bound.the-variants.{Never}
 use Rattle.layout.specs.Numbers.{instance-in}
 use Rattle.walk.specs.Marks.{above-of}
+use Rattle.leaves.specs.declared.short.Taken.{Taken}
 use Rattle.tree.specs.declared.naming.NamedLine.{NamedLine}
 use Rattle.tree.specs.declared.naming.NamedLine.the-variants.{Refused, Names}
 use Rattle.tree.specs.Rendering.{short-key}
@@ -52,13 +53,13 @@ enum-known-found c = search needs
 enum-known-found-2 : tie.Need-enum-known-found-2
 enum-known-found-2 c = search needs
 
-is-short-requires : tie.Need-is-short-requires
-is-short-requires c κs =
+sum-until-requires : tie.Need-sum-until-requires
+sum-until-requires c κs =
     let s = start (c .before .before .before) in
     (s .pre .0, (names (c .before) .below, s .pre .1 .0))
 
-add-t17 : tie.Need-add-t17
-add-t17 c = search needs
+add-t18 : tie.Need-add-t18
+add-t18 c = search needs
 
 with-leaf-requires : tie.Need-with-leaf-requires
 with-leaf-requires c κs = search needs
@@ -73,7 +74,7 @@ returns c =
     let P = instance-in (a .numbers .now) in
     let A = above-of P (a .above .now) in
     node-leaf P (a .text .now) (a .at) (a .line) (a .figures) A 0 Never (g .1 .0) (c .with-leaf .result)
-    (short-holds P (a .text .now) (a .at) A 0 (s .pre .1 .1 .1) (n .line-good) (g .0) (n .is-named) (sym (c .before .if1 .taken) ∙ c .before .before .is-short .ensures))
+    (short-holds P (a .text .now) (a .at) A 0 (s .pre .1 .1 .1) (n .line-good) (g .0) (n .is-named) (sym (c .before .if1 .taken) ∙ ap (λ (r : Taken). r .short) (c .before .before .sum-until .ensures)))
     (n .moved) (c .with-leaf .ensures)
 
 returns-2 : tie.Need-returns-2
@@ -96,7 +97,7 @@ returns-3 c =
     let P = instance-in (a .numbers .now) in
     let A = above-of P (a .above .now) in
     node-refused P (a .text .now) (a .at) (a .line) (a .figures) A 0 33
-    (short-fails P (a .text .now) (a .at) A 0 (s .pre .1 .1 .1) (n .line-good) (f .found2 .given .0 .0) (n .is-named) (sym (c .if1 .left) ∙ c .before .is-short .ensures))
+    (short-fails P (a .text .now) (a .at) A 0 (s .pre .1 .1 .1) (n .line-good) (f .found2 .given .0 .0) (n .is-named) (sym (c .if1 .left) ∙ ap (λ (r : Taken). r .short) (c .before .sum-until .ensures)))
 
 pub read-short-spec : {M : Type 1} → statement M
 read-short-spec =
@@ -107,8 +108,8 @@ read-short-spec =
     read-named-requires
     enum-known-found
     enum-known-found-2
-    is-short-requires
-    add-t17
+    sum-until-requires
+    add-t18
     with-leaf-requires
     returns
     returns-2

@@ -1,0 +1,63 @@
+-- `are_statuses` meets its contract: those before place i passed, so what is left from there on decides.
+use mathlib.Core.Path.{_≡_, refl, ap, _∙_}
+use Prim.Native.Nat.{_-_, _≤_}
+use native.Mathlib.Omega.{arith}
+use borrow.Author.Needs.{needs}
+use borrow.Author.Tests.{le-leb, lt-leb}
+use lib.ListN.{length}
+use lib.Seq.{take-length}
+use Rattle.model.specs.Ranges.{every}
+use Rattle.model.proofs.Every.{Left, one-passes, one-fails, all-pass}
+use Rattle.docket.specs.Taking.{is-status}
+use Rattle.docket.proofs.taking.are_statuses.Statement.{statement}
+use Rattle.docket.proofs.taking.are_statuses.Tie as tie
+
+abbrev Inv-loop : tie.InvT-loop
+Inv-loop fixed i₀ i = Left is-status 0 fixed (length fixed) (omega arith) i
+
+abbrev μ-loop : tie.MeasureT-loop
+μ-loop fixed i₀ i = length fixed - i
+
+loop-holds : tie.Need-loop-holds Inv-loop μ-loop
+loop-holds c = refl
+
+shared-slice-read-if1 : tie.Need-shared-slice-read-if1 Inv-loop μ-loop
+shared-slice-read-if1 c = search needs
+
+returns : tie.Need-returns Inv-loop μ-loop
+returns c =
+    let l = c .before .before .before in
+    let fixed = l .before .args .fixed .now in
+    one-fails is-status 0 fixed (length fixed) (omega arith) (l .loop .i) (omega arith) (lt-leb _ 2 (c .if1 .taken)) (l .loop .inv) ∙ ap (every is-status) (take-length fixed)
+
+add-i : tie.Need-add-i Inv-loop μ-loop
+add-i c = search needs
+
+loop-less : tie.Need-loop-less Inv-loop μ-loop
+loop-less c = omega arith
+
+loop-again : tie.Need-loop-again Inv-loop μ-loop
+loop-again c =
+    let l = c .before .before .before in
+    let fixed = l .before .args .fixed .now in
+    one-passes is-status 0 fixed (length fixed) (omega arith) (l .loop .i) (omega arith) (le-leb _ 2 (c .if1 .left)) (l .loop .inv)
+
+returns-2 : tie.Need-returns-2 Inv-loop μ-loop
+returns-2 c =
+    let l = c .before in
+    let fixed = l .before .args .fixed .now in
+    all-pass is-status 0 fixed (length fixed) (omega arith) (l .loop .i) (omega arith) (l .loop .inv) ∙ ap (every is-status) (take-length fixed)
+
+pub are-statuses-spec : {M : Type 1} → statement M
+are-statuses-spec =
+    tie.close
+    (tie.spec
+    Inv-loop
+    μ-loop
+    loop-holds
+    shared-slice-read-if1
+    returns
+    add-i
+    loop-less
+    loop-again
+    returns-2)
