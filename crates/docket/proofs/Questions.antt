@@ -4,13 +4,13 @@ use mathlib.Core.Path.{_≡_, refl, sym, ap, ap₂, _∙_}
 use mathlib.Core.Bool.{Bool, true, false, cond, _&&_}
 use mathlib.Core.List.{List, _++_}
 use mathlib.Core.Logic.{_↔_}
-use mathlib.Core.Option.{Option, none}
+use mathlib.Core.Option.{none}
 use Prim.Native.Nat.{ℕ, _+_, _*_, _-_, _≤_, _<_}
 use native.Mathlib.Nat.{mul-le-mul-right}
 use native.Mathlib.Omega.{arith}
 use borrow.Author.Tests.{eq-eqb, ne-eqb, le-leb, lt-leb}
 use lib.Dec.{T, eqb, ltb, leb}
-use lib.ListN.{length, getD, set, drop, replicate, length-append, length-drop, length-replicate, List·getD-append}
+use lib.ListN.{length, set, drop, replicate, length-append, length-drop, length-replicate, List·getD-append}
 use lib.Seq.{getD-set-same, getD-set-other}
 use Rattle.model.specs.Instance.{Instance, _at_}
 use Rattle.model.specs.Ranges.{All, Between, WellFormed, every, between}
@@ -24,11 +24,12 @@ use Rattle.model.proofs.Extents.{SameMarks, usable-ext}
 use Rattle.model.proofs.Turns.{in-turn-total}
 use Rattle.walk.specs.Marks.{mark-of, marks-in, most-of, most-in, above-of, upper-begin}
 use Rattle.walk.proofs.AboveMarks.{marks-same, most-here, statuses-fit}
-use Rattle.leaves.specs.declared.short.Taken.{Taken}
+--
 use Rattle.docket.specs.declared.Docket.{Docket}
 use Rattle.docket.specs.declared.taking.TakenAnswer.the-variants.{NoProblem}
 use Rattle.docket.specs.Lodging.{trusted}
-use Rattle.docket.specs.Taking.{is-status, fits-in, fits, FitQuestion, asked, taken-in, taken-under, taken-of}
+use Rattle.leaves.specs.LeafLeasts.{taken-in}
+use Rattle.docket.specs.Taking.{is-status, fits-in, fits, FitQuestion, asked, taken-under, taken-of}
 use Rattle.docket.proofs.HoldingAnswers.{knows-sound, itself}
 
 -- ---- the test of a question

@@ -153,6 +153,10 @@ summed-many P A t = turns.turns-many P A t
 pub takes-fewest : (l : List ℕ) (d : ℕ) → Fewest l d (took l d) × ((n : ℕ) → Fewest l d n → n ≡ took l d)
 takes-fewest l d = (turns.took-is l d, λ n F. turns.fewest-one l d n (took l d) F (turns.took-is l d))
 
+-- so that what stands behind numbers that reach d is not read
+pub takes-no-more : (k l : List ℕ) (d : ℕ) → d ≤ total k → took (k ++ l) d ≡ took k d
+takes-no-more = turns.took-stops
+
 -- What is promised of `short` is the same: the sum of those taken is below d exactly where the sum of all is, and that sum is what `short` summed before
 pub stops-same : (l : List ℕ) (d : ℕ) → (total (take (took l d) l) < d) ↔ (total l < d)
 stops-same = turns.stops-same
@@ -346,7 +350,8 @@ twice-refused =
     (lit< tt) (lit≤ tt) (lit≤ tt) .1 (λ n. omega (arith, n .1))
 
 -- ---- A witness: under document 01's problem, whose units have 80 and 50, `short` in period 2, where D + R is 110, takes both by number; where one unit at most may run
--- it takes the larger and is short; with the first unit off there it takes the other and is short; a period 3 does not fit. Before any problem there is nothing to tell
+-- it takes the larger and is short; with the first unit off there it takes the other and is short, and with it on both again; a period 3 does not fit. Each end of each range is computed in
+-- crates/docket/specs/TakingExamples.antt. Before any problem there is nothing to tell
 
 abbrev told-then : ℕ → ℕ → List ℕ → TakenAnswer
 told-then = taken-of (after (listed-problem ∷ []))
@@ -356,14 +361,16 @@ told-there = telling.told-as (listed-problem ∷ []) (problem example ∷ []) (t
 
 pub told-witnessed : (told-then 2 0 (0 ∷ 0 ∷ 0 ∷ 0 ∷ []) ≡ taken (record { short = false; units = 2 }))
     × (told-then 2 2 (0 ∷ 0 ∷ 0 ∷ 0 ∷ []) ≡ taken (record { short = true; units = 1 }))
-    × (told-then 2 0 (0 ∷ 1 ∷ 0 ∷ 2 ∷ []) ≡ taken (record { short = true; units = 1 }))
+    × (told-then 2 0 (0 ∷ 1 ∷ 0 ∷ 0 ∷ []) ≡ taken (record { short = true; units = 1 }))
+    × (told-then 2 0 (0 ∷ 2 ∷ 0 ∷ 0 ∷ []) ≡ taken (record { short = false; units = 2 }))
     × (told-then 3 0 (0 ∷ 0 ∷ 0 ∷ 0 ∷ []) ≡ Unfit)
     × (taken-of (after []) 2 0 (0 ∷ 0 ∷ 0 ∷ 0 ∷ []) ≡ NoProblem)
 unfolding taken-under taken-of in-turn took usable available largest falling sound marks-in mark-of
 told-witnessed = (
   told-there 2 0 (0 ∷ 0 ∷ 0 ∷ 0 ∷ []),
   told-there 2 2 (0 ∷ 0 ∷ 0 ∷ 0 ∷ []),
-  told-there 2 0 (0 ∷ 1 ∷ 0 ∷ 2 ∷ []),
+  told-there 2 0 (0 ∷ 1 ∷ 0 ∷ 0 ∷ []),
+  told-there 2 0 (0 ∷ 2 ∷ 0 ∷ 0 ∷ []),
   told-there 3 0 (0 ∷ 0 ∷ 0 ∷ 0 ∷ []),
   refl,
 )

@@ -20,14 +20,15 @@ use Rattle.walk.proofs.AboveMarks.{marks-same}
 use Rattle.leaves.specs.declared.short.Taken.{Taken}
 use Rattle.docket.specs.declared.Docket.{Docket}
 use Rattle.docket.specs.declared.taking.TakenAnswer.{TakenAnswer}
-use Rattle.docket.specs.declared.taking.TakenAnswer.the-variants.{NoProblem, Unfit, Taken as taken}
+use Rattle.docket.specs.declared.taking.TakenAnswer.the-variants.{Unfit, Taken as taken}
 use Rattle.docket.specs.Docket.{fresh-docket, sound}
 use Rattle.docket.specs.Verdicts.{Verdict}
 use Rattle.docket.specs.Texts.{Are}
 use Rattle.docket.specs.Lodging.{trusted, lodge-of}
 use Rattle.docket.specs.Demand3.{Holding}
-use Rattle.docket.specs.Promised.{after, given, Long, KnownSound, JudgesBy, its-own, no-problem}
-use Rattle.docket.specs.Taking.{fits, FitQuestion, asked, taken-in, taken-under, taken-of}
+use Rattle.docket.specs.Promised.{after, given, Long, JudgesBy, its-own, no-problem}
+use Rattle.leaves.specs.LeafLeasts.{taken-in}
+use Rattle.docket.specs.Taking.{fits, FitQuestion, asked, taken-under, taken-of}
 use Rattle.docket.specs.Requested as said
 use Rattle.docket.specs.Requested.{TakenThere, Told, AsAsked}
 use Rattle.docket.proofs.Lists.{reached-sound}

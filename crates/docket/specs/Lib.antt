@@ -4,6 +4,7 @@ pub mod Verdicts
 pub mod Lodging
 pub mod Report
 pub mod Taking
+pub mod TakingExamples
 pub mod Texts
 pub mod ReportDue
 pub mod Demand3

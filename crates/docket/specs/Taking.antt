@@ -3,17 +3,15 @@ use mathlib.Core.Path.{_≡_}
 use mathlib.Core.Bool.{Bool, cond, _&&_}
 use mathlib.Core.List.{List}
 use mathlib.Core.Option.{none}
-use Prim.Native.Nat.{ℕ, _+_, _*_, _-_, _≤_}
+use Prim.Native.Nat.{ℕ, _*_, _-_, _≤_}
 use lib.Dec.{eqb, leb}
 use lib.ListN.{length}
-use Rattle.model.specs.Instance.{Instance, _at_}
+use Rattle.model.specs.Instance.{Instance}
 use Rattle.model.specs.Ranges.{Between, All, every, between}
 use Rattle.model.specs.Held.{view}
 use Rattle.model.specs.Above.{Above, put}
-use Rattle.model.specs.Turns.{in-turn, took}
 use Rattle.walk.specs.Marks.{most-of, marks-in}
-use Rattle.leaves.specs.declared.short.Taken.{Taken}
-use Rattle.leaves.specs.LeafLeasts.{short-at}
+use Rattle.leaves.specs.LeafLeasts.{taken-in}
 use Rattle.docket.specs.declared.Docket.{Docket}
 use Rattle.docket.specs.declared.taking.TakenAnswer.{TakenAnswer}
 use Rattle.docket.specs.declared.taking.TakenAnswer.the-variants as answer
@@ -45,10 +43,7 @@ asked P t most fixed = record {
   least = λ v. 0;
 }
 
--- whether `short` holds in period t under that, and how many units are taken until it is plain
-abbrev pub taken-in : Instance → Above → ℕ → Taken
-taken-in P A t = record { short = short-at P A t; units = took (in-turn P A t) (P .demand at t + P .spare at t) }
-
+-- whether `short` holds there under that, and how many units are taken
 unfoldable pub taken-under : Instance → ℕ → ℕ → List ℕ → TakenAnswer
 taken-under P period most fixed = cond (fits P period most fixed) (answer.Taken (taken-in P (asked P (period - 1) most fixed) (period - 1))) answer.Unfit
 

@@ -1,4 +1,4 @@
-// The docket: what it holds, what lodging a text answers, and its report.
+// The docket: what it holds, what lodging a text answers, its report, and what it tells of the units that `short` takes.
 ghost use mathlib.Core.Path.{_≡_};
 ghost use Rattle.docket.specs.Docket.{fresh-docket};
 ghost use Rattle.docket.specs.Lodging.{lodge-of};

@@ -5,7 +5,9 @@ use Prim.Native.Nat.{_-_, _^_}
 use lib.ListN.{replicate}
 use Rattle.docket_host.specs.HostAnswer.{too-little-room}
 use Rattle.state.specs.Layout.{numbers-count, rows-count}
-use Rattle.docket_host.specs.Calls.{rules, no-docket, lodge-room, outputs-room}
+use mathlib.Core.List.{[], _∷_}
+use Rattle.docket.specs.declared.taking.TakenAnswer.the-variants.{NoProblem, Unfit, Taken}
+use Rattle.docket_host.specs.Calls.{rules, no-docket, lodge-room, outputs-room, taken-room, taken-number, taken-written}
 
 lodge-enough : lodge-room (replicate 618 0) (replicate 1536 0) (replicate 128 0) (replicate 16 0) ≡ true
 lodge-enough = refl
@@ -32,3 +34,17 @@ the-sizes = (refl, (refl, refl))
 -- SIZE_MAX and SIZE_MAX - 1
 the-numbers : (too-little-room ≡ 2 ^ 64 - 1) × (no-docket ≡ 2 ^ 64 - 2)
 the-numbers = (refl, refl)
+
+taken-enough : taken-room (replicate 618 0) (replicate 1536 0) (replicate 2 0) ≡ true
+taken-enough = refl
+
+taken-few : taken-room (replicate 618 0) (replicate 1536 0) (replicate 1 0) ≡ false
+taken-few = refl
+
+-- the numbers of enum docket_taken_answer, and the places of enum docket_taken
+the-answers : (taken-number NoProblem ≡ 1) × ((taken-number Unfit ≡ 2) × (taken-number (Taken (record { short = true; units = 5 })) ≡ 0))
+the-answers = (refl, (refl, refl))
+
+the-places : (taken-written (Taken (record { short = true; units = 5 })) (7 ∷ 7 ∷ 7 ∷ []) ≡ 1 ∷ 5 ∷ 7 ∷ [])
+    × (taken-written (Taken (record { short = false; units = 5 })) (7 ∷ 7 ∷ 7 ∷ []) ≡ 0 ∷ 5 ∷ 7 ∷ [])
+the-places = (refl, refl)

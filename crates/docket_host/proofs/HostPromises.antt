@@ -124,6 +124,12 @@ length-apart = call.length-apart
 pub outputs-apart : (v w o : List ℕ) → outputs-room v w o ≡ true → holds v w ≡ true → outputs-answer v w o < no-docket
 outputs-apart = call.outputs-apart
 
+-- What is told there is what the docket that the state is read as tells (`told-anywhere` of crates/docket/proofs/Requested.antt), by one of three numbers
+pub taken-any : (v w : List ℕ) (period most : ℕ) (fixed o : List ℕ) → taken-room v w o ≡ true → holds v w ≡ true
+    → (taken-number (taken-of (docket-in v w) period most fixed) ≡ taken-answer v w period most fixed o)
+    × (taken-written (taken-of (docket-in v w) period most fixed) o ≡ taken-numbers v w period most fixed o)
+taken-any = call.taken-by
+
 pub taken-apart : (v w : List ℕ) (period most : ℕ) (fixed o : List ℕ) → taken-room v w o ≡ true → holds v w ≡ true → taken-answer v w period most fixed o ≤ 2
 taken-apart = call.taken-apart
 

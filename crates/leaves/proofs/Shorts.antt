@@ -1,9 +1,10 @@
--- Short: the units in the order of their ranks are the units not fixed off, by number or the largest first, and the byte of an upper count says which.
+-- Short: of the ranks of all units, in the order of the units or the largest first, those of the units not fixed off are what `short` takes; and the byte of an upper count
+-- says which order it is.
 use mathlib.Core.Path.{_≡_, refl, sym, _∙_, ap, ap₂}
 use mathlib.Core.Bool.{Bool, true, false, cond}
 use mathlib.Core.List.{List, [], _∷_, map}
 use mathlib.Core.Option.{Option, none, some}
-use Prim.Native.Nat.{ℕ, zero, suc, _+_, _*_, _-_, _/_, _%_, _≤_, _<_}
+use Prim.Native.Nat.{ℕ, zero, suc, _+_, _-_, _≤_, _<_}
 use native.Mathlib.Omega.{arith}
 use lib.Dec.{ltb}
 use lib.ListN.{length, getD, take}
@@ -22,8 +23,8 @@ use Rattle.layout.specs.Ranks.{rank, unit-of, pU-of, ranks-from, ranked}
 use Rattle.layout.proofs.Ranks.{unit-back, pU-back, ranks-at, pU-inside}
 use Rattle.walk.specs.Marks.{most-of, above-of, upper-begin}
 use Rattle.walk.proofs.AboveMarks.{most-here}
-use Rattle.leaves.specs.LeafLeasts.{short-at, taken-from}
-use Rattle.leaves.specs.declared.short.Taken.{Taken}
+use Rattle.leaves.specs.LeafLeasts.{taken-in, taken-from}
+--
 use Rattle.leaves.proofs.MarkBytes.{usable-length}
 use Rattle.leaves.proofs.Takings.{may, values}
 
@@ -108,7 +109,7 @@ module _ (P : Instance) (bytes : List ℕ) (t : ℕ) (l : t < P .periods) where
   need = P .demand at t + P .spare at t
 
   answers : (l : List ℕ) (d : ℕ) (o : Option ℕ) → d ≡ need → l ≡ turned o (usable (P .units) (above-of P bytes .marks) t) → o ≡ above-of P bytes .most t
-      → taken-from l d ≡ record { short = short-at P (above-of P bytes) t; units = took (in-turn P (above-of P bytes) t) need }
+      → taken-from l d ≡ taken-in P (above-of P bytes) t
   unfolding in-turn
   answers l d o e i j =
       let A = above-of P bytes in
@@ -117,11 +118,11 @@ module _ (P : Instance) (bytes : List ℕ) (t : ℕ) (l : t < P .periods) where
 
   -- none stands: by number
   pub answers-all : (d : ℕ) → d ≡ need → bytes at (upper-begin + t) ≡ 0
-      → taken-from (usable (P .units) (above-of P bytes .marks) t) d ≡ record { short = short-at P (above-of P bytes) t; units = took (in-turn P (above-of P bytes) t) need }
+      → taken-from (usable (P .units) (above-of P bytes .marks) t) d ≡ taken-in P (above-of P bytes) t
   answers-all d e b = answers _ d none e refl (sym (most-none _ b) ∙ most-here (P .periods) bytes t l)
 
   -- one stands: the largest first, and so many
   pub answers-largest : (d : ℕ) → d ≡ need → (bytes at (upper-begin + t) ≡ 0 → ⊥)
       → taken-from (take (bytes at (upper-begin + t) - 1) (falling (usable (P .units) (above-of P bytes .marks) t))) d
-      ≡ record { short = short-at P (above-of P bytes) t; units = took (in-turn P (above-of P bytes) t) need }
+      ≡ taken-in P (above-of P bytes) t
   answers-largest d e b = answers _ d (some (bytes at (upper-begin + t) - 1)) e refl (sym (most-some _ b) ∙ most-here (P .periods) bytes t l)

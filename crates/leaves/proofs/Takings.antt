@@ -5,11 +5,11 @@ use mathlib.Core.Bool.{Bool, true, false, cond}
 use mathlib.Core.List.{List, [], _∷_, map}
 use mathlib.Core.Logic.{_⊎_, inl, inr}
 use Prim.Native.Nat.{ℕ, zero, suc, _+_, _≤_, _<_, min}
-use native.Mathlib.Numerals.{add-one}
+--
 use native.Mathlib.Omega.{arith}
-use borrow.Author.Tests.{lt-ltb, le-ltb}
+use borrow.Author.Tests.{le-ltb}
 use lib.Dec.{ltb}
-use lib.ListN.{length, getD, take, length-take, length-map, List·getD-map}
+use lib.ListN.{length, getD, take, length-take, length-map}
 use lib.Seq.{take-all, take-length, take-take, getD-take}
 use Rattle.model.specs.Above.{Mark, free, fixed}
 use Rattle.model.specs.Largest.{total}
@@ -17,7 +17,7 @@ use Rattle.model.specs.Leaf.{unless-off, those}
 use Rattle.model.specs.Turns.{took, Fewest}
 use Rattle.model.proofs.Largest.{take-total}
 use Rattle.model.proofs.Turns.{took-is, fewest-one}
-use Rattle.leaves.specs.declared.short.Taken.{Taken}
+--
 use Rattle.leaves.specs.LeafLeasts.{taken-from}
 
 -- whether a unit with this mark may be taken

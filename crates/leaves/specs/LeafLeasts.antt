@@ -1,5 +1,5 @@
--- What a leaf answers: that a unit is stuck, or a least value, which only a leaf without a stuck unit has; whether the units are short, or a
--- crowd (document 01, Rules for a leaf; document 02, [1]).
+-- What a leaf answers: that a unit is stuck, or a least value, which only a leaf without a stuck unit has; whether the units are short and how many were taken, or
+-- whether they are a crowd (document 01, Rules for a leaf; document 02, [1] and [2]).
 use mathlib.Core.Bool.{Bool, false, cond, _||_}
 use mathlib.Core.List.{List}
 use mathlib.Core.Option.{Option, none, some}
@@ -9,7 +9,7 @@ use Rattle.model.specs.declared.generator.Generator.{Generator}
 use Rattle.model.specs.Instance.{Instance, _at_}
 use Rattle.model.specs.Above.{Marks, Above}
 use Rattle.model.specs.Largest.{total}
-use Rattle.model.specs.Turns.{took}
+use Rattle.model.specs.Turns.{in-turn, took}
 use Rattle.model.specs.Leaf.{available, fixed-on, not-off, any-stuck, units-least, leaf-value}
 use Rattle.least.specs.declared.unit.Least.{Least}
 use Rattle.least.specs.declared.unit.Least.the-variants.{Stuck, Value}
@@ -26,6 +26,10 @@ leaf-of P m q s = cond (any-stuck (P .periods) (P .units) m) Stuck (Value (leaf-
 -- whether `short` holds: what is available in period t is below D + R
 abbrev pub short-at : Instance → Above → ℕ → Bool
 short-at P A t = ltb (available P A t) (P .demand at t + P .spare at t)
+
+-- whether `short` holds in period t, and how many units it takes
+abbrev pub taken-in : Instance → Above → ℕ → Taken
+taken-in P A t = record { short = short-at P A t; units = took (in-turn P A t) (P .demand at t + P .spare at t) }
 
 -- what is answered where the numbers of l are taken from its front until they reach d: whether they do not, and how many were taken
 abbrev pub taken-from : List ℕ → ℕ → Taken

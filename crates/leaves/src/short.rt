@@ -1,14 +1,12 @@
 // Whether the units that may be on are short of a period's demand and spare: they are taken one after the other until they reach it.
 ghost use mathlib.Core.Path.{_≡_};
-ghost use Prim.Native.Nat.{_+_, _*_, _≤_, _<_};
+ghost use Prim.Native.Nat.{_*_, _≤_, _<_};
 ghost use lib.ListN.{length, take};
-ghost use Rattle.model.specs.Instance.{_at_};
 ghost use Rattle.model.specs.Largest.{falling};
 ghost use Rattle.model.specs.Leaf.{usable};
-ghost use Rattle.model.specs.Turns.{in-turn, took};
 ghost use Rattle.layout.specs.Numbers.{instance-in, Laid};
 ghost use Rattle.walk.specs.Marks.{above-of, above-length};
-ghost use Rattle.leaves.specs.LeafLeasts.{short-at, taken-from};
+ghost use Rattle.leaves.specs.LeafLeasts.{taken-in, taken-from};
 use crate::counts::UPPER;
 use crate::marks::not_off_of;
 use crate::marks::usable_of;
@@ -86,7 +84,7 @@ pub fn sum_until(numbers: &[u64], t: usize, above: &[u8]) -> Taken
     requires { ⌜ Laid (now numbers) ⌝ }
     requires { ⌜ t < instance-in (now numbers) .periods ⌝ }
     requires { ⌜ length (now above) ≡ above-length ⌝ }
-    ensures { λ r. ⌜ r ≡ record { short = short-at (instance-in (now (numbers .entry))) (above-of (instance-in (now (numbers .entry))) (now (above .entry))) t; units = took (in-turn (instance-in (now (numbers .entry))) (above-of (instance-in (now (numbers .entry))) (now (above .entry))) t) (instance-in (now (numbers .entry)) .demand at t + instance-in (now (numbers .entry)) .spare at t) } ⌝ }
+    ensures { λ r. ⌜ r ≡ taken-in (instance-in (now (numbers .entry))) (above-of (instance-in (now (numbers .entry))) (now (above .entry))) t ⌝ }
 {
     let need = demand_at(numbers, t) + spare_at(numbers, t);
     let upper = above[UPPER + t];

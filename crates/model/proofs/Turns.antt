@@ -1,10 +1,10 @@
 -- Document 02, [2]: what is taken is the fewest that reach, or all; and `short` is the same whether its sum is ended early or not.
 use mathlib.Core.Path.{_≡_, refl, sym, _∙_, ap, ap₂}
 use mathlib.Core.Bool.{Bool, true, false, not}
-use mathlib.Core.List.{List, [], _∷_}
+use mathlib.Core.List.{List, [], _∷_, _++_}
 use mathlib.Core.Logic.{_↔_}
 use mathlib.Core.Option.{Option, none, some}
-use Prim.Native.Nat.{ℕ, zero, suc, _+_, _-_, _≤_, _<_, min}
+use Prim.Native.Nat.{ℕ, zero, suc, _-_, _≤_, _<_, min}
 use native.Mathlib.Omega.{arith}
 use lib.Dec.{T, ltb, ltb→lt, nltb→le}
 use lib.ListN.{length, take, length-take}
@@ -53,6 +53,15 @@ fewest-one l d m n F G = go (ltb (total l) d) (ltb→lt (total l) d) (nltb→le 
         same true i j c k l = absurd (omega (arith, G .fewer m (i tt), F .enough (g tt)))
         same false i j true k l = absurd (omega (arith, F .fewer n (k tt), G .enough (g tt)))
         same false i j false k l = omega (arith, j tt, l tt)
+
+-- what stands behind numbers that reach d is not read
+pub took-stops : (k l : List ℕ) (d : ℕ) → d ≤ total k → took (k ++ l) d ≡ took k d
+unfolding took
+took-stops [] [] d h = refl
+took-stops [] (y ∷ l) zero h = refl
+took-stops [] (y ∷ l) (suc d) h = absurd (omega arith)
+took-stops (x ∷ k) l zero h = refl
+took-stops (x ∷ k) l (suc d) h = ap suc (took-stops k l (suc d - x) (omega arith))
 
 -- ---- `short` is the same
 

@@ -1,13 +1,13 @@
 -- `units_taken` meets its contract: a known problem is valid, and decides; under none there is no answer.
-use mathlib.Core.Path.{_≡_, sym, ap, _∙_}
-use mathlib.Core.Bool.{Bool, true, cond}
+use mathlib.Core.Path.{_≡_, sym, _∙_}
+use mathlib.Core.Bool.{true}
 use borrow.Author.Needs.{needs}
 use lib.ListN.{length, length-map}
-use Rattle.model.specs.Held.{view, Valid}
+--
 use Rattle.model.proofs.Valid.{valid-is}
-use Rattle.docket.specs.declared.taking.TakenAnswer.the-variants.{NoProblem}
+--
 use Rattle.docket.specs.Lodging.{trusted}
-use Rattle.docket.specs.Taking.{taken-under, taken-of}
+--
 use Rattle.docket.proofs.HoldingAnswers.{knows-valid}
 use Rattle.docket.proofs.Questions.{told-known, told-none}
 use Rattle.docket.proofs.Docket.units_taken.Statement.{statement}

@@ -1,15 +1,16 @@
 -- `answer_taken` meets its contract: whether the question fits decides.
-use mathlib.Core.Path.{_≡_, refl, sym, ap, ap₂, _∙_}
-use mathlib.Core.Bool.{Bool, true, false, cond}
-use Prim.Native.Nat.{ℕ, _-_, _≤_}
+use mathlib.Core.Path.{_≡_, sym, ap, _∙_}
+use mathlib.Core.Bool.{Bool, cond}
+use Prim.Native.Nat.{ℕ, _-_}
 use native.Mathlib.Omega.{arith}
-use borrow.Author.Needs.{needs}
+--
 use lib.ListN.{length, length-map}
 use lib.Seq.{length-take-le}
 use Rattle.model.specs.Held.{view}
-use Rattle.docket.specs.declared.taking.TakenAnswer.{TakenAnswer}
+--
 use Rattle.docket.specs.declared.taking.TakenAnswer.the-variants.{Unfit, Taken}
-use Rattle.docket.specs.Taking.{fits-in, fits, asked, taken-in, taken-under}
+use Rattle.leaves.specs.LeafLeasts.{taken-in}
+use Rattle.docket.specs.Taking.{fits-in, fits, asked, taken-under}
 use Rattle.docket.proofs.taking.answer_taken.Statement.{statement}
 use Rattle.docket.proofs.taking.answer_taken.Tie as tie
 

@@ -1,16 +1,17 @@
 -- `take_units` meets its contract: the bytes above are what the question names, as far as they are read.
-use mathlib.Core.Path.{_≡_, refl, sym, ap, ap₂, subst, _∙_}
+use mathlib.Core.Path.{_≡_, ap, subst, _∙_}
 use mathlib.Core.List.{List}
-use Prim.Native.Nat.{ℕ, _+_, _-_, _≤_, _<_}
+use Prim.Native.Nat.{ℕ, _+_, _-_}
 use native.Mathlib.Omega.{arith}
 use borrow.Author.Needs.{needs}
-use lib.ListN.{length, set, length-set}
+use lib.ListN.{set}
 use Rattle.model.specs.Instance.{Instance}
 use Rattle.model.specs.Held.{view}
 use Rattle.walk.specs.Marks.{above-of, upper-begin}
-use Rattle.leaves.specs.declared.short.Taken.{Taken}
-use Rattle.docket.specs.Taking.{FitQuestion, taken-in}
-use Rattle.docket.proofs.Questions.{fits-is, t-within, statuses-first, laid-long, taken-asked}
+--
+use Rattle.leaves.specs.LeafLeasts.{taken-in}
+use Rattle.docket.specs.Taking.{FitQuestion}
+use Rattle.docket.proofs.Questions.{fits-is, t-within, statuses-first, taken-asked}
 use Rattle.docket.proofs.taking.take_units.Statement.{statement}
 use Rattle.docket.proofs.taking.take_units.Tie as tie
 

@@ -1,5 +1,5 @@
 -- `take_by_number` meets its contract. The loop's invariant: of the units passed, those not fixed off are taken, and with fewer the sum was below the need.
-use mathlib.Core.Path.{_≡_, refl, sym, ap, ap₂, _∙_}
+use mathlib.Core.Path.{_≡_, sym, ap, ap₂, _∙_}
 use mathlib.Core.List.{List, []}
 use Prim.Native.Nat.{ℕ, suc, _+_, _*_, _-_, _≤_, _<_}
 use native.Mathlib.Nat.{mul-le-mul-right}
@@ -19,7 +19,7 @@ use Rattle.layout.proofs.Ranks.{ranks-long}
 use Rattle.walk.specs.Marks.{mark-of, above-of}
 use Rattle.walk.proofs.AboveMarks.{marks-same}
 use Rattle.leaves.specs.LeafLeasts.{taken-from}
-use Rattle.leaves.proofs.Takings.{either, may, Passed, passed-none, passed-few, passed-more, passed-enough, passed-all}
+use Rattle.leaves.proofs.Takings.{either, Passed, passed-none, passed-few, passed-more, passed-enough, passed-all}
 use Rattle.leaves.proofs.Shorts.{usable-rank, rank-may, rank-value, adds-most, pU-small, by-number}
 use Rattle.leaves.proofs.short.take_by_number.Statement.{statement}
 use Rattle.leaves.proofs.short.take_by_number.Tie as tie
