@@ -19,22 +19,80 @@ const ALONE: Around = Around {
     after: "",
 };
 
+/// The demand and the spare of every period.
+#[derive(Clone, Copy)]
+struct Loads {
+    demand: u64,
+    spare: u64,
+}
+
+/// More than any 32 units give.
+const BEYOND: Loads = Loads {
+    demand: 320_000,
+    spare: 320_000,
+};
+
+/// More than any 31 of the 32 units give, and less than all of them: their pU are all different, neither rising nor falling by number, and
+/// sum to 143,447, and the smallest is 1,642, so that the largest 31 sum to 141,805.
+const ONLY_ALL: Loads = Loads {
+    demand: 140_000,
+    spare: 3_000,
+};
+
+/// Leaves of one line, the lines around their tree, and the loads under which all of them hold.
+struct Leaves {
+    loads: Loads,
+    around: Around,
+    leaf: &'static str,
+}
+
 /// Unit 1 is on in period 1.
 const UNIT_ON: Around = Around {
     before: "split=1,1\nshort=1\n",
     after: "",
 };
 
-/// At most 31 of the 32 units are on in period 2, in which no status is split.
-const COUNTED: Around = Around {
-    before: "count=2,31\n",
-    after: "short=2\n",
+const STUCK: Leaves = Leaves {
+    loads: BEYOND,
+    around: UNIT_ON,
+    leaf: "stuck=1\n",
+};
+
+const SHORT: Leaves = Leaves {
+    loads: BEYOND,
+    around: UNIT_ON,
+    leaf: "short=1\n",
+};
+
+/// At most 31 of the 32 units are on in period 2, in which no status is split; all of them together are short.
+const SHORT_COUNTED: Leaves = Leaves {
+    loads: BEYOND,
+    around: Around {
+        before: "count=2,31\n",
+        after: "short=2\n",
+    },
+    leaf: "short=2\n",
+};
+
+/// The same, but all of them together reach demand and spare, so that the largest 31 have to be found, and each leaf takes all of these: no
+/// upper count lets a leaf take more. Where all 32 units have to be on, none can be off, and unit 1 is stuck.
+const SHORT_LARGEST: Leaves = Leaves {
+    loads: ONLY_ALL,
+    around: Around {
+        before: "count=2,31\n",
+        after: "split=1,2\ncrowd=2\nstuck=1\n",
+    },
+    leaf: "short=2\n",
 };
 
 /// Unit 1 is on in period 1, and no unit may be.
-const CROWDED: Around = Around {
-    before: "split=1,1\nshort=1\ncount=1,0\n",
-    after: "short=1\n",
+const CROWD: Leaves = Leaves {
+    loads: BEYOND,
+    around: Around {
+        before: "split=1,1\nshort=1\ncount=1,0\n",
+        after: "short=1\n",
+    },
+    leaf: "crowd=1\n",
 };
 
 /// The afternoon peak: 32 units, 48 periods and 60 price leaves, with dear multipliers.
@@ -70,11 +128,13 @@ fn prices(name: &'static str, limit: usize, times: Times, off: bool) -> Case {
     }
 }
 
-/// A tree that fills its room with leaves of one line, under demands that no units can meet; unit 1 is stuck where it is on in period 1.
-fn lines(name: &'static str, limit: usize, around: Around, leaf: &'static str) -> Case {
+/// A tree that fills its room with leaves of one line; unit 1 is stuck where it is on in period 1 or 2.
+fn lines(name: &'static str, limit: usize, leaves: &Leaves) -> Case {
     let mut r = Random::new();
-    let problem = with_first_unit_stuck(problem(&mut r, MOST, 320_000, 320_000, false));
-    let tree = largest_tree(around, left(limit, &problem), || leaf.to_string());
+    let Loads { demand, spare } = leaves.loads;
+    let problem = with_first_unit_stuck(problem(&mut r, MOST, demand, spare, false));
+    let room = left(limit, &problem);
+    let tree = largest_tree(leaves.around, room, || leaves.leaf.to_string());
     Case {
         name,
         input: problem + &tree,
@@ -141,28 +201,36 @@ pub fn all() -> Vec<Case> {
         peak("peak, 98 states, TD 1", MOST_STARTS, true),
         prices("65,536: price leaves", LISTING_LIMIT, MOST, true),
         prices("65,536: the same, TD 1", LISTING_LIMIT, MOST_STARTS, true),
-        lines("65,536: stuck leaves", LISTING_LIMIT, UNIT_ON, "stuck=1\n"),
-        lines("65,536: short leaves", LISTING_LIMIT, UNIT_ON, "short=1\n"),
+        lines("65,536: stuck leaves", LISTING_LIMIT, &STUCK),
+        lines("65,536: short leaves", LISTING_LIMIT, &SHORT),
         lines(
             "65,536: short leaves under a count",
             LISTING_LIMIT,
-            COUNTED,
-            "short=2\n",
+            &SHORT_COUNTED,
         ),
-        lines("65,536: crowd leaves", LISTING_LIMIT, CROWDED, "crowd=1\n"),
+        lines(
+            "65,536: short leaves, largest first",
+            LISTING_LIMIT,
+            &SHORT_LARGEST,
+        ),
+        lines("65,536: crowd leaves", LISTING_LIMIT, &CROWD),
         pieces("65,536: nothing but end="),
         schedules("nine schedules of 32 x 48", 9),
         prices("1,048,576: price leaves", TEXT_LIMIT, MOST, true),
         prices("1,048,576: the same, TD 1", TEXT_LIMIT, MOST_STARTS, true),
-        lines("1,048,576: stuck leaves", TEXT_LIMIT, UNIT_ON, "stuck=1\n"),
-        lines("1,048,576: short leaves", TEXT_LIMIT, UNIT_ON, "short=1\n"),
+        lines("1,048,576: stuck leaves", TEXT_LIMIT, &STUCK),
+        lines("1,048,576: short leaves", TEXT_LIMIT, &SHORT),
         lines(
             "1,048,576: short leaves under a count",
             TEXT_LIMIT,
-            COUNTED,
-            "short=2\n",
+            &SHORT_COUNTED,
         ),
-        lines("1,048,576: crowd leaves", TEXT_LIMIT, CROWDED, "crowd=1\n"),
+        lines(
+            "1,048,576: short leaves, largest first",
+            TEXT_LIMIT,
+            &SHORT_LARGEST,
+        ),
+        lines("1,048,576: crowd leaves", TEXT_LIMIT, &CROWD),
         damaged(
             "1,048,576: TD 1, damaged end",
             prices("", TEXT_LIMIT - 1, MOST_STARTS, true),

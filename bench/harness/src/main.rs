@@ -26,7 +26,7 @@ fn main() {
     }
     let names: Vec<String> = words.collect();
     println!(
-        "{:37} {:>9} {:>6} {:7} {:>10} {:>10} {:>6} {:>10} {:>6}",
+        "{:38} {:>9} {:>6} {:7} {:>10} {:>10} {:>6} {:>10} {:>6}",
         "input", "bytes", "texts", "through", "proved ms", "peer ms", "ratio", "all ms", "ratio"
     );
     for case in cases::all() {
@@ -86,7 +86,7 @@ fn run(case: &Case, runs: usize) {
         }
     }
     println!(
-        "{:37} {:>9} {:>6} {:7} {:>10.3} {:>10.3} {:>6.2} {:>10.3} {:>6.2}",
+        "{:38} {:>9} {:>6} {:7} {:>10.3} {:>10.3} {:>6.2} {:>10.3} {:>6.2}",
         case.name,
         input.len(),
         texts,

@@ -1,7 +1,7 @@
 //! A tree's text, judged line by line.
 use crate::least::{is_stuck, leaf_value, OFF, ON};
 use crate::lines::Lines;
-use crate::period::{is_crowd, is_short};
+use crate::period::{is_crowd, sum_in_order, Orders};
 use crate::problem::{Problem, MOST_PERIODS, MOST_UNITS};
 use crate::Refusal;
 
@@ -18,10 +18,11 @@ pub struct Figures {
     pub leaves: u64,
 }
 
-/// What stands above the next node: the statuses by unit and period, and the upper and the lower count of each period, all units and 0
-/// where there is none.
+/// The orders in which a short leaf takes the units, and what stands above the next node: the statuses by unit and period, and the upper
+/// and the lower count of each period, all units and 0 where there is none.
 struct Reader<'a, const ALL: bool> {
     problem: &'a Problem,
+    orders: Orders,
     lines: Lines<'a>,
     fixed: [u8; MOST_UNITS * MOST_PERIODS],
     upper: [usize; MOST_PERIODS],
@@ -37,6 +38,7 @@ pub fn read<const ALL: bool>(
 ) -> Result<Figures, Refusal> {
     let mut reader = Reader::<ALL> {
         problem,
+        orders: Orders::new(problem),
         lines: Lines::new(text, from, 2),
         fixed: [0; MOST_UNITS * MOST_PERIODS],
         upper: [problem.units; MOST_PERIODS],
@@ -100,7 +102,10 @@ impl<const ALL: bool> Reader<'_, ALL> {
     #[inline(always)]
     fn read_short(&mut self) -> Result<(), u64> {
         let t = self.take_one(b"short=", self.problem.periods)?;
-        if !is_short(self.problem, t, &self.fixed, self.upper[t]) {
+        let upper = self.upper[t];
+        let sum = sum_in_order(self.problem, &self.orders, t, &self.fixed, upper);
+        debug_assert!(sum.taken <= upper);
+        if !sum.short {
             return self.refuse_last(33);
         }
         Ok(())

@@ -1,6 +1,6 @@
 -- What the problem of a list of numbers has, where it stands in the list.
 use mathlib.Core.Path.{_≡_, refl, sym, ap, _∙_}
-use mathlib.Core.List.{List, _∷_}
+use mathlib.Core.List.{List, _∷_, map}
 use Prim.Native.Nat.{ℕ, zero, suc, _+_, _-_, _*_, _≤_, _<_}
 use native.Mathlib.Omega.{arith}
 use lib.ListN.{length, getD, take, drop, length-drop}
@@ -9,6 +9,7 @@ use Rattle.model.specs.declared.generator.Generator.{Generator}
 use Rattle.model.specs.Instance.{_at_}
 use Rattle.model.specs.Held.{view, blank-generator}
 use Rattle.layout.specs.Ranks.{ranked}
+use Rattle.layout.proofs.Ranks.{ranked-long, map-at}
 use Rattle.layout.specs.Numbers.{generator-in, generators-in, problem-in, instance-in}
 
 module _ (v : List ℕ) where
@@ -51,9 +52,13 @@ module _ (v : List ℕ) where
     pub pU-at : v at (98 + u * 16 + 4) ≡ getD (instance-in v .units) u blank-generator .pU
     pU-at = sym (ap (λ (g : Generator). g .pU) unit-at ∙ getD-drop (98 + u * 16) v 4 0)
 
-    pub rank-at : take (length (instance-in v .units)) (drop 610 v) ≡ ranked (instance-in v .units) → v at (610 + u) ≡ getD (ranked (instance-in v .units)) u 0
-    rank-at e =
-        sym (getD-take (length (instance-in v .units)) (drop 610 v) u 0 inside ∙ getD-drop 610 v u 0) ∙ ap (λ (l : List ℕ). getD l u 0) e
+    -- what a rank is of, from k on
+    pub of-rank-at : (f : ℕ → ℕ) (k : ℕ) → take (length (instance-in v .units)) (drop k v) ≡ map f (ranked (instance-in v .units))
+        → v at (k + u) ≡ f (getD (ranked (instance-in v .units)) u 0)
+    of-rank-at f k e =
+        sym (getD-take (length (instance-in v .units)) (drop k v) u 0 inside ∙ getD-drop k v u 0)
+        ∙ ap (λ (l : List ℕ). getD l u 0) e
+        ∙ map-at f (ranked (instance-in v .units)) u (omega (arith, inside, ranked-long (instance-in v .units)))
 
   module _ (t : ℕ) (within : t < instance-in v .periods) where
     pub demand-at : v at (2 + t) ≡ instance-in v .demand at t

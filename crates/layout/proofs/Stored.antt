@@ -1,16 +1,16 @@
 -- The problem's numbers are stored from an array's front, piece after piece: the counts, the demand, the spare, and one generator after the other.
 use mathlib.Core.Path.{_≡_, refl, sym, ap, ap₂, _∙_}
-use mathlib.Core.List.{List, [], _∷_, _++_, append-nil, append-assoc}
+use mathlib.Core.List.{List, [], _∷_, _++_, map, append-nil, append-assoc}
 use Prim.Native.Nat.{ℕ, zero, suc, _+_, _*_, _<_, _≤_}
 use native.Mathlib.Numerals.{add-one}
 use native.Mathlib.Omega.{arith}
-use lib.ListN.{length, getD, set, take, drop, replicate, length-append, take-append-drop}
+use lib.ListN.{length, getD, set, take, drop, replicate, length-append, length-map, take-append-drop}
 use lib.Seq.{paste, length-take-le, take-all, take-at, drop-length}
 use Rattle.model.specs.declared.generator.Generator.{Generator}
 use Rattle.model.specs.declared.arrays.Problem.{Problem}
-use Rattle.model.specs.Held.{view, pad, blank-generator}
-use Rattle.layout.specs.Numbers.{generator-numbers, all-numbers, laid-out, ranked-out}
-use Rattle.layout.specs.Ranks.{ranked}
+use Rattle.model.specs.Held.{blank-generator}
+use Rattle.layout.specs.Numbers.{generator-numbers, all-numbers, laid-out, ranks-of, ranked-out}
+use Rattle.layout.specs.Ranks.{pU-of, place-of}
 use Rattle.layout.proofs.Fronts.{front, front-more}
 use Rattle.layout.proofs.Places.{all-long, laid-long}
 
@@ -83,14 +83,21 @@ module _ (p : Problem) (demand-long : length (p .demand) ≡ 48) (spare-long : l
         ∙ ap (λ (l : List ℕ). laid-out p ++ l) (drop-length d)
         ∙ append-nil (laid-out p)
 
-  -- with the ranks behind it: they fill the array
-  pub ranked-stored : (numbers ranks v w : List ℕ) → numbers ≡ laid-out p → ranks ≡ pad 0 32 (ranked (view p .units)) → length ranks ≡ 32
-      → v ≡ stored (replicate 642 0) 0 numbers → w ≡ stored v 610 ranks → w ≡ ranked-out p
+  -- with what the ranks are of behind it: they fill the array
+  pub ranked-stored : (numbers ranks sizes places v w x : List ℕ) → numbers ≡ laid-out p → ranks ≡ ranks-of p → length ranks ≡ 32
+      → sizes ≡ map pU-of ranks → places ≡ map (place-of (p .periods)) ranks
+      → v ≡ stored (replicate 674 0) 0 numbers → w ≡ stored v 610 sizes → x ≡ stored w 642 places → x ≡ ranked-out p
   unfolding ranked-out
-  ranked-stored numbers ranks v w laid order many first second =
+  ranked-stored numbers ranks sizes places v w x laid order many sized placed first second third =
       let long : length numbers ≡ 610 = ap length laid ∙ laid-long p demand-long spare-long units-long in
-      second
-      ∙ front-more numbers (replicate 642 0) v ranks 610 (first ∙ front-more [] (replicate 642 0) (replicate 642 0) numbers 0 refl refl) long
-      ∙ ap (λ (k : ℕ). (numbers ++ ranks) ++ drop k (replicate 642 0)) (length-append numbers ranks ∙ let e : length numbers + length ranks ≡ 642 = omega (arith, long, many) in e)
-      ∙ append-nil (numbers ++ ranks)
-      ∙ ap₂ _++_ laid order
+      let sizes-long : length sizes ≡ 32 = ap length sized ∙ length-map ranks pU-of ∙ many in
+      let places-long : length places ≡ 32 = ap length placed ∙ length-map ranks (place-of (p .periods)) ∙ many in
+      let both-long : length (numbers ++ sizes) ≡ 642 = length-append numbers sizes ∙ omega (arith, long, sizes-long) in
+      let all-long : length ((numbers ++ sizes) ++ places) ≡ 674 = length-append (numbers ++ sizes) places ∙ omega (arith, both-long, places-long) in
+      third
+      ∙ front-more (numbers ++ sizes) (replicate 674 0) w places 642
+      (second ∙ front-more numbers (replicate 674 0) v sizes 610 (first ∙ front-more [] (replicate 674 0) (replicate 674 0) numbers 0 refl refl) long) both-long
+      ∙ ap (λ (k : ℕ). ((numbers ++ sizes) ++ places) ++ drop k (replicate 674 0)) all-long
+      ∙ append-nil ((numbers ++ sizes) ++ places)
+      ∙ append-assoc numbers sizes places
+      ∙ ap₂ _++_ laid (ap₂ _++_ (sized ∙ ap (map pU-of) order) (placed ∙ ap (map (place-of (p .periods))) order))

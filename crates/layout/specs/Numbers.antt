@@ -1,10 +1,10 @@
 -- A problem's numbers in one list of 610: the periods T, the units, 48 demands, 48 spares, and 16 numbers for each of 32
 -- generators, on being 0 or 1. Of the demands and the spares the
--- first T are the problem's, of the generators as many as it has units. A tree is read under 642: behind those the ranks of the units, the
--- largest first.
+-- first T are the problem's, of the generators as many as it has units. A tree is read under 674: behind those, for the units in the order of
+-- their ranks, the largest first, 32 pU and 32 places where their statuses begin.
 use mathlib.Core.Path.{_≡_}
 use mathlib.Core.Bool.{not, cond}
-use mathlib.Core.List.{List, [], _∷_, _++_}
+use mathlib.Core.List.{List, [], _∷_, _++_, map}
 use Prim.Native.Nat.{ℕ, zero, suc, _+_, _*_}
 use lib.Dec.{eqb}
 use lib.ListN.{length, take, drop}
@@ -13,7 +13,7 @@ use Rattle.model.specs.declared.arrays.Problem.{Problem}
 use Rattle.model.specs.Instance.{Instance, _at_}
 use Rattle.model.specs.Ranges.{WellFormed}
 use Rattle.model.specs.Held.{pad, view}
-use Rattle.layout.specs.Ranks.{ranked}
+use Rattle.layout.specs.Ranks.{pU-of, place-of, ranked}
 
 -- a generator's numbers
 abbrev pub generator-numbers : Generator → List ℕ
@@ -29,9 +29,13 @@ all-numbers (g ∷ gs) = generator-numbers g ++ all-numbers gs
 unfoldable pub laid-out : Problem → List ℕ
 laid-out p = p .periods ∷ p .units ∷ (p .demand ++ (p .spare ++ all-numbers (p .generators)))
 
--- the same with the units' ranks behind them, zeros after the last
+-- the units' ranks, zeros after the last
+abbrev pub ranks-of : Problem → List ℕ
+ranks-of p = pad 0 32 (ranked (view p .units))
+
+-- the same numbers with the pU and the place of each rank behind them
 unfoldable pub ranked-out : Problem → List ℕ
-ranked-out p = laid-out p ++ pad 0 32 (ranked (view p .units))
+ranked-out p = laid-out p ++ (map pU-of (ranks-of p) ++ map (place-of (p .periods)) (ranks-of p))
 
 -- the generator whose numbers the list begins with
 abbrev pub generator-of : List ℕ → Generator
@@ -82,8 +86,9 @@ instance-in v = record {
   units = generators-in v 0 (v at 1);
 }
 
--- the numbers are a well-formed problem's, with its units' ranks behind them
+-- the numbers are a well-formed problem's, with the pU and the places of its units behind them, in the order of their ranks
 pub record Laid (v : List ℕ) : Type 0 where
-  pub long : length v ≡ 642
+  pub long : length v ≡ 674
   pub well-formed : WellFormed (instance-in v)
-  pub in-order : take (length (instance-in v .units)) (drop 610 v) ≡ ranked (instance-in v .units)
+  pub sizes : take (length (instance-in v .units)) (drop 610 v) ≡ map pU-of (ranked (instance-in v .units))
+  pub places : take (length (instance-in v .units)) (drop 642 v) ≡ map (place-of (instance-in v .periods)) (ranked (instance-in v .units))

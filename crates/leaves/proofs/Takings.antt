@@ -17,6 +17,7 @@ use Rattle.model.specs.Leaf.{unless-off, those}
 use Rattle.model.specs.Turns.{took, Fewest}
 use Rattle.model.proofs.Largest.{take-total}
 use Rattle.model.proofs.Turns.{took-is, fewest-one}
+use Rattle.layout.proofs.Ranks.{map-at}
 --
 use Rattle.leaves.specs.LeafLeasts.{taken-from}
 
@@ -39,11 +40,6 @@ first-more (suc i) (x ∷ l) h = omega (arith, first-more i l (omega arith))
 
 first-below : (i n : ℕ) (l : List ℕ) → i ≤ n → total (take i l) ≤ total (take n l)
 first-below i n l h = omega (arith, take-total i (take n l), ap total (take-take i n l h))
-
-map-at : (f : ℕ → ℕ) (l : List ℕ) (j : ℕ) → j < length l → getD (map f l) j 0 ≡ f (getD l j 0)
-map-at f [] j h = absurd (omega arith)
-map-at f (x ∷ l) zero h = refl
-map-at f (x ∷ l) (suc j) h = map-at f l j (omega arith)
 
 -- ---- those that pass, among the first i and among all
 
@@ -168,11 +164,14 @@ module _ (p : ℕ → Bool) (f : ℕ → ℕ) (c : List ℕ) (K d : ℕ) where
         ended (record { fewer = P .fewer; enough = λ h. omega (arith, h, all, P .sum); all = λ h. e }) (ap (λ (x : ℕ). ltb x d) all)
 
     -- they reach d
-    pub passed-enough : d ≤ s → record { short = ltb s d; units = k } ≡ taken-from (values p f c K) d
+    passed-enough : d ≤ s → record { short = ltb s d; units = k } ≡ taken-from (values p f c K) d
     passed-enough h =
         let most : s ≤ total all-taken = omega (arith, P .sum, take-total k all-taken) in
         ended (record { fewer = P .fewer; enough = λ j. omega (arith, h, P .sum); all = λ j. absurd (omega (arith, j, h, most)) })
         (le-ltb s d h ∙ sym (le-ltb (total all-taken) d (omega arith)))
+
+    pub passed-reached : d ≤ s → record { short = false; units = k } ≡ taken-from (values p f c K) d
+    passed-reached h = ap (λ (b : Bool). record { short = b; units = k }) (sym (le-ltb s d h)) ∙ passed-enough h
 
     -- K are taken
     pub passed-most : K ≤ k → record { short = ltb s d; units = k } ≡ taken-from (values p f c K) d

@@ -13,9 +13,8 @@ use crate::marks::usable_of;
 use layout::demand_at;
 use layout::pU_at;
 use layout::periods_in;
-use layout::ranking::pU_of;
-use layout::ranking::rank_at;
-use layout::ranking::unit_of;
+use layout::ranking::place_at;
+use layout::ranking::size_at;
 use layout::spare_at;
 use layout::units_in;
 
@@ -39,7 +38,13 @@ fn take_by_number(numbers: &[u64], t: usize, above: &[u8], need: u64) -> Taken
     let mut taken = 0;
     let mut begin = 0;
     let mut u = 0;
-    while u < units && sum < need {
+    while u < units {
+        if sum >= need {
+            return Taken {
+                short: false,
+                units: taken,
+            };
+        }
         let mark = above[begin + t];
         sum += usable_of(mark, pU_at(numbers, u));
         taken += not_off_of(mark);
@@ -60,15 +65,19 @@ fn take_largest(numbers: &[u64], t: usize, above: &[u8], need: u64, most: usize)
     requires { ⌜ need ≤ 640_000 ⌝ }
     ensures { λ r. ⌜ r ≡ taken-from (take most (falling (usable (instance-in (now (numbers .entry)) .units) (above-of (instance-in (now (numbers .entry))) (now (above .entry)) .marks) t))) need ⌝ }
 {
-    let n = periods_in(numbers);
     let units = units_in(numbers);
     let mut sum = 0;
     let mut taken = 0;
     let mut i = 0;
-    while i < units && taken < most && sum < need {
-        let rank = rank_at(numbers, i);
-        let mark = above[unit_of(rank) * n + t];
-        sum += usable_of(mark, pU_of(rank));
+    while taken < most && i < units {
+        if need <= sum {
+            return Taken {
+                short: false,
+                units: taken,
+            };
+        }
+        let mark = above[place_at(numbers, i) + t];
+        sum += usable_of(mark, size_at(numbers, i));
         taken += not_off_of(mark);
         i += 1;
     }

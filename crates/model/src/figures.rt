@@ -16,19 +16,29 @@ pub struct TreeFigures {
     pub leaves: usize,
 }
 
+// The same bound, made anew: the bytes between its parts are not copied.
+fn same_bound(b: Bound) -> Bound
+    ensures { λ r. ⌜ r ≡ b ⌝ }
+{
+    match b {
+        Bound::Never => Bound::Never,
+        Bound::Number(x) => Bound::Number(x),
+    }
+}
+
 // The smaller of two bounds, never being above every number.
 fn lower_bound(a: Bound, b: Bound) -> Bound
     ensures { λ r. ⌜ r ≡ lower a b ⌝ }
 {
     match a {
-        Bound::Never => b,
+        Bound::Never => same_bound(b),
         Bound::Number(x) => match b {
-            Bound::Never => a,
+            Bound::Never => Bound::Number(x),
             Bound::Number(y) => {
                 if x <= y {
-                    return a;
+                    return Bound::Number(x);
                 }
-                b
+                Bound::Number(y)
             }
         },
     }
@@ -46,6 +56,18 @@ impl TreeFigures {
         }
     }
 
+    // The same figures, made anew.
+    pub fn same(self) -> TreeFigures
+        ensures { λ r. ⌜ r ≡ self ⌝ }
+    {
+        let bound = self.bound;
+        TreeFigures {
+            bound: same_bound(bound),
+            splits: self.splits,
+            leaves: self.leaves,
+        }
+    }
+
     // With one split line more.
     pub fn with_split(self) -> TreeFigures
         requires { ⌜ self .splits < 2000000 ⌝ }
@@ -53,7 +75,7 @@ impl TreeFigures {
     {
         let bound = self.bound;
         TreeFigures {
-            bound,
+            bound: same_bound(bound),
             splits: self.splits + 1,
             leaves: self.leaves,
         }

@@ -37,6 +37,24 @@ pub enum Read {
     },
 }
 
+// The same, made anew: the bytes between its parts are not copied.
+pub fn same_read(read: Read) -> Read
+    ensures { λ r. ⌜ r ≡ read ⌝ }
+{
+    match read {
+        Read::Refused { number, line } => Read::Refused { number, line },
+        Read::Tree {
+            next,
+            line,
+            figures,
+        } => Read::Tree {
+            next,
+            line,
+            figures: figures.same(),
+        },
+    }
+}
+
 // The kinds of leaves, by their first lines.
 pub enum LeafKind {
     Short,

@@ -15,6 +15,7 @@ use crate::forking::read_fork_line;
 use crate::leaf::LeafKind;
 use crate::leaf::Read;
 use crate::leaf::read_leaf;
+use crate::leaf::same_read;
 use model::figures::TreeFigures;
 
 // The node lines: of a fork, with two trees below it, or of a leaf.
@@ -128,7 +129,7 @@ fn read_split(
             above[place] = second.byte;
             let two = read_node(numbers, text, next, line, depth, above, figures);
             above[place] = was;
-            two
+            same_read(two)
         }
     }
 }

@@ -57,11 +57,17 @@ class LodgeFiles(unittest.TestCase):
 
 
 class Example(unittest.TestCase):
-    def test_it_stands_in_readme(self) -> None:
-        lines = (PYTHON / "example.py").read_text().splitlines()
-        shown = "".join(f"    {line}\n" if line else "\n" for line in lines)
+    def test_they_stand_in_readme(self) -> None:
         readme = (ROOT / "README.md").read_text()
-        self.assertTrue(f"\n\n{shown}\n" in readme, "README.md does not show example.py as it is")
+        for name in ("example.py", "units_taken.py"):
+            lines = (PYTHON / name).read_text().splitlines()
+            shown = "".join(f"    {line}\n" if line else "\n" for line in lines)
+            self.assertTrue(f"\n\n{shown}\n" in readme, f"README.md does not show {name} as it is")
+
+    def test_the_units_taken(self) -> None:
+        said = ["UnitsTaken(short=False, units=2)", "UnitsTaken(short=True, units=1)", "UnitsTaken(short=True, units=1)"]
+        ran = run_python(str(PYTHON / "units_taken.py"))
+        self.assertEqual((ran.returncode, ran.stdout.splitlines(), ran.stderr), (0, said, ""))
 
     def test_what_it_prints(self) -> None:
         said = [

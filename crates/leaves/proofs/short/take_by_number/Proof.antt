@@ -6,20 +6,20 @@ use native.Mathlib.Nat.{mul-le-mul-right}
 use native.Mathlib.Numerals.{add-one}
 use native.Mathlib.Omega.{arith}
 use borrow.Author.Needs.{needs}
-use borrow.Author.Tests.{ltb-true, ltb-false}
 use lib.ListN.{length, getD}
 use Rattle.model.specs.Instance.{_at_}
 use Rattle.model.specs.Held.{blank-generator}
 use Rattle.model.specs.Above.{Mark}
 use Rattle.model.specs.Largest.{total}
-use Rattle.model.specs.Leaf.{unless-off}
+use Rattle.model.specs.Leaf.{unless-off, usable}
 use Rattle.layout.specs.Ranks.{pU-of, ranks-from}
 use Rattle.layout.specs.Numbers.{instance-in}
 use Rattle.layout.proofs.Ranks.{ranks-long}
 use Rattle.walk.specs.Marks.{mark-of, above-of}
 use Rattle.walk.proofs.AboveMarks.{marks-same}
+use Rattle.leaves.specs.declared.short.Taken.{Taken}
 use Rattle.leaves.specs.LeafLeasts.{taken-from}
-use Rattle.leaves.proofs.Takings.{either, Passed, passed-none, passed-few, passed-more, passed-enough, passed-all}
+use Rattle.leaves.proofs.Takings.{values, Passed, passed-none, passed-few, passed-more, passed-reached, passed-all}
 use Rattle.leaves.proofs.Shorts.{usable-rank, rank-may, rank-value, adds-most, pU-small, by-number}
 use Rattle.leaves.proofs.short.take_by_number.Statement.{statement}
 use Rattle.leaves.proofs.short.take_by_number.Tie as tie
@@ -42,11 +42,11 @@ loop-holds : tie.Need-loop-holds Inv-loop μ-loop
 loop-holds c = (c .before .periods-in .ensures, c .units-in .ensures, omega arith, passed-none _ _ _ _ _)
 
 -- the next unit is one of the problem's
-inside : (c : tie.Then1 Inv-loop μ-loop) → let l = c .before .before in l .loop .u < length (instance-in (l .before .before .before .before .before .args .numbers .now) .units)
+inside : (c : tie.Else1 Inv-loop μ-loop) → let l = c .before .before in l .loop .u < length (instance-in (l .before .before .before .before .before .args .numbers .now) .units)
 inside c = omega (arith, c .before .before .loop .inv .1, c .before .loop-test .taken)
 
 -- its statuses are within those above
-within : (c : tie.Then1 Inv-loop μ-loop) →
+within : (c : tie.Else1 Inv-loop μ-loop) →
     let l = c .before .before in
     let s = l .before .before .before .before .before in
     (l .loop .begin + instance-in (s .args .numbers .now) .periods ≤ length (s .args .above .now)) × (s .args .t < instance-in (s .args .numbers .now) .periods)
@@ -69,7 +69,7 @@ usable-of-requires : tie.Need-usable-of-requires Inv-loop μ-loop
 usable-of-requires c κs = search needs
 
 -- its mark
-marked : (c : tie.Then1 Inv-loop μ-loop) →
+marked : (c : tie.Else1 Inv-loop μ-loop) →
     let l = c .before .before in
     let a = l .before .before .before .before .before .args in
     let P = instance-in (a .numbers .now) in
@@ -103,7 +103,7 @@ add-sum c =
       added c,
       adds-most (above-of P (s .args .above .now) .marks (l .loop .u) (s .args .t)) high,
       pU-small (P .units) (s .pre .0 .well-formed .units-good) (l .loop .u) (inside i),
-      ltb-true (l .loop .sum) (s .args .need) (i .if1 .taken),
+      i .if1 .left,
       s .pre .1 .1 .1,
     )
 
@@ -131,7 +131,7 @@ more c =
     let value = ap (λ (v : ℕ). total (unless-off x v [])) (sym (rank-value (P .units) (l .loop .u) (inside i))) in
     rw (counted, added k ∙ value)
     (passed-more (usable-rank m (a .t)) pU-of (ranks-from 0 (P .units)) (length (P .units)) (a .need) (l .loop .u) (l .loop .taken) (l .loop .sum) (l .loop .inv .3) x
-    (omega (arith, inside i, ranks-long 0 (P .units))) (omega (arith, inside i, passed-few _ _ _ _ _ _ _ _ (l .loop .inv .3))) (ltb-true _ _ (i .if1 .taken))
+    (omega (arith, inside i, ranks-long 0 (P .units))) (omega (arith, inside i, passed-few _ _ _ _ _ _ _ _ (l .loop .inv .3))) (i .if1 .left)
     (rank-may (P .units) few m (a .t) (l .loop .u) (inside i)))
 
 add-taken : tie.Need-add-taken Inv-loop μ-loop
@@ -154,18 +154,28 @@ loop-again c =
     let l = c .before .before .before .before .before .before in
     (l .loop .inv .0, l .loop .inv .1, omega (arith, l .loop .inv .0, l .loop .inv .2), rw (add-one (l .loop .u)) (more c))
 
-returns : tie.Need-returns Inv-loop μ-loop
-returns c =
-    let l = c .before in
-    let s = l .before .before .before .before .before in
+-- what is answered of those that were passed
+ended : (c : tie.At-loop Inv-loop μ-loop) (r : Taken) →
+    let s = c .before .before .before .before .before in
     let P = instance-in (s .args .numbers .now) in
-    let passed = l .loop .inv .3 in
-    let ended =
-    either (λ h. passed-enough _ _ _ _ _ _ _ _ passed (ltb-false _ _ (h .1 .left)))
-    (λ h. passed-all _ _ _ _ _ _ _ _ passed (omega (arith, h .left, l .loop .inv .1, ranks-long 0 (P .units)))) (c .loop-test .came) in
-    ended
+    let m = above-of P (s .args .above .now) .marks in
+    r ≡ taken-from (values (usable-rank m (s .args .t)) pU-of (ranks-from 0 (P .units)) (length (P .units))) (s .args .need)
+    → r ≡ taken-from (usable (P .units) m (s .args .t)) (s .args .need)
+ended c r e =
+    let s = c .before .before .before .before .before in
+    let P = instance-in (s .args .numbers .now) in
+    e
     ∙ ap (λ (v : List ℕ). taken-from v (s .args .need))
     (by-number (P .units) (s .pre .0 .well-formed .units-in .1) (above-of P (s .args .above .now) .marks) (s .args .t))
+
+returns : tie.Need-returns Inv-loop μ-loop
+returns c = let l = c .before .before in ended l _ (passed-reached _ _ _ _ _ _ _ _ (l .loop .inv .3) (c .if1 .taken))
+
+returns-2 : tie.Need-returns-2 Inv-loop μ-loop
+returns-2 c =
+    let l = c .before in
+    let P = instance-in (l .before .before .before .before .before .args .numbers .now) in
+    ended l _ (passed-all _ _ _ _ _ _ _ _ (l .loop .inv .3) (omega (arith, c .loop-test .left, l .loop .inv .1, ranks-long 0 (P .units))))
 
 pub take-by-number-spec : {M : Type 1} → statement M
 take-by-number-spec =
@@ -176,6 +186,7 @@ take-by-number-spec =
     periods-in-requires
     units-in-requires
     loop-holds
+    returns
     add-mark
     shared-slice-read-mark
     pU-at-requires
@@ -187,4 +198,4 @@ take-by-number-spec =
     add-u
     loop-less
     loop-again
-    returns)
+    returns-2)

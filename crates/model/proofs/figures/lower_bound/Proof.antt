@@ -12,6 +12,9 @@ use Rattle.model.proofs.figures.lower_bound.Tie as tie
 enum-told : tie.Need-enum-told
 enum-told c = search needs
 
+same-bound-requires : tie.Need-same-bound-requires
+same-bound-requires c κs = search needs
+
 enum-known-a : tie.Need-enum-known-a
 enum-known-a c = search needs
 
@@ -28,13 +31,16 @@ returns c =
     let fx : SFits w64 x = search needs in
     let fy : SFits w64 y = search needs in
     let test : leZ x y ≡ true = rw (toZ-ofZ w64 y fy, toZ-ofZ w64 x fx) at (c .if1 .taken) in
-    rw (c .before .before .before .before .before .a .given .1, c .before .before .b .given .1, test) refl
+    rw (toZ-ofZ w64 x fx, c .before .before .before .before .before .a .given .1, c .before .before .b .given .1, test) refl
 
 returns-2 : tie.Need-returns-2
-returns-2 c = rw (c .enum-told .given .1) refl
+returns-2 c = rw (c .before .enum-told .given .1) (c .same-bound .ensures)
 
 returns-3 : tie.Need-returns-3
-returns-3 c = rw (c .before .before .before .a .given .1, c .enum-told2 .given .1) refl
+returns-3 c =
+    let x = c .before .before .before .a .given .0 .0 in
+    let fx : SFits w64 x = search needs in
+    rw (toZ-ofZ w64 x fx, c .before .before .before .a .given .1, c .enum-told2 .given .1) refl
 
 returns-4 : tie.Need-returns-4
 returns-4 c =
@@ -43,13 +49,14 @@ returns-4 c =
     let fx : SFits w64 x = search needs in
     let fy : SFits w64 y = search needs in
     let test : leZ x y ≡ false = rw (toZ-ofZ w64 y fy, toZ-ofZ w64 x fx) at (c .if1 .left) in
-    rw (c .before .before .before .before .before .a .given .1, c .before .before .b .given .1, test) refl
+    rw (toZ-ofZ w64 y fy, c .before .before .before .before .before .a .given .1, c .before .before .b .given .1, test) refl
 
 pub lower-bound-spec : {M : Type 1} → statement M
 lower-bound-spec =
     tie.close
     (tie.spec
     enum-told
+    same-bound-requires
     enum-known-a
     enum-told-2
     enum-known-b

@@ -33,6 +33,7 @@ use Rattle.tree.proofs.node.read_split.Kinds as read-split-kinds
 use Rattle.tree.proofs.node.+read_node+read_split.Lts-read_split as read-split-lts
 use Rattle.model.proofs.figures.TreeFigures.with_split.Reads as with-split-reads
 use Rattle.tree.proofs.leaf.read_leaf.Reads as read-leaf-reads
+use Rattle.tree.proofs.leaf.same_read.Reads as same-read-reads
 use Rattle.tree.proofs.node.find_kind.Reads as find-kind-reads
 use Rattle.tree.proofs.forking.read_fork_line.Reads as read-fork-line-reads
 use Rattle.tree.proofs.node.+read_node+read_split.{statement}
@@ -77,6 +78,8 @@ abbrev read-split-calls : ℕ → read-split-lts.Claims
 read-split-calls t = (
   read-node-below t,
   read-node.Post,
+  same-read-reads.Asked,
+  same-read-reads.Learnt,
 )
 
 abbrev AtStart : ℕ → Type 0
@@ -315,6 +318,9 @@ read-split-slice-write-above-4 t c =
     let b = c .before .before in
     omega (arith, second-long t b, trees-start t (first-of t b) .pre .1 .1 .1 .1 .1)
 
+read-split-same-read-requires : (t : ℕ) → read-split-lts.Need-same-read-requires (read-split-calls t) (read-split-at t) read-split.Post
+read-split-same-read-requires t c κs = search needs
+
 read-split-same-length : (t : ℕ) → read-split-lts.Need-same-length (read-split-calls t) (read-split-at t) read-split.Post
 read-split-same-length t c = ap length (first-back t (c .before .before .before .before .before))
 
@@ -330,17 +336,18 @@ read-split-returns t c =
     )
 
 read-split-same-length-2 : (t : ℕ) → read-split-lts.Need-same-length-2 (read-split-calls t) (read-split-at t) read-split.Post
-read-split-same-length-2 t c = let r = c .before .before in simp length-set (second-long t r ∙ sym (trees-start t (first-of t r) .pre .1 .1 .1 .0 .1))
+read-split-same-length-2 t c = let r = c .before .before .before in simp length-set (second-long t r ∙ sym (trees-start t (first-of t r) .pre .1 .1 .1 .0 .1))
 
 read-split-returns-2 : (t : ℕ) → read-split-lts.Need-returns-2 (read-split-calls t) (read-split-at t) read-split.Post
 read-split-returns-2 t c =
-    let r = c .before .before in
+    let r = c .before .before .before in
     let b = first-of t r in
     let a = trees-start t b .args in
     let P = instance-in (a .numbers .now) in
     let g = r .before .before .before .before .one2 .given in
     let two = r .read-node2 in (
-      trees-both P (a .text .now) (a .at) (a .line) (a .figures) (above-of P (set (a .above .now) (a .first .place) (a .first .byte))) (a .depth)
+      c .same-read .ensures
+          ∙ trees-both P (a .text .now) (a .at) (a .line) (a .figures) (above-of P (set (a .above .now) (a .first .place) (a .first .byte))) (a .depth)
           (above-of P (set (a .above .now) (a .second .place) (a .second .byte))) (g .0 .0) (g .0 .1 .0) (g .0 .1 .1 .0) (two .result) (first-is t b _ (g .1))
           (two .ensures .0
           ∙ ap (λ (x : List ℕ). node-read P (a .text .now) (g .0 .0) (g .0 .1 .0) (g .0 .1 .1 .0) (above-of P (set x (a .second .place) (a .second .byte))) (a .depth)) (first-back t b)),
@@ -382,6 +389,7 @@ pub +read-node+read-split-spec : {M : Type 1} → statement M
     (read-split-slice-write-above-3 t)
     (read-split-read-node-requires-2 t)
     (read-split-slice-write-above-4 t)
+    (read-split-same-read-requires t)
     (read-split-same-length t)
     (read-split-returns t)
     (read-split-same-length-2 t)
