@@ -41,8 +41,7 @@ pub struct Sum {
     pub taken: usize,
 }
 
-/// The sum of the first of these units that are not fixed off in period t, `upper` at most and no more than reach `need`. A product leaves
-/// out a unit fixed off: no branch hangs on its status.
+/// The sum of the first of these units that are not fixed off in period t, `upper` at most and no more than reach `need`.
 #[inline(always)]
 fn take<const COUNTED: bool>(
     places: &[Place],
@@ -56,9 +55,9 @@ fn take<const COUNTED: bool>(
         if sum >= need || (COUNTED && taken == upper) {
             break;
         }
-        let free = (fixed[place.row as usize + t] & OFF) as u32 ^ 1;
-        sum += place.high * free;
-        taken += free;
+        let open = fixed[place.row as usize + t] != OFF;
+        sum += if open { place.high } else { 0 };
+        taken += open as u32;
     }
     Sum {
         short: sum < need,
