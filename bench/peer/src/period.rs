@@ -41,7 +41,8 @@ pub struct Sum {
     pub taken: usize,
 }
 
-/// The sum of the first of these units that are not fixed off in period t, `upper` at most and no more than reach `need`.
+/// The sum of the first of these units that are not fixed off in period t, `upper` at most and no more than reach `need`. A product leaves
+/// out a unit fixed off: no branch hangs on its status.
 #[inline(always)]
 fn take<const COUNTED: bool>(
     places: &[Place],
@@ -55,9 +56,9 @@ fn take<const COUNTED: bool>(
         if sum >= need || (COUNTED && taken == upper) {
             break;
         }
-        let open = fixed[place.row as usize + t] != OFF;
-        sum += if open { place.high } else { 0 };
-        taken += open as u32;
+        let free = (fixed[place.row as usize + t] & OFF) as u32 ^ 1;
+        sum += place.high * free;
+        taken += free;
     }
     Sum {
         short: sum < need,
