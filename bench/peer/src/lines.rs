@@ -104,6 +104,18 @@ impl<'a> Lines<'a> {
         if !self.begins(key) {
             return Err(12);
         }
+        self.take_row_after(key, n, least, most)
+    }
+
+    /// Takes such a line, which is known to begin with the key.
+    #[inline(always)]
+    pub fn take_row_after(
+        &mut self,
+        key: &[u8],
+        n: usize,
+        least: u64,
+        most: u64,
+    ) -> Result<(), u64> {
         let (next, count) = self.scan(self.at + key.len(), 0).ok_or(12u64)?;
         if count != n {
             return Err(14);
@@ -130,6 +142,16 @@ impl<'a> Lines<'a> {
         if !self.begins(key) {
             return Err(12);
         }
+        self.take_ranges_after(key, signed, ranges)
+    }
+
+    /// Takes such a line, which is known to begin with the key.
+    pub fn take_ranges_after(
+        &mut self,
+        key: &[u8],
+        signed: usize,
+        ranges: &[(u64, u64)],
+    ) -> Result<(), u64> {
         let (next, count) = self.scan(self.at + key.len(), signed).ok_or(12u64)?;
         if count != ranges.len() {
             return Err(14);

@@ -92,10 +92,10 @@ impl<const ALL: bool> Reader<'_, ALL> {
         Err(number)
     }
 
-    /// Takes a line of one number from 1 to `most`, and counts it from 0.
+    /// Takes a line of one number from 1 to `most`, known to begin with the key, and counts it from 0.
     #[inline(always)]
     fn take_one(&mut self, key: &[u8], most: usize) -> Result<usize, u64> {
-        self.lines.take_row(key, 1, 1, most as u64)?;
+        self.lines.take_row_after(key, 1, 1, most as u64)?;
         Ok(self.lines.values[0] as usize - 1)
     }
 
@@ -148,7 +148,7 @@ impl<const ALL: bool> Reader<'_, ALL> {
     fn read_split(&mut self, depth: usize) -> Result<(), u64> {
         let (units, periods) = (self.problem.units, self.problem.periods);
         self.lines
-            .take_ranges(b"split=", 0, &[(1, units as u64), (1, periods as u64)])?;
+            .take_ranges_after(b"split=", 0, &[(1, units as u64), (1, periods as u64)])?;
         let place =
             (self.lines.values[0] as usize - 1) * periods + self.lines.values[1] as usize - 1;
         if self.fixed[place] != 0 {
@@ -169,7 +169,7 @@ impl<const ALL: bool> Reader<'_, ALL> {
     fn read_count(&mut self, depth: usize) -> Result<(), u64> {
         let (units, periods) = (self.problem.units as u64, self.problem.periods as u64);
         self.lines
-            .take_ranges(b"count=", 0, &[(1, periods), (0, units - 1)])?;
+            .take_ranges_after(b"count=", 0, &[(1, periods), (0, units - 1)])?;
         let t = self.lines.values[0] as usize - 1;
         let count = self.lines.values[1] as usize;
         let (upper, lower) = (self.upper[t], self.lower[t]);

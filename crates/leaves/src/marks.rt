@@ -10,7 +10,7 @@ ghost use Rattle.walk.specs.Marks.{mark-of};
 pub fn not_off_of(mark: u8) -> usize
     ensures { λ r. ⌜ r ≡ length (unless-off (mark-of mark) 0 []) ⌝ }
 {
-    ((mark as usize + 255) % 256 + 255) / 256
+    ((mark ^ 1) as usize + 255) / 256
 }
 
 // pU, but 0 for a unit that is fixed off.

@@ -1,5 +1,5 @@
 pub mod LineCuts
 pub mod TheCut
 pub mod Places
-pub mod Breaks
+pub mod Search
 pub mod Examples

@@ -38,16 +38,6 @@ module _ (s : List ℕ) (i : ℕ) where
         ∙ ap length (longer-bytes (getD s i 0) (due (lines-of (drop (suc i) s))))
         ∙ ap (λ (n : ℕ). suc (line-size (drop n s))) (sym (add-one i))
 
-line-some-of : (t : List ℕ) (ls : List Line) → lines-of t ≡ ls → Proper ls → 0 < length t → 0 < length (line-bytes (due ls))
-line-some-of t [] e p h = absurd (omega (arith, ap length (sym (bytes-lines t) ∙ ap lines-bytes e)))
-line-some-of t (missing ∷ ls) e p h = absurd p
-line-some-of t (unended b ∷ ls) e p h = p .1 .0
-line-some-of t (ended b ∷ ls) e p h = omega (arith, length-append b (10 ∷ []))
-
--- a line has a byte
-pub line-some : (s : List ℕ) (i : ℕ) → i < length s → 0 < line-size (drop i s)
-line-some s i h = line-some-of (drop i s) (lines-of (drop i s)) refl (lines-proper (drop i s)) (omega (arith, length-drop i s))
-
 -- ---- where a piece ends, by its lines
 
 abbrev pub piece-size : List ℕ → ℕ

@@ -1,3 +1,3 @@
-pub mod Breaks
+pub mod Search
 pub mod Pieces
 pub mod Cut

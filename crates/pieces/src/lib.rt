@@ -1,54 +1,54 @@
 // How an input is cut into texts: after each line that begins `end=`.
 ghost use mathlib.Core.Path.{_≡_};
-ghost use Prim.Native.Nat.{_+_, _*_, _/_, _≤_};
-ghost use lib.Dec.{eqb, leb};
-ghost use lib.ListN.{length};
-ghost use Rattle.text.specs.Lines.{bytes-of, line-at};
-ghost use Rattle.pieces.specs.Breaks.{bit, breaks};
+ghost use mathlib.Core.Bool.{_&&_};
+ghost use Prim.Native.Nat.{_+_, _-_, _*_, _/_};
+ghost use lib.Dec.{leb};
+ghost use lib.ListN.{length, drop};
+ghost use Rattle.text.specs.Lines.{line-at};
+ghost use Rattle.pieces.specs.Search.{without-e, to-e};
 ghost use Rattle.pieces.specs.Pieces.{line-bytes, piece-after};
 
-// A line is passed in parts of 32 bytes while it lasts, since the compiler compares a whole part at once, and then byte by byte. What a byte
-// counts is a function of its own, so that the loop over a part does not branch.
+// Most lines do not begin with e, byte 101, and where they end does not matter: the next line that does is looked for in parts of 32 bytes,
+// since the compiler compares a whole part at once, and then byte by byte.
 
-// 1 if the byte is byte 10, else 0.
-fn count_if_break(byte: u8) -> u8
-    ensures { λ r. ⌜ r ≡ bit (eqb byte 10) ⌝ }
+// Whether both are true. It is a function of its own, so that the loop over a part does not branch.
+fn both(a: bool, b: bool) -> bool
+    ensures { λ r. ⌜ r ≡ (a && b) ⌝ }
 {
-    if byte == 10 {
-        return 1;
+    if a {
+        return b;
     }
-    0
+    false
 }
 
-// How many of the part's bytes are byte 10.
-fn count_breaks(part: &[u8]) -> u8
-    requires { ⌜ length (now part) ≤ 32 ⌝ }
-    ensures { λ r. ⌜ r ≡ breaks (now (part .entry)) ⌝ }
+// Whether no byte 10 of the part has an e behind it; all of them are looked at.
+fn is_without_e(part: &[u8]) -> bool
+    ensures { λ r. ⌜ r ≡ without-e (now (part .entry)) ⌝ }
 {
-    let mut n: u8 = 0;
-    for i in 0..part.len() {
-        n += count_if_break(part[i]);
+    let mut without = true;
+    for i in 1..part.len() {
+        without = both(without, !both(part[i - 1] == 10, part[i] == 101));
     }
-    n
+    without
 }
 
-// Whether the line that starts at `at` has 32 bytes or more before its end.
+// Whether the next line that begins with e starts more than 32 bytes after `at`, and the input goes on so far.
 fn spans_part(s: &[u8], at: usize) -> bool
-    ensures { λ r. ⌜ r ≡ leb 32 (length (bytes-of (line-at (now (s .entry)) at))) ⌝ }
+    ensures { λ r. ⌜ r ≡ leb 33 (to-e (drop at (now (s .entry)))) ⌝ }
 {
-    if s.len() < 32 {
+    if s.len() < 33 {
         return false;
     }
-    if s.len() - 32 < at {
+    if s.len() - 33 < at {
         return false;
     }
-    let to = at + 32;
-    count_breaks(&s[at..to]) == 0
+    let to = at + 33;
+    is_without_e(&s[at..to])
 }
 
-// The place after the whole parts of 32 bytes that the line that starts at `at` has before its end.
+// The place after the whole parts of 32 bytes before that line.
 fn skip_parts(s: &[u8], at: usize) -> usize
-    ensures { λ r. ⌜ r ≡ at + length (bytes-of (line-at (now (s .entry)) at)) / 32 * 32 ⌝ }
+    ensures { λ r. ⌜ r ≡ at + (to-e (drop at (now (s .entry))) - 1) / 32 * 32 ⌝ }
 {
     let mut i = at;
     while spans_part(s, i) {
@@ -57,11 +57,25 @@ fn skip_parts(s: &[u8], at: usize) -> usize
     i
 }
 
+// The place of that line, or the input's end.
+fn next_e(s: &[u8], at: usize) -> usize
+    ensures { λ r. ⌜ r ≡ at + to-e (drop at (now (s .entry))) ⌝ }
+{
+    let mut i = skip_parts(s, at);
+    while i < s.len() {
+        if text::starts(s, i, b"\ne") {
+            return i + 1;
+        }
+        i += 1;
+    }
+    i
+}
+
 // The place after the line that starts at `at`.
 fn line_end(s: &[u8], at: usize) -> usize
     ensures { λ r. ⌜ r ≡ at + length (line-bytes (line-at (now (s .entry)) at)) ⌝ }
 {
-    let mut i = skip_parts(s, at);
+    let mut i = at;
     while i < s.len() {
         if s[i] == 10 {
             return i + 1;
@@ -77,11 +91,10 @@ pub fn piece_end(s: &[u8], at: usize) -> usize
 {
     let mut i = at;
     while i < s.len() {
-        let next = line_end(s, i);
         if text::starts(s, i, b"end=") {
-            return next;
+            return line_end(s, i);
         }
-        i = next;
+        i = next_e(s, i);
     }
     i
 }

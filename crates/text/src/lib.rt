@@ -311,8 +311,8 @@ fn has_minus(v: Values) -> bool
     }
 }
 
-// What the line is that starts at `at` with key and has a value for each of lows, none with a minus. Those read are
-// stored in out, as far as they fit.
+// What the line is that starts at `at`, where it is known to begin with key, and has a value for each of lows, none with a minus: the key
+// is not compared again. Those read are stored in out, as far as they fit.
 pub fn fill_line(
     s: &[u8],
     at: usize,
@@ -322,10 +322,12 @@ pub fn fill_line(
     out: &mut [u64],
 ) -> Verdict
     requires { ⌜ (one-line (now key) ≡ true) × ((length (now lows) ≤ 48) × ((length (now highs) ≡ length (now lows)) × ((all-below (now highs) ≡ true) × (length (now out) ≡ length (now lows))))) ⌝ }
+    requires { ⌜ begins (now key) (drop at (now s)) ≡ true ⌝ }
     ensures answer { λ r. ⌜ r ≡ row-of (form (now (key .entry)) 0 (now (lows .entry)) (now (highs .entry))) (line-at (now (s .entry)) at) at .verdict ⌝ }
     ensures stored { λ _. ⌜ now (out .exit) ≡ stored-at (now (key .entry)) (now (s .entry)) at (now (out .entry)) ⌝ }
 {
-    let v = read_keyed(s, at, key, 0, out);
+    let from = at + key.len();
+    let v = read_values(s, from, 0, out);
     let within = all_within(out, lows, highs);
     judge_values(v, out.len(), within)
 }

@@ -74,3 +74,46 @@ module _ (text : List ℕ) (here : ℕ) where
 
           pub price-there : Begins stuck-key false → Stands price-line
           price-there e = sym (by-keys ∙ rw (a, b, c, d, e) refl)
+
+-- ---- the key of a kind, where the line is of that kind
+
+-- of five tests in turn, the one that a kind rests on; a price line rests on none
+abbrev test-of : Bool → Bool → Bool → Bool → Bool → LineKind → Bool
+test-of a b c d e split-line = a
+test-of a b c d e count-line = b
+test-of a b c d e short-line = c
+test-of a b c d e crowd-line = d
+test-of a b c d e stuck-line = e
+test-of a b c d e price-line = true
+
+rests-on : (a b c d e : Bool) → test-of a b c d e (cond a split-line (cond b count-line (cond c short-line (cond d crowd-line (cond e stuck-line price-line))))) ≡ true
+rests-on true b c d e = refl
+rests-on false true c d e = refl
+rests-on false false true d e = refl
+rests-on false false false true e = refl
+rests-on false false false false true = refl
+rests-on false false false false false = refl
+
+module _ (text : List ℕ) (here : ℕ) where
+  abbrev tested : LineKind → Bool
+  tested = let t = drop here text in test-of (begins split-key t) (begins count-key t) (begins short-key t) (begins crowd-key t) (begins stuck-key t)
+
+  stands-by : (k : LineKind) → line-kind-of (line-at text here) ≡ k → tested k ≡ true
+  stands-by k e =
+      let t = drop here text in
+      ap tested (sym e ∙ by-keys text here) ∙ rests-on (begins split-key t) (begins count-key t) (begins short-key t) (begins crowd-key t) (begins stuck-key t)
+
+  pub split-begins : line-kind-of (line-at text here) ≡ split-line → Begins text here split-key true
+  split-begins = stands-by split-line
+
+  pub count-begins : line-kind-of (line-at text here) ≡ count-line → Begins text here count-key true
+  count-begins = stands-by count-line
+
+  pub short-begins : line-kind-of (line-at text here) ≡ short-line → Begins text here short-key true
+  short-begins = stands-by short-line
+
+  pub crowd-begins : line-kind-of (line-at text here) ≡ crowd-line → Begins text here crowd-key true
+  crowd-begins = stands-by crowd-line
+
+  pub stuck-begins : line-kind-of (line-at text here) ≡ stuck-line → Begins text here stuck-key true
+  stuck-begins = stands-by stuck-line

@@ -5,7 +5,9 @@ ghost use lib.ListN.{length};
 ghost use Rattle.layout.specs.Numbers.{instance-in, Laid};
 ghost use Rattle.walk.specs.Marks.{most-of, above-of, above-length};
 ghost use Rattle.tree.specs.declared.forking.ForkKind.the-variants.{Count};
-ghost use Rattle.tree.specs.NodeLines.{narrows};
+ghost use Rattle.text.specs.Lines.{line-at};
+ghost use Rattle.tree.specs.Refusals.{count-line};
+ghost use Rattle.tree.specs.NodeLines.{narrows, line-kind-of};
 ghost use Rattle.tree.specs.Coded.{count-refusal};
 ghost use Rattle.tree.specs.ReadAnswers.{fork-line-read};
 use crate::above::ForkLine;
@@ -55,6 +57,7 @@ pub fn read_count_line(
     requires { ⌜ Laid (now numbers) ⌝ }
     requires { ⌜ length (now above) ≡ above-length ⌝ }
     requires { ⌜ length (now text) ≤ 1048576 ⌝ }
+    requires { ⌜ line-kind-of (line-at (now text) at) ≡ count-line ⌝ }
     ensures { λ r. ⌜ r ≡ fork-line-read (instance-in (now (numbers .entry))) (now (text .entry)) at (above-of (instance-in (now (numbers .entry))) (now (above .entry))) depth Count ⌝ }
 {
     let units = units_in(numbers);

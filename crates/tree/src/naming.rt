@@ -2,7 +2,8 @@
 ghost use mathlib.Core.Path.{_≡_};
 ghost use mathlib.Core.Bool.{true};
 ghost use Prim.Native.Nat.{_≤_};
-ghost use Rattle.text.specs.Lines.{one-line};
+ghost use lib.ListN.{drop};
+ghost use Rattle.text.specs.Lines.{one-line, begins};
 ghost use Rattle.tree.specs.ReadAnswers.{named-line-read};
 use text::Verdict;
 
@@ -12,13 +13,16 @@ pub enum NamedLine {
     Names { index: usize, next: usize },
 }
 
-// What the line that starts at `at` with key is, where it may name 1 to most.
+// What the line that starts at `at` is, where it is known to begin with key, and may name 1 to most.
 pub fn read_named(text: &[u8], at: usize, key: &[u8], most: usize) -> NamedLine
     requires { ⌜ (one-line (now key) ≡ true) × (most ≤ 48) ⌝ }
+    requires { ⌜ begins (now key) (drop at (now text)) ≡ true ⌝ }
     ensures { λ r. ⌜ r ≡ named-line-read (now (key .entry)) most (now (text .entry)) at ⌝ }
 {
     let mut values = [0u64; 1];
-    let verdict = text::fill_row(text, at, key, 1, most as u64, &mut values);
+    let lows = [1u64];
+    let highs = [most as u64];
+    let verdict = text::fill_line(text, at, key, &lows, &highs, &mut values);
     match verdict {
         Verdict::Refused { number } => NamedLine::Refused { number },
         Verdict::Good { next } => {

@@ -4,6 +4,9 @@ ghost use Prim.Native.Nat.{_+_, _*_, _≤_, _<_};
 ghost use lib.ListN.{length};
 ghost use Rattle.layout.specs.Numbers.{instance-in, Laid};
 ghost use Rattle.walk.specs.Marks.{above-of, above-length};
+ghost use Rattle.text.specs.Lines.{line-at};
+ghost use Rattle.tree.specs.NodeLines.{line-kind-of};
+ghost use Rattle.tree.specs.Refusals.{split-line};
 ghost use Rattle.tree.specs.Coded.{split-refusal};
 ghost use Rattle.tree.specs.declared.forking.ForkKind.the-variants.{Split};
 ghost use Rattle.tree.specs.ReadAnswers.{fork-line-read};
@@ -43,6 +46,7 @@ pub fn read_split_line(
     requires { ⌜ Laid (now numbers) ⌝ }
     requires { ⌜ length (now above) ≡ above-length ⌝ }
     requires { ⌜ length (now text) ≤ 1048576 ⌝ }
+    requires { ⌜ line-kind-of (line-at (now text) at) ≡ split-line ⌝ }
     ensures { λ r. ⌜ r ≡ fork-line-read (instance-in (now (numbers .entry))) (now (text .entry)) at (above-of (instance-in (now (numbers .entry))) (now (above .entry))) depth Split ⌝ }
 {
     let units = units_in(numbers);

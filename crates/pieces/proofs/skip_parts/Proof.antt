@@ -1,16 +1,17 @@
--- `skip_parts` meets its contract: a place in the line and the whole parts that are left of it make the same place.
+-- `skip_parts` meets its contract: a place before the next line that begins with e and the whole parts that are left make the same place.
 use Prim.Native.Nat.{_+_, _-_, _*_, _/_, _≤_, _<_}
 use mathlib.Core.Path.{_≡_, refl, sym, _∙_}
 use native.Mathlib.Omega.{arith}
 use borrow.Author.Needs.{needs}
 use borrow.Author.Tests.{leb-true, leb-false}
 use lib.ListN.{length, drop, length-drop}
-use Rattle.pieces.proofs.Breaks.{bare-size, bare-most, bare-past}
+use Rattle.pieces.specs.Search.{to-e}
+use Rattle.pieces.proofs.Search.{to-e-most, to-e-past}
 use Rattle.pieces.proofs.skip_parts.Statement.{statement}
 use Rattle.pieces.proofs.skip_parts.Tie as tie
 
 abbrev Inv-loop : tie.InvT-loop
-Inv-loop s at i₀ i = i + bare-size (drop i s) / 32 * 32 ≡ at + bare-size (drop at s) / 32 * 32
+Inv-loop s at i₀ i = i + (to-e (drop i s) - 1) / 32 * 32 ≡ at + (to-e (drop at s) - 1) / 32 * 32
 
 abbrev μ-loop : tie.MeasureT-loop
 μ-loop s at i₀ i = length s - i
@@ -21,15 +22,15 @@ loop-holds c = refl
 spans-part-requires : tie.Need-spans-part-requires Inv-loop μ-loop
 spans-part-requires c κs = search needs
 
--- a part of the line stands at the place, and so within the input
-spanned : (c : tie.Then1 Inv-loop μ-loop) → 32 ≤ bare-size (drop (c .before .before .loop .i) (c .before .before .before .before .args .s .now))
-spanned c = leb-true 32 _ (sym (c .before .spans-part .ensures) ∙ c .if1 .taken)
+-- a part stands at the place, and so within the input
+spanned : (c : tie.Then1 Inv-loop μ-loop) → 33 ≤ to-e (drop (c .before .before .loop .i) (c .before .before .before .before .args .s .now))
+spanned c = leb-true 33 _ (sym (c .before .spans-part .ensures) ∙ c .if1 .taken)
 
 within : (c : tie.Then1 Inv-loop μ-loop) → c .before .before .loop .i + 32 ≤ length (c .before .before .before .before .args .s .now)
 within c =
     let s = c .before .before .before .before .args .s .now in
     let i = c .before .before .loop .i in
-    omega (arith, spanned c, bare-most (drop i s), length-drop i s)
+    omega (arith, spanned c, to-e-most (drop i s), length-drop i s)
 
 add-i : tie.Need-add-i Inv-loop μ-loop
 add-i c = omega (arith, within c)
@@ -40,12 +41,12 @@ loop-less c = omega (arith, within c)
 loop-again : tie.Need-loop-again Inv-loop μ-loop
 loop-again c =
     let l = c .before .before .loop in
-    omega (arith, bare-past (c .before .before .before .before .args .s .now) (l .i) 32 (spanned c), l .inv)
+    omega (arith, spanned c, to-e-past (c .before .before .before .before .args .s .now) (l .i) 32 (omega (arith, spanned c)), l .inv)
 
 returns : tie.Need-returns Inv-loop μ-loop
 returns c =
     let l = c .before .before .loop in
-    let h : bare-size (drop (l .i) (c .before .before .before .before .args .s .now)) < 32 = leb-false 32 _ (sym (c .before .spans-part .ensures) ∙ c .if1 .left) in
+    let h : to-e (drop (l .i) (c .before .before .before .before .args .s .now)) < 33 = leb-false 33 _ (sym (c .before .spans-part .ensures) ∙ c .if1 .left) in
     omega (arith, l .inv)
 
 pub skip-parts-spec : {M : Type 1} → statement M

@@ -22,6 +22,7 @@ use Rattle.tree.specs.Rendering.{count-key}
 use Rattle.tree.specs.Refusals.{count-line, node-form}
 use Rattle.tree.specs.NodeLines.{narrows}
 use Rattle.tree.specs.Coded.{count-refusal}
+use Rattle.tree.proofs.Keys.{count-begins}
 use Rattle.tree.proofs.ForkLines.{CountValues, count-values, fork-refused, count-fails, count-good}
 use Rattle.tree.proofs.counting.read_count_line.Statement.{statement}
 use Rattle.tree.proofs.counting.read_count_line.Tie as tie
@@ -119,7 +120,7 @@ fill-line-requires c κs =
     let p = c .before .before .before .before in
     let s = p .before .before .before .before .before in
     let low = ends-low (instance-in (s .args .numbers .now)) (s .pre .0 .well-formed) in
-    (refl, (omega arith, (refl, (rw (p .before .units-in .ensures, p .periods-in .ensures) low, refl))))
+    ((refl, (omega arith, (refl, (rw (p .before .units-in .ensures, p .periods-in .ensures) low, refl)))), count-begins (s .args .text .now) (s .args .at) (s .pre .1 .1 .1))
 
 enum-known-verdict : tie.Need-enum-known-verdict
 enum-known-verdict c = search needs

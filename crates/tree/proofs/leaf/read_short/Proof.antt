@@ -12,6 +12,7 @@ use Rattle.tree.specs.declared.naming.NamedLine.the-variants.{Refused, N
 use Rattle.tree.specs.Rendering.{short-key}
 use Rattle.tree.specs.Refusals.{short-line}
 use Rattle.tree.specs.ReadAnswers.{named-line-read}
+use Rattle.tree.proofs.Keys.{short-begins}
 use Rattle.tree.proofs.Rows.{NamesOne, names-one, names-none}
 use Rattle.tree.proofs.WaysThrough.{node-refused, node-leaf}
 use Rattle.tree.proofs.Leaves.{line-refused, short-holds, short-fails}
@@ -44,8 +45,8 @@ slice-aggregate-read-named c = search needs
 read-named-requires : tie.Need-read-named-requires
 read-named-requires c κs =
     let p = c .before in
-    let w = p .before .before .before .before .pre .0 .well-formed in
-    (refl, omega (arith, p .periods-in .ensures, w .periods-in .1))
+    let s = p .before .before .before .before in
+    ((refl, omega (arith, p .periods-in .ensures, s .pre .0 .well-formed .periods-in .1)), short-begins (s .args .text .now) (s .args .at) (s .pre .1 .1 .1))
 
 enum-known-found : tie.Need-enum-known-found
 enum-known-found c = search needs

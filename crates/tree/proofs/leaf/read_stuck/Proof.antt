@@ -13,6 +13,7 @@ use Rattle.tree.specs.Rendering.{stuck-key}
 use Rattle.tree.specs.Refusals.{stuck-line}
 use Rattle.tree.specs.ReadAnswers.{named-line-read}
 use Rattle.walk.proofs.AboveMarks.{statuses-inside}
+use Rattle.tree.proofs.Keys.{stuck-begins}
 use Rattle.tree.proofs.Rows.{NamesOne, names-one, names-none}
 use Rattle.tree.proofs.WaysThrough.{node-refused, node-leaf}
 use Rattle.tree.proofs.Leaves.{line-refused, stuck-holds, stuck-fails}
@@ -45,8 +46,8 @@ slice-aggregate-read-named c = search needs
 read-named-requires : tie.Need-read-named-requires
 read-named-requires c κs =
     let p = c .before in
-    let w = p .before .before .before .before .pre .0 .well-formed in
-    (refl, omega (arith, p .units-in .ensures, w .units-in .1))
+    let s = p .before .before .before .before in
+    ((refl, omega (arith, p .units-in .ensures, s .pre .0 .well-formed .units-in .1)), stuck-begins (s .args .text .now) (s .args .at) (s .pre .1 .1 .1))
 
 enum-known-found : tie.Need-enum-known-found
 enum-known-found c = search needs

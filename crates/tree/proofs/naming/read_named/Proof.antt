@@ -5,6 +5,7 @@ use mathlib.Core.Path.{refl}
 use mathlib.Core.List.{[], _∷_}
 use Rattle.text.specs.Lines.{line-at}
 use Rattle.text.specs.Forms.{plain}
+use Rattle.text.proofs.Rows.{below-same}
 use Rattle.text.proofs.Verdicts.{ruled-refused}
 use Rattle.text.proofs.Fills.{PlainFilled, plain-filled}
 use Rattle.tree.proofs.Rows.{one-value, named-refused, named-good}
@@ -13,19 +14,27 @@ use Rattle.tree.proofs.naming.read_named.Tie as tie
 
 -- a good line leaves its number
 filled : (c : tie.After-known-told2) →
-    let a = c .before .before .before .before .before .before .before .before .args in
-    PlainFilled (a .key .now) 1 1 (a .most) (line-at (a .text .now) (a .at)) (a .at) (c .before .verdict2 .given .0 .0) (c .before .before .before .before .fill-row .last .1 .1 .1 .1 .1 .0)
+    let a = c .before .before .before .before .before .before .before .before .before .before .args in
+    PlainFilled (a .key .now) 1 1 (a .most) (line-at (a .text .now) (a .at)) (a .at) (c .before .verdict2 .given .0 .0) (c .before .before .before .before .fill-line .last .1 .1 .1 .1 .1 .0)
 filled c =
-    let s = c .before .before .before .before .before .before .before .before in
+    let s = c .before .before .before .before .before .before .before .before .before .before in
     let a = s .args in
-    let r = c .before .before .before .before .fill-row in
-    plain-filled (a .key .now) 1 (a .most) (a .text .now) (0 ∷ []) (a .at) (s .pre .0) (omega (arith, s .pre .1)) (r .ensures .1) refl (r .ensures .0) (c .before .verdict2 .given .1)
+    let r = c .before .before .before .before .fill-line in
+    plain-filled (a .key .now) 1 (a .most) (a .text .now) (0 ∷ []) (a .at) (s .pre .0 .0) (omega (arith, s .pre .0 .1)) (r .ensures .1) refl (r .ensures .0) (c .before .verdict2 .given .1)
 
-slice-aggregate-fill-row : tie.Need-slice-aggregate-fill-row
-slice-aggregate-fill-row c = search needs
+slice-aggregate-fill-line : tie.Need-slice-aggregate-fill-line
+slice-aggregate-fill-line c = search needs
 
-fill-row-requires : tie.Need-fill-row-requires
-fill-row-requires c κs = search needs
+slice-aggregate-fill-line-2 : tie.Need-slice-aggregate-fill-line-2
+slice-aggregate-fill-line-2 c = search needs
+
+slice-aggregate-fill-line-3 : tie.Need-slice-aggregate-fill-line-3
+slice-aggregate-fill-line-3 c = search needs
+
+fill-line-requires : tie.Need-fill-line-requires
+fill-line-requires c κs =
+    let s = c .before .before .before .before .before in
+    ((s .pre .0 .0, (omega arith, (refl, (below-same 1 (s .args .most) (omega (arith, s .pre .0 .1)), refl)))), s .pre .1)
 
 enum-known-verdict : tie.Need-enum-known-verdict
 enum-known-verdict c = search needs
@@ -41,15 +50,15 @@ sub-index c = one-value (filled c) .low
 
 returns : tie.Need-returns
 returns c =
-    let a = c .before .before .before .before .before .before .before .before .args in
-    let r = c .before .before .before .before .fill-row in
+    let a = c .before .before .before .before .before .before .before .before .before .before .args in
+    let r = c .before .before .before .before .fill-line in
     let v = c .before .verdict .given in
     named-refused (a .key .now) (a .most) (a .text .now) (a .at) (v .0 .0)
     (ruled-refused (plain (a .key .now) 1 1 (a .most)) (line-at (a .text .now) (a .at)) (a .at) (r .result) (r .ensures .0) (v .0 .0) (v .1))
 
 returns-2 : tie.Need-returns-2
 returns-2 c =
-    let a = c .before .before .before .before .before .before .before .before .args in
+    let a = c .before .before .before .before .before .before .before .before .before .before .args in
     let g = filled c in
     named-good (a .key .now) (a .most) (a .text .now) (a .at) (g .line-good) _ _ (one-value g .is-named) (g .next-is)
 
@@ -57,8 +66,10 @@ pub read-named-spec : {M : Type 1} → statement M
 read-named-spec =
     tie.close
     (tie.spec
-    slice-aggregate-fill-row
-    fill-row-requires
+    slice-aggregate-fill-line
+    slice-aggregate-fill-line-2
+    slice-aggregate-fill-line-3
+    fill-line-requires
     enum-known-verdict
     enum-known-verdict-2
     array-read-index

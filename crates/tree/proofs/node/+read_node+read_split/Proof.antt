@@ -146,8 +146,9 @@ read-node-enum-known-kind-2 t c = search needs
 
 read-node-read-fork-line-requires : (t : ℕ) → read-node-lts.Need-read-fork-line-requires (read-node-calls t) (read-node-at t) read-node.Post
 read-node-read-fork-line-requires t c κs =
-    let p = start t (c .before .before .before .before) .pre .1 in
-    (p .0, (p .1 .1 .1, p .1 .0 .short))
+    let f = c .before .before .before .before in
+    let p = start t f .pre .1 in
+    (p .0, (p .1 .1 .1, (p .1 .0 .short, kind-is t f _ (c .before .before .kind2 .given .1))))
 
 read-node-enum-known-found : (t : ℕ) → read-node-lts.Need-enum-known-found (read-node-calls t) (read-node-at t) read-node.Post
 read-node-enum-known-found t c = search needs

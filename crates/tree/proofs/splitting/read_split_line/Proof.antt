@@ -24,6 +24,7 @@ use Rattle.tree.specs.Refusals.{split-line, node-form}
 use Rattle.tree.specs.Coded.{split-refusal}
 use Rattle.tree.proofs.Places.{place-inside}
 use Rattle.tree.specs.declared.forking.ForkKind.the-variants.{Split}
+use Rattle.tree.proofs.Keys.{split-begins}
 use Rattle.tree.proofs.ForkLines.{SplitValues, split-values, fork-refused, split-fails, split-good}
 use Rattle.tree.proofs.splitting.read_split_line.Statement.{statement}
 use Rattle.tree.proofs.splitting.read_split_line.Tie as tie
@@ -130,7 +131,7 @@ fill-line-requires c κs =
     let p = c .before .before .before .before in
     let s = p .before .before .before .before .before in
     let low = counts-low (instance-in (s .args .numbers .now)) (s .pre .0 .well-formed) in
-    (refl, (omega arith, (refl, (rw (p .before .units-in .ensures, p .periods-in .ensures) low, refl))))
+    ((refl, (omega arith, (refl, (rw (p .before .units-in .ensures, p .periods-in .ensures) low, refl)))), split-begins (s .args .text .now) (s .args .at) (s .pre .1 .1 .1))
 
 enum-known-verdict : tie.Need-enum-known-verdict
 enum-known-verdict c = search needs
