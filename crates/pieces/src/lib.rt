@@ -9,7 +9,7 @@ ghost use Rattle.pieces.specs.Search.{without-e, to-e};
 ghost use Rattle.pieces.specs.Pieces.{line-bytes, piece-after};
 
 // Most lines do not begin with e, byte 101, and where they end does not matter: the next line that does is looked for in parts of 32 bytes,
-// since the compiler compares a whole part at once, and then byte by byte.
+// each with the byte behind it, since the compiler compares a whole part at once, and then byte by byte.
 
 // Whether both are true. It is a function of its own, so that the loop over a part does not branch.
 fn both(a: bool, b: bool) -> bool
@@ -46,7 +46,7 @@ fn spans_part(s: &[u8], at: usize) -> bool
     is_without_e(&s[at..to])
 }
 
-// The place after the whole parts of 32 bytes before that line.
+// The place after the whole parts of 32 bytes before the byte 10 that stands in front of that line, or before the input's last byte.
 fn skip_parts(s: &[u8], at: usize) -> usize
     ensures { λ r. ⌜ r ≡ at + (to-e (drop at (now (s .entry))) - 1) / 32 * 32 ⌝ }
 {

@@ -1,4 +1,4 @@
--- `spans_part` meets its contract: where the input is too short, or the part has a byte 10 with an e behind it, the next line that begins with e is nearer.
+-- `spans_part` meets its contract: where the input is too short, or the part has a byte 10 with an e behind it, the next line that begins with e, or the input's end, is nearer.
 use Prim.Native.Nat.{ℕ, _+_, _-_}
 use mathlib.Core.Path.{_≡_, sym, ap, _∙_}
 use native.Mathlib.Omega.{arith}
