@@ -72,7 +72,7 @@ part-without (suc n) (b ∷ c ∷ t) h = go (eqb b 10 && eqb c 101) (part-withou
     go false e = e ∙ sym (leb·suc-suc (suc n) (to-e (c ∷ t)))
 
 -- bytes before it are passed over
-pub to-e-later : (n : ℕ) (t : List ℕ) → n ≤ to-e t - 1 → to-e t ≡ n + to-e (drop n t)
+to-e-later : (n : ℕ) (t : List ℕ) → n ≤ to-e t - 1 → to-e t ≡ n + to-e (drop n t)
 to-e-later zero t h = omega arith
 to-e-later (suc n) [] h = absurd (omega arith)
 to-e-later (suc n) (b ∷ t) h = go (eqb b 10 && byte-is t 101) (to-e-later n t) h
@@ -83,13 +83,13 @@ to-e-later (suc n) (b ∷ t) h = go (eqb b 10 && byte-is t 101) (to-e-later n t)
 
 -- ---- the same at a place of the input
 
+byte-begins : (k : ℕ) (t : List ℕ) → begins (k ∷ []) t ≡ byte-is t k
+byte-begins k [] = refl
+byte-begins k (b ∷ t) = and-true (eqb b k)
+
 module _ (s : List ℕ) (i : ℕ) where
   pub to-e-past : (n : ℕ) → n ≤ to-e (drop i s) - 1 → to-e (drop i s) ≡ n + to-e (drop (i + n) s)
   to-e-past n h = to-e-later n (drop i s) h ∙ ap (λ (t : List ℕ). n + to-e t) (drop-drop n i s)
-
-  byte-begins : (k : ℕ) (t : List ℕ) → begins (k ∷ []) t ≡ byte-is t k
-  byte-begins k [] = refl
-  byte-begins k (b ∷ t) = and-true (eqb b k)
 
   module _ (h : i < length s) where
     to-e-on : to-e (drop i s) ≡ cond (begins (10 ∷ 101 ∷ []) (drop i s)) 1 (suc (to-e (drop (i + 1) s)))
@@ -107,14 +107,14 @@ module _ (s : List ℕ) (i : ℕ) where
 -- ---- a piece goes on up to it
 
 -- bytes that do not begin with e do not begin end=
-no-end : (t : List ℕ) → byte-is t 101 ≡ false → begins end-key t ≡ false
-no-end [] e = refl
-no-end (b ∷ t) e = simp e
+no-e : (t : List ℕ) → byte-is t 101 ≡ false → begins end-key t ≡ false
+no-e [] e = refl
+no-e (b ∷ t) e = simp e
 
 -- from within a line that does not begin end=: what is left of it and the piece behind it
-within-line : (t : List ℕ) → line-size t + piece-size (drop (line-size t) t) ≡ to-e t + piece-size (drop (to-e t) t)
-within-line [] = refl
-within-line (b ∷ t) = go (eqb b 10) (byte-is t 101) refl (within-line t)
+rest-of-line : (t : List ℕ) → line-size t + piece-size (drop (line-size t) t) ≡ to-e t + piece-size (drop (to-e t) t)
+rest-of-line [] = refl
+rest-of-line (b ∷ t) = go (eqb b 10) (byte-is t 101) refl (rest-of-line t)
   where
     -- with the byte b, which is byte 10 or not, and has an e behind it or not
     go : (x y : Bool) → byte-is t 101 ≡ y → line-size t + piece-size (drop (line-size t) t) ≡ to-e t + piece-size (drop (to-e t) t)
@@ -122,14 +122,15 @@ within-line (b ∷ t) = go (eqb b 10) (byte-is t 101) refl (within-line t)
         let m = cond (x && y) 1 (suc (to-e t)) in
         n + piece-size (drop n (b ∷ t)) ≡ m + piece-size (drop m (b ∷ t))
     go true true v rec = refl
-    go true false v rec = omega (arith, first-off t (no-end t v), rec)
+    go true false v rec = omega (arith, first-off t (no-e t v), rec)
     go false y v rec =
         let n = ap length (longer-bytes b (due (lines-of t))) in
         omega (arith, ap (λ (k : ℕ). k + piece-size (drop k (b ∷ t))) n, rec)
 
 -- from the start of such a line
 pub piece-on : (t : List ℕ) → begins end-key t ≡ false → piece-size t ≡ to-e t + piece-size (drop (to-e t) t)
-piece-on t e = first-off t e ∙ within-line t
+piece-on t e = first-off t e ∙ rest-of-line t
 
+-- there is a byte before it
 pub to-e-moves : (s : List ℕ) (i : ℕ) → i < length s → 0 < to-e (drop i s)
 to-e-moves s i h = omega (arith, ap to-e (drop-cons s i 0 h), to-e-some (getD s i 0) (drop (suc i) s))
