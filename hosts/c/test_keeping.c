@@ -2,7 +2,7 @@
 #include "test_calls.h"
 
 static void test_sizes(void) {
-    count(docket_rules() == 3, "the rules have number 3");
+    count(docket_rules() == 4, "the rules have number 4");
     count(docket_numbers() == 618, "618 numbers");
     count(docket_rows() == 1536, "1536 rows");
 }
@@ -25,6 +25,22 @@ static void test_example(void) {
     count(lodges(&d, DEARER, "answer=passed,2060\n") && gives(&d, example_outputs, 4),
           "the outputs after a schedule that is passed");
     count(lodges(&d, TREE, "answer=passed,1980,1,2\n") && reports(&d, ALL_HELD), "the tree again");
+}
+
+/* A ramp leaf below splits that leave unit 1, whose TD is 2, no run: off in period 1 and on in 2; and one that gives a bound. */
+static void test_ramp_leaf(void) {
+    struct docket d = fresh_docket();
+    uint8_t line[DOCKET_LINE_BYTES];
+    uint64_t values[DOCKET_VALUES];
+    const char *stuck = "kind=tree\nwriter=5\nsplit=1,1\nsplit=1,2\nshort=2\nrampprice=10,14\nreserve=0,0\n"
+                        "up=0\ndown=0\nup=0\ndown=0\nend=tree\n";
+    const char *ramp = "kind=tree\nwriter=5\nrampprice=10,14\nreserve=0,2\nup=3\ndown=0\nup=1\ndown=2\nend=tree\n";
+    count(lodges(&d, PROBLEM, PROBLEM_HELD), "the problem of a ramp leaf");
+    count(lodges(&d, stuck, "answer=refused,35,11,0,0\n") && reports(&d, NONE_HELD), "35 at the last line of a ramp leaf");
+    lodge(&d, (const uint8_t *)ramp, strlen(ramp), line, values);
+    count(values[DOCKET_ANSWER] == DOCKET_HELD && values[DOCKET_FIGURE] == DOCKET_A_BOUND, "a ramp leaf gives a bound");
+    count(values[DOCKET_BOUND_SIZE] == 1700 && values[DOCKET_SPLITS] == 0 && values[DOCKET_LEAVES] == 1, "its figures");
+    count(lodges(&d, ramp, "answer=passed,1700,0,1\n") && lodges(&d, TREE, TREE_HELD), "a higher bound takes its place");
 }
 
 static void test_copy(void) {
@@ -63,6 +79,7 @@ static void test_fresh(void) {
 int main(void) {
     test_sizes();
     test_example();
+    test_ramp_leaf();
     test_copy();
     test_fresh();
     return finish();

@@ -1,13 +1,14 @@
-//! When a leaf holds and what a price leaf is worth (document 01, "Rules for a leaf"; for counts
-//! document 02, [1]).
+//! When a leaf holds and what a price or ramp leaf is worth (document 01, "Rules for a leaf"; for
+//! counts and ramps document 02, [1] and [6]).
 //!
 //! Units and periods count from 0 here.
 
 use std::collections::HashMap;
 
 use crate::above::{Above, Statuses};
-use crate::minimum::{best_output_value, is_stuck, least_value};
+use crate::minimum::{best_output_value, is_stuck, least_value, Worth};
 use crate::problem::Problem;
+use crate::ramp::RampLeaf;
 
 /// The most pU that can be on in a period: that of all units not fixed off, free ones among them, or,
 /// where an upper count stands, of the largest of them, as many as it says.
@@ -70,27 +71,52 @@ impl<'a> Pricing<'a> {
     /// and, over periods, q·D + s·(D + R). Counts play no part.
     pub fn value(&mut self, fixed: &Statuses, prices: &[i64], reserves: &[i64]) -> Option<i64> {
         let problem = self.problem;
-        let mut value = 0;
-        for (unit, generator) in problem.units.iter().enumerate() {
-            let on_values = self.on_values(unit, prices, reserves);
-            value += least_value(generator, &fixed[unit], &on_values)?;
-        }
-        for (period, (price, reserve)) in prices.iter().zip(reserves).enumerate() {
-            value += price * problem.demand[period];
-            value += reserve * problem.capacity_needed(period);
-        }
-        Some(value)
+        let units = least_values(problem, fixed, |unit| self.worths(unit, prices, reserves))?;
+        Some(units + needs_value(problem, prices, reserves))
     }
 
-    /// For each period, the least of running cost minus q·p + s·pU if the unit is on.
-    fn on_values(&mut self, unit: usize, prices: &[i64], reserves: &[i64]) -> Vec<i64> {
+    /// For each period, nothing if the unit is off, and if it is on the least of running cost minus
+    /// q·p + s·pU.
+    fn worths(&mut self, unit: usize, prices: &[i64], reserves: &[i64]) -> Vec<Worth> {
         let generator = &self.problem.units[unit];
-        let mut values = Vec::new();
+        let mut worths = Vec::new();
         for (&price, reserve) in prices.iter().zip(reserves) {
             let best = self.best_outputs.entry((unit, price));
             let best = *best.or_insert_with(|| best_output_value(generator, price));
-            values.push(best - reserve * generator.most_output);
+            let on = best - reserve * generator.most_output;
+            worths.push(Worth { off: 0, on });
         }
-        values
+        worths
     }
+}
+
+/// The value of a ramp leaf, or `None` if some unit is stuck: that of a price leaf, but with what
+/// the ramps add to each unit's cost. Counts and p0 play no part.
+pub fn ramp_value(problem: &Problem, fixed: &Statuses, leaf: &RampLeaf) -> Option<i64> {
+    let worths = |unit: usize| leaf.worths(unit, &problem.units[unit]);
+    let units = least_values(problem, fixed, worths)?;
+    Some(units + needs_value(problem, &leaf.prices, &leaf.reserves))
+}
+
+/// The least values of all units, given what the periods are worth to each; `None` if one is stuck.
+fn least_values(
+    problem: &Problem,
+    fixed: &Statuses,
+    mut worths: impl FnMut(usize) -> Vec<Worth>,
+) -> Option<i64> {
+    let mut sum = 0;
+    for (unit, generator) in problem.units.iter().enumerate() {
+        sum += least_value(generator, &fixed[unit], &worths(unit))?;
+    }
+    Some(sum)
+}
+
+/// Over periods, q·D + s·(D + R).
+fn needs_value(problem: &Problem, prices: &[i64], reserves: &[i64]) -> i64 {
+    let mut value = 0;
+    for (period, (price, reserve)) in prices.iter().zip(reserves).enumerate() {
+        value += price * problem.demand[period];
+        value += reserve * problem.capacity_needed(period);
+    }
+    value
 }

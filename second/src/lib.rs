@@ -5,6 +5,7 @@
 //! - `generator`, `problem`: what a problem text gives
 //! - `schedule`: the rules for a schedule and its cost
 //! - `minimum`: the least value of one unit under multipliers
+//! - `ramp`: what multipliers on the ramps add to a unit's cost
 //! - `above`: what the split lines above a node say
 //! - `leaf`: when a leaf holds and what it is worth
 //! - `taken`: how many units the sum for `short` takes
@@ -21,6 +22,7 @@ pub mod leaf;
 pub mod listing;
 pub mod minimum;
 pub mod problem;
+pub mod ramp;
 pub mod refusal;
 pub mod schedule;
 pub mod taken;

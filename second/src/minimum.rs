@@ -9,6 +9,13 @@ use crate::generator::Generator;
 /// Statuses that splits have fixed for one unit, by period from 0.
 pub type Fixed = [Option<bool>];
 
+/// What one period is worth to a unit in either status, on with the best output.
+#[derive(Clone, Copy, Debug, Default, PartialEq, Eq)]
+pub struct Worth {
+    pub off: i64,
+    pub on: i64,
+}
+
 /// The least, over all outputs from pL to pU, of a period's running cost minus what the price
 /// multiplier pays for the output. Each output is tried.
 pub fn best_output_value(unit: &Generator, price: i64) -> i64 {
@@ -20,12 +27,12 @@ pub fn best_output_value(unit: &Generator, price: i64) -> i64 {
 }
 
 /// The least sum, over the runs that obey (5) to (10) and agree with the fixed statuses, of starts,
-/// stops and `on_values` of the periods on. `None` if there is no such run: the unit is stuck.
-pub fn least_value(unit: &Generator, fixed: &Fixed, on_values: &[i64]) -> Option<i64> {
+/// stops and what the periods are worth. `None` if there is no such run: the unit is stuck.
+pub fn least_value(unit: &Generator, fixed: &Fixed, worths: &[Worth]) -> Option<i64> {
     let mut search = Search {
         unit,
         fixed,
-        on_values,
+        worths,
         known: vec![None; (fixed.len() + 1) * (fixed.len() + 1) * 2],
     };
     search.from(0, unit.initially_on(), None)
@@ -33,13 +40,13 @@ pub fn least_value(unit: &Generator, fixed: &Fixed, on_values: &[i64]) -> Option
 
 /// Whether the fixed statuses leave the unit without a permitted run.
 pub fn is_stuck(unit: &Generator, fixed: &Fixed) -> bool {
-    least_value(unit, fixed, &vec![0; fixed.len()]).is_none()
+    least_value(unit, fixed, &vec![Worth::default(); fixed.len()]).is_none()
 }
 
 struct Search<'a> {
     unit: &'a Generator,
     fixed: &'a Fixed,
-    on_values: &'a [i64],
+    worths: &'a [Worth],
     known: Vec<Option<Option<i64>>>,
 }
 
@@ -82,8 +89,8 @@ impl Search<'_> {
     fn value_of(&self, period: usize, on: bool) -> Option<i64> {
         match self.fixed[period] {
             Some(status) if status != on => None,
-            _ if on => Some(self.on_values[period]),
-            _ => Some(0),
+            _ if on => Some(self.worths[period].on),
+            _ => Some(self.worths[period].off),
         }
     }
 

@@ -49,6 +49,11 @@ impl<'a> Reader<'a> {
         }
     }
 
+    /// The number of the line taken last; 0 before the first.
+    pub fn line_taken(&self) -> usize {
+        self.lines_taken
+    }
+
     /// The last line of a text: these words to the letter, and no byte after them (12).
     pub fn take_end(&mut self, words: &str) -> Result<(), Refusal> {
         let line = self.take()?;

@@ -1,11 +1,12 @@
 //! Trees: reading, leaves and the bound (document 01, "Texts" and "Rules for a leaf"; document 02,
-//! [1]).
+//! [1] and [6]).
 
 use std::fmt;
 
 use crate::above::Above;
-use crate::leaf::{crowd_holds, short_holds, stuck_holds, Pricing};
+use crate::leaf::{crowd_holds, ramp_value, short_holds, stuck_holds, Pricing};
 use crate::problem::Problem;
+use crate::ramp::{RampLeaf, RampPrices};
 use crate::refusal::Refusal;
 use crate::schedule::MOST_WRITER;
 use crate::text::{Line, Reader};
@@ -84,6 +85,8 @@ impl Walk<'_> {
             self.read_crowd(line)
         } else if line.has_key("price") {
             self.read_price(reader, line)
+        } else if line.has_key("rampprice") {
+            self.read_ramp_leaf(reader, line)
         } else {
             Err(line.refuse(12))
         }
@@ -178,10 +181,45 @@ impl Walk<'_> {
         let line = reader.take()?;
         let reserves = line.row("reserve", periods, 0, MOST_MULTIPLIER)?;
         let value = self.pricing.value(&self.above.fixed, &prices, &reserves);
-        let value = value.ok_or(line.refuse(35))?;
+        self.add_value(value.ok_or(line.refuse(35))?);
+        Ok(())
+    }
+
+    /// `rampprice=`, the `reserve=` line after it and the lines of the units; 35 stands at the last
+    /// of all these.
+    fn read_ramp_leaf(&mut self, reader: &mut Reader, line: Line) -> Result<(), Refusal> {
+        let periods = self.problem.periods();
+        let leaf = RampLeaf {
+            prices: line.row("rampprice", periods, 0, MOST_MULTIPLIER)?,
+            reserves: reader.take_row("reserve", periods, 0, MOST_MULTIPLIER)?,
+            ramps: self.read_ramps(reader)?,
+        };
+        let value = ramp_value(self.problem, &self.above.fixed, &leaf);
+        self.add_value(value.ok_or(Refusal::at_line(35, reader.line_taken()))?);
+        Ok(())
+    }
+
+    /// For each unit in turn its `up=` and its `down=` line, with a multiplier for each period but
+    /// the first. With one period there are no such lines.
+    fn read_ramps(&self, reader: &mut Reader) -> Result<Vec<RampPrices>, Refusal> {
+        let steps = self.problem.periods() - 1;
+        let mut row = |key: &str| match steps {
+            0 => Ok(Vec::new()),
+            _ => reader.take_row(key, steps, 0, MOST_MULTIPLIER),
+        };
+        let mut ramps = Vec::new();
+        for _ in &self.problem.units {
+            let up = row("up")?;
+            let down = row("down")?;
+            ramps.push(RampPrices { up, down });
+        }
+        Ok(ramps)
+    }
+
+    /// One more leaf, with this value.
+    fn add_value(&mut self, value: i64) {
         self.tree.bound = self.tree.bound.min(Bound::Number(value));
         self.tree.leaves += 1;
-        Ok(())
     }
 
     /// The unit (from 0) that a number from 1 to I names, else 13.

@@ -138,12 +138,15 @@ fn judged(problem: &Problem, tree: &str) -> Result<Vec<Leaf>, (u32, usize)> {
             "short" if !is_short(problem, &above, names) => return refused(33),
             "stuck" if !is_stuck(problem, &above, names) => return refused(34),
             "crowd" if !is_crowded(problem, &above, names) => return refused(36),
-            "price" => {
-                lines.next();
+            "price" | "rampprice" => {
+                // The lines after the first: the reserve line, and in a ramp leaf two for each unit.
+                let ramped = key == "rampprice" && problem.periods() > 1;
+                let more = 1 + usize::from(ramped) * 2 * problem.units.len();
+                lines.nth(more - 1);
                 names = 0;
                 let mut units = 0..problem.units.len();
                 if units.any(|unit| is_stuck(problem, &above, unit)) {
-                    return Err((35, at + 2));
+                    return Err((35, at + 1 + more));
                 }
             }
             _ => {}
@@ -246,7 +249,7 @@ fn trees_are_judged_as_all_sets_of_units_say() {
                     assert_eq!(splits, forks.count(), "{tree}");
                     assert_eq!(count, leaves.len(), "{tree}");
                     assert_eq!(count, splits + 1, "{tree}");
-                    let prices = leaves.iter().any(|leaf| leaf.key == "price");
+                    let prices = leaves.iter().any(|leaf| leaf.key.ends_with("price"));
                     assert_eq!(bound == Bound::Never, !prices, "{tree}");
                     seen[0] += 1;
                 }
@@ -283,9 +286,12 @@ fn every_schedule_lies_under_one_leaf_and_under_none_that_excludes_it() {
                 assert_eq!(under.next(), None, "{statuses:?}\n{tree}");
                 // No statuses at all lie under a crowd, and under short and stuck none that may be.
                 assert_ne!(leaf.key, "crowd", "{statuses:?}\n{tree}");
-                assert!(leaf.key == "price" || !possible, "{statuses:?}\n{tree}");
+                assert!(
+                    leaf.key.ends_with("price") || !possible,
+                    "{statuses:?}\n{tree}"
+                );
                 shorts += usize::from(leaf.key == "short");
-                prices += usize::from(leaf.key == "price");
+                prices += usize::from(leaf.key.ends_with("price"));
             }
             crowds += leaves.iter().filter(|leaf| leaf.key == "crowd").count();
         }

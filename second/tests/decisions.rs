@@ -1125,3 +1125,222 @@ fn decision_10_count_lines_are_splits() {
         held_tree(1980, 2, 3)
     );
 }
+
+#[test]
+fn decision_105_the_lines_of_a_ramp_leaf() {
+    let leaf = [
+        "rampprice=10,14",
+        "reserve=0,2",
+        "up=3",
+        "down=0",
+        "up=1",
+        "down=2",
+    ];
+    assert_eq!(nodes(&leaf.join(" ")), held_tree(1700, 0, 1));
+    // T values, then T - 1 of them; each line by 12, 14, 13.
+    for (at, values) in [2, 2, 1, 1, 1, 1].into_iter().enumerate() {
+        let key = leaf[at].split_once('=').unwrap().0;
+        for (value, right) in [("00", 12), ("1000000001", 13), ("1000000000", 0)] {
+            for count in 1..4 {
+                let mut lines = leaf.map(str::to_string);
+                lines[at] = format!("{key}={}", vec![value; count].join(","));
+                let expected = match (right, count == values) {
+                    (12, _) => at_line(12, 3 + at),
+                    (_, false) => at_line(14, 3 + at),
+                    (0, true) => continue,
+                    (number, true) => at_line(number, 3 + at),
+                };
+                assert_eq!(nodes(&lines.join(" ")), expected, "{lines:?}");
+            }
+        }
+    }
+    // Unit 1 comes first; a unit's up line comes before its down line.
+    let other_unit = "rampprice=10,14 reserve=0,2 up=1 down=2 up=3 down=0";
+    assert_ne!(nodes(other_unit), held_tree(1700, 0, 1));
+    let exchanged = "rampprice=10,14 reserve=0,2 down=0 up=3 up=1 down=2";
+    assert_eq!(nodes(exchanged), at_line(12, 5));
+    let by_key = "rampprice=10,14 reserve=0,2 up=3 up=1 down=0 down=2";
+    assert_eq!(nodes(by_key), at_line(12, 6));
+}
+
+#[test]
+fn decision_105_one_period() {
+    // On at 4: 4·4 + 2·4·4 - 20·4 - 2·4 = -40; D and R bring 20·3 + 2·(3 + 1).
+    let problem = one_unit(1, "0,4,2,1,4,1,1,-1,1,1,0,0,0,0,0")
+        .replace("demand=0", "demand=3")
+        .replace("spare=0", "spare=1");
+    let at = |nodes: &str| under(&problem, &tree(1, nodes));
+    assert_eq!(at("rampprice=20 reserve=2"), held_tree(28, 0, 1));
+    assert_eq!(at("price=20 reserve=2"), held_tree(28, 0, 1));
+    for ramps in ["up=0", "down=0", "up=0 down=0", "up=", "down="] {
+        let nodes = format!("rampprice=20 reserve=2 {ramps}");
+        assert_eq!(at(&nodes), at_line(12, 5), "{ramps}");
+        let nodes = format!("split=1,1 rampprice=20 reserve=2 {ramps} short=1");
+        assert_eq!(at(&nodes), at_line(12, 6), "{ramps}");
+    }
+    let two = "split=1,1 rampprice=20 reserve=2 rampprice=20 reserve=2";
+    // Off is worth 0 and on -40.
+    assert_eq!(at(two), held_tree(28, 1, 2));
+}
+
+/// A problem of one unit that costs nothing and may be on or off at will, with DR 2 and UR 1.
+fn ramp_unit(periods: usize, limits: &str) -> String {
+    let spare = vec!["320000"; periods].join(",");
+    let zeros = vec!["0"; periods].join(",");
+    one_unit(periods, &format!("0,0,0,{limits},1,1,-1,2,1,0,0,0,0,0"))
+        .replace(&format!("spare={zeros}"), &format!("spare={spare}"))
+}
+
+/// The value of a leaf with these ramp lines under these statuses. All other leaves of its tree have
+/// a value far above it, for the spare.
+fn with_statuses(problem: &str, statuses: &[bool], ramps: &str) -> second::Answer {
+    let zeros = vec!["0"; statuses.len()].join(",");
+    let most = vec!["1000000000"; statuses.len()].join(",");
+    let mut nodes = format!("rampprice={zeros} reserve={zeros} {ramps}");
+    for (period, &on) in statuses.iter().enumerate().rev() {
+        let other = format!("price={zeros} reserve={most}");
+        nodes = match on {
+            true => format!("split=1,{} {other} {nodes}", period + 1),
+            false => format!("split=1,{} {nodes} {other}", period + 1),
+        };
+    }
+    under(problem, &tree(1, &nodes))
+}
+
+/// With outputs p in period 1 and r in 2, each 3 to 7.
+#[test]
+fn decision_106_what_each_status_adds() {
+    let problem = ramp_unit(2, "3,7");
+    for (statuses, ramps, value) in [
+        // -7·up - 7·down.
+        ([false, false], "up=5 down=2", -49),
+        ([false, false], "up=0 down=2", -14),
+        ([false, false], "up=5 down=0", -35),
+        // up·(r - 7) + down·(-r).
+        ([false, true], "up=5 down=2", -35 + 3 * 3),
+        ([false, true], "up=2 down=5", -14 - 3 * 7),
+        ([false, true], "up=1 down=0", 3 - 7),
+        ([false, true], "up=0 down=1", -7),
+        // up·(0 - p - 1) + down·(p - 2 - 7).
+        ([true, false], "up=5 down=2", -23 - 3 * 7),
+        ([true, false], "up=2 down=5", -47 + 3 * 3),
+        ([true, false], "up=1 down=0", -7 - 1),
+        ([true, false], "up=0 down=1", 3 - 2 - 7),
+        // up·(r - p - 1) + down·(p - 2 - r).
+        ([true, true], "up=5 down=2", -9 + 3 * 3 - 3 * 7),
+        ([true, true], "up=2 down=5", -12 - 3 * 7 + 3 * 3),
+        ([true, true], "up=1 down=0", 3 - 7 - 1),
+        ([true, true], "up=0 down=1", 3 - 2 - 7),
+        ([true, true], "up=1 down=1", -3),
+    ] {
+        let answer = with_statuses(&problem, &statuses, ramps);
+        assert_eq!(answer, held_tree(value, 2, 3), "{statuses:?} {ramps}");
+    }
+}
+
+/// One output, 7, so that only the statuses count. The first values belong to period 2.
+#[test]
+fn decision_106_which_period_a_value_belongs_to() {
+    let problem = ramp_unit(3, "7,7");
+    let ramps = "up=10,1 down=100,1000";
+    for (statuses, value) in [
+        ([false, false, false], -7 * (10 + 100) - 7 * (1 + 1000)),
+        ([false, false, true], -7 * (10 + 100) - 7 * 1000),
+        ([false, true, false], -7 * 100 - 8 - 2 * 1000),
+        ([false, true, true], -7 * 100 - 1 - 2 * 1000),
+        ([true, false, false], -8 * 10 - 2 * 100 - 7 * (1 + 1000)),
+        ([true, false, true], -8 * 10 - 2 * 100 - 7 * 1000),
+        ([true, true, false], -10 - 2 * 100 - 8 - 2 * 1000),
+        ([true, true, true], -10 - 2 * 100 - 1 - 2 * 1000),
+    ] {
+        let answer = with_statuses(&problem, &statuses, ramps);
+        assert_eq!(answer, held_tree(value, 3, 4), "{statuses:?}");
+    }
+}
+
+/// The unit has to stay on, UR is 1, and period 2 pays 100: at 3 and 7 a price leaf is worth -690.
+/// The rise from 3 to 7 is 3 too much and is no cheaper by the leaf than one from 6 to 7, which
+/// keeps the ramp and costs 13.
+#[test]
+fn decision_107_rows_that_break_ramps_count_and_pay() {
+    let problem = one_unit(2, "0,1,0,3,7,48,1,1,2,1,0,0,0,0,6");
+    let at = |nodes: &str| under(&problem, &tree(1, nodes));
+    assert_eq!(at("price=0,100 reserve=0,0"), held_tree(-690, 0, 1));
+    let ramped = |up: i64| at(&format!("rampprice=0,100 reserve=0,0 up={up} down=0"));
+    assert_eq!(ramped(0), held_tree(-690, 0, 1));
+    assert_eq!(ramped(1), held_tree(-690 + 3, 0, 1));
+    assert_eq!(ramped(1), held_tree(6 + 7 - 700, 0, 1));
+    // Beyond it 7 and 7 is best, for which the difference is -1.
+    assert_eq!(ramped(2), held_tree(7 + 7 - 700 - 2, 0, 1));
+    assert_eq!(ramped(50), held_tree(7 + 7 - 700 - 50, 0, 1));
+}
+
+#[test]
+fn decision_107_a_ramp_leaf_in_the_bound() {
+    let ramp = "rampprice=10,14 reserve=0,2 up=3 down=0 up=1 down=2";
+    let low = "price=0,0 reserve=0,0";
+    let high = "price=10,14 reserve=0,2";
+    for (leaves, bound) in [
+        ([ramp, ramp], 1700),
+        ([ramp, high], 1700),
+        ([high, ramp], 1700),
+        ([ramp, low], 5),
+        ([low, ramp], 5),
+    ] {
+        // A count, so that the leaves are worth what they are alone.
+        let answer = nodes(&format!("count=1,0 {} {}", leaves[0], leaves[1]));
+        assert_eq!(answer, held_tree(bound, 1, 2), "{leaves:?}");
+    }
+    // With `short` beside it the bound is its value; only with neither kind it is `never`. Unit 2 on
+    // in 2: off and on is -100, on and on -110.
+    assert_eq!(
+        nodes(&format!("split=2,2 short=2 {ramp}")),
+        held_tree(2220 - 370 - 110, 1, 2)
+    );
+    assert_eq!(under(&impossible(), &tree(1, "short=1")), held_never(0, 1));
+}
+
+#[test]
+fn decision_107_counts_and_p0_play_no_part() {
+    let ramp = "rampprice=10,14 reserve=0,2 up=3 down=0 up=1 down=2";
+    for most in 0..2 {
+        for period in 1..=2 {
+            let counted = format!("count={period},{most} {ramp} {ramp}");
+            assert_eq!(nodes(&counted), held_tree(1700, 1, 2));
+        }
+    }
+    for p0 in [20, 21, 79, 80] {
+        let problem = PROBLEM.replace("90,1,5,60", &format!("90,1,5,{p0}"));
+        assert_eq!(under(&problem, &tree(1, ramp)), held_tree(1700, 0, 1));
+    }
+}
+
+#[test]
+fn decision_108_35_is_the_last_test_of_the_last_line() {
+    // Off in 1 and on in 2 unit 1 is stuck.
+    let above = "split=1,1 split=1,2 short=1";
+    let zeros = "rampprice=0,0 reserve=0,0 up=0 down=0 up=0 down=0";
+    let mixed = "rampprice=10,14 reserve=0,2 up=3 down=0 up=1 down=2";
+    let most = zeros.replace('0', "1000000000");
+    for leaf in [zeros, mixed, &most] {
+        assert_eq!(nodes(&format!("{above} {leaf}")), at_line(35, 11), "{leaf}");
+    }
+    for (last, number) in [("00", 12), ("", 12), ("0,0", 14), ("1000000001", 13)] {
+        let leaf = format!("rampprice=0,0 reserve=0,0 up=0 down=0 up=0 down={last}");
+        assert_eq!(nodes(&format!("{above} {leaf}")), at_line(number, 11));
+    }
+    for (at, line) in zeros.split(' ').enumerate() {
+        let leaf = zeros.replacen(line, &format!("{line},0"), 1);
+        let (unit_2, line) = (at >= 4, 6 + at);
+        // The lines of the two units are alike; the first of two alike is the one changed.
+        let line = if unit_2 { line - 2 } else { line };
+        assert_eq!(nodes(&format!("{above} {leaf}")), at_line(14, line));
+    }
+    // One period: the reserve line is the last.
+    let problem = one_unit(1, "0,0,0,1,4,1,2,-1,1,1,0,0,0,0,0");
+    let leaf = "rampprice=7 reserve=7";
+    let text = tree(1, &format!("split=1,1 {leaf} {leaf}"));
+    assert_eq!(under(&problem, &text), at_line(35, 7));
+    let text = tree(1, &format!("split=1,1 {leaf} stuck=1"));
+    assert_eq!(under(&problem, &text), held_tree(0, 1, 2));
+}

@@ -1,16 +1,18 @@
 //! That the generator brings what it is there for: p0 at its limits, ramps from it just kept and
 //! just broken, and unit lines in which it is wrong; count lines as deep as they may stand and one
-//! deeper, at the ends of what K may be and one beyond.
+//! deeper, at the ends of what K may be and one beyond; ramp leaves of all sizes, and damage to each of
+//! their lines.
 
 mod common;
 
 use std::collections::BTreeMap;
 
 use common::*;
+use second::inputs::kinds::kinds;
 use second::inputs::random::Random;
-use second::inputs::{damage, problems, schedules, trees};
+use second::inputs::{damage, input, problems, ramps, schedules, trees};
 use second::problem::Problem;
-use second::{fresh, lodge, Answer, Figures};
+use second::{fresh, listing, lodge, Answer, Figures};
 
 /// The values of the one unit line that differs, and its number.
 fn changed_line(before: &str, after: &str) -> (usize, Vec<i64>) {
@@ -204,4 +206,143 @@ fn count_and_crowd_lines_are_damaged_as_others_are() {
             "{place:?}"
         );
     }
+}
+
+/// Document 01's problem; the leaf's lines are 3 to 8.
+const RAMP_LEAF: &str = "rampprice=10,14 reserve=0,2 up=3 down=0 up=1 down=2";
+
+#[test]
+fn each_line_of_a_ramp_leaf_is_damaged_in_each_way() {
+    let mut random = Random::new(36);
+    let tree = tree(1, RAMP_LEAF);
+    let mut seen: BTreeMap<(u32, usize), usize> = BTreeMap::new();
+    for round in 0..8_000 {
+        let damaged = match round % 2 {
+            0 => damage::damaged(&mut random, &tree),
+            _ => ramps::damaged(&mut random, &tree, None),
+        };
+        let mut docket = holding(PROBLEM);
+        if let Answer::Refused(refusal) = lodge(&mut docket, &damaged) {
+            *seen.entry((refusal.number, refusal.line)).or_default() += 1;
+        }
+    }
+    for line in 3..=8 {
+        for number in [12, 13, 14] {
+            let times = seen.get(&(number, line)).copied().unwrap_or(0);
+            assert!(times > 20, "{number} at {line}: {times}");
+        }
+    }
+}
+
+/// Damage that names a leaf by its last line stays within that leaf, or shows just after it.
+#[test]
+fn damage_to_a_named_ramp_leaf_shows_there() {
+    let mut random = Random::new(37);
+    let nodes = format!("count=1,0 {RAMP_LEAF} {RAMP_LEAF}");
+    let tree = tree(1, &nodes);
+    for (last, lines) in [(9, 4..=10), (15, 10..=16)] {
+        for _ in 0..500 {
+            let damaged = ramps::damaged(&mut random, &tree, Some(last));
+            let mut docket = holding(PROBLEM);
+            if let Answer::Refused(refusal) = lodge(&mut docket, &damaged) {
+                assert!(lines.contains(&refusal.line), "{refusal:?}");
+            }
+        }
+    }
+    let plain = "kind=tree\nwriter=1\nshort=1\nend=tree\n";
+    assert_eq!(ramps::damaged(&mut random, plain, None), plain.as_bytes());
+}
+
+#[test]
+fn ramp_leaves_come_with_one_and_48_periods_and_32_units() {
+    let mut sizes: BTreeMap<(usize, usize), usize> = BTreeMap::new();
+    let (mut small, mut all) = (0, 0);
+    for index in (3..1_000).step_by(5) {
+        let bytes = input(38, index);
+        small += usize::from(bytes.len() <= 20_000);
+        all += 1;
+        let text = String::from_utf8_lossy(&bytes);
+        let line = |key: &str| text.lines().find_map(|line| line.strip_prefix(key));
+        let size = ["periods=", "units="].map(|key| line(key).unwrap().parse().unwrap());
+        let leaves = text.matches("rampprice=").count();
+        *sizes.entry((size[0], size[1])).or_default() += leaves;
+    }
+    let leaves = |periods: usize, units: usize| {
+        let of_size = sizes.iter().filter(|(&size, _)| {
+            (periods == 0 || size.0 == periods) && (units == 0 || size.1 == units)
+        });
+        of_size.map(|(_, leaves)| leaves).sum::<usize>()
+    };
+    assert!(leaves(1, 0) > 100 && leaves(48, 0) > 50, "{sizes:?}");
+    assert!(leaves(0, 32) > 50 && leaves(48, 32) > 5, "{sizes:?}");
+    assert!(small * 10 > all * 9, "only {small} of {all} are small");
+}
+
+/// That the answer to a tree with these nodes is of this kind, among others.
+fn brings(problem: &str, nodes: &str, kind: &str) {
+    let input = format!("{problem}{}", tree(1, nodes));
+    let kinds = kinds(input.as_bytes(), &listing(input.as_bytes()));
+    assert!(kinds.iter().any(|one| one == kind), "{kind}: {kinds:?}");
+}
+
+#[test]
+fn kinds_of_accepted_ramp_leaves() {
+    let beside = |prices: &str| format!("count=1,0 {RAMP_LEAF} {prices}");
+    let all_0 = "rampprice=0,0 reserve=0,0 up=0 down=0 up=0 down=0";
+    brings(PROBLEM, RAMP_LEAF, "tree with a ramp leaf");
+    brings(PROBLEM, RAMP_LEAF, "ramp leaf below its price leaf");
+    brings(PROBLEM, all_0, "ramp leaf with all ramps 0");
+    let nodes = beside("price=10,14 reserve=0,2");
+    brings(PROBLEM, &nodes, "bound of a ramp leaf beside a price leaf");
+    brings(PROBLEM, &nodes, "ramp leaf under a count");
+    let nodes = beside("price=0,0 reserve=0,0");
+    brings(PROBLEM, &nodes, "bound of a price leaf beside a ramp leaf");
+    let nodes = format!("split=2,2 short=2 {RAMP_LEAF}");
+    brings(PROBLEM, &nodes, "ramp leaf under a split");
+    let nodes = RAMP_LEAF.replace("up=3", "up=1000000000");
+    brings(PROBLEM, &nodes, "ramp leaf with a largest multiplier");
+    let problem = one_unit(2, "0,1,0,3,7,48,1,1,2,1,0,0,0,0,6");
+    let nodes = "rampprice=0,100 reserve=0,0 up=1 down=0";
+    brings(&problem, nodes, "ramp leaf above its price leaf");
+}
+
+#[test]
+fn kinds_of_refused_ramp_leaves() {
+    let reserve_line = "refused 13 at a ramp leaf's reserve line";
+    for (part, with, kind) in [
+        ("up=3", "up=00", "refused 12 at an up line"),
+        ("down=2", "down=2,2", "refused 14 at a down line"),
+        ("reserve=0", "reserve=1000000001", reserve_line),
+        ("10,14", "10", "refused 14 at a rampprice line"),
+        (
+            "up=3 down=0",
+            "down=0 up=3",
+            "refused 12 with up and down exchanged",
+        ),
+        (" down=2", "", "refused 12 where a ramp leaf breaks off"),
+    ] {
+        brings(PROBLEM, &RAMP_LEAF.replace(part, with), kind);
+    }
+    let stuck = format!("split=1,1 split=1,2 short=1 {RAMP_LEAF}");
+    brings(PROBLEM, &stuck, "refused 35 at a last down line");
+    for (last, kind) in [
+        ("down=00", "refused 12 before 35"),
+        ("down=1000000001", "refused 13 before 35"),
+        ("down=0,0", "refused 14 before 35"),
+    ] {
+        brings(PROBLEM, &stuck.replace("down=2", last), kind);
+    }
+    let priced = "split=1,1 split=1,2 short=1 price=0,0 reserve=0,0";
+    brings(PROBLEM, priced, "refused 35");
+}
+
+#[test]
+fn kinds_of_ramp_leaves_of_one_period() {
+    let problem = one_unit(1, "0,0,0,1,4,1,2,-1,1,1,0,0,0,0,0");
+    let leaf = "rampprice=0 reserve=0";
+    brings(&problem, leaf, "ramp leaf of one period");
+    let nodes = format!("{leaf} up=0");
+    brings(&problem, &nodes, "refused 12 at a ramp of one period");
+    let nodes = format!("split=1,1 {leaf} {leaf}");
+    brings(&problem, &nodes, "refused 35 at a ramp leaf's reserve line");
 }

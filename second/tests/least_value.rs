@@ -6,7 +6,7 @@ use second::generator::Generator;
 use second::inputs::problems::{planted, small_unit, text, with_initial_output};
 use second::inputs::random::Random;
 use second::inputs::trees;
-use second::minimum::{best_output_value, is_stuck, least_value};
+use second::minimum::{best_output_value, is_stuck, least_value, Worth};
 use second::problem::Problem;
 use second::{fresh, lodge, Answer, Bound, Figures};
 
@@ -128,14 +128,17 @@ fn least_value_and_stuck_agree_with_every_run_and_output() {
         let high = random.pick(&[4, 20, 40]);
         let prices: Vec<i64> = (0..periods).map(|_| random.between(0, high)).collect();
         let reserves: Vec<i64> = (0..periods).map(|_| random.between(0, 6)).collect();
-        let on_values: Vec<i64> = prices
+        let worths: Vec<Worth> = prices
             .iter()
             .zip(&reserves)
-            .map(|(&price, reserve)| best_output_value(&unit, price) - reserve * unit.most_output)
+            .map(|(&price, reserve)| Worth {
+                off: 0,
+                on: best_output_value(&unit, price) - reserve * unit.most_output,
+            })
             .collect();
         let tried = least_by_trying(&unit, &fixed, &prices, &reserves);
         assert_eq!(
-            least_value(&unit, &fixed, &on_values),
+            least_value(&unit, &fixed, &worths),
             tried,
             "{unit:?} {fixed:?}"
         );

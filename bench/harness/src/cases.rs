@@ -128,6 +128,18 @@ fn prices(name: &'static str, limit: usize, times: Times, off: bool) -> Case {
     }
 }
 
+/// A tree that fills its room with ramp leaves of one digit.
+fn ramps(name: &'static str, limit: usize, times: Times, off: bool) -> Case {
+    let mut r = Random::new();
+    let problem = problem(&mut r, times, 100_000, 10_000, off);
+    let tree = largest_tree(ALONE, left(limit, &problem), || ramp_leaf(&mut r, 0, 9));
+    Case {
+        name,
+        input: problem + &tree,
+        last: Last::TreeHeld,
+    }
+}
+
 /// A tree that fills its room with leaves of one line; unit 1 is stuck where it is on in period 1 or 2.
 fn lines(name: &'static str, limit: usize, leaves: &Leaves) -> Case {
     let mut r = Random::new();
@@ -201,6 +213,7 @@ pub fn all() -> Vec<Case> {
         peak("peak, 98 states, TD 1", MOST_STARTS, true),
         prices("65,536: price leaves", LISTING_LIMIT, MOST, true),
         prices("65,536: the same, TD 1", LISTING_LIMIT, MOST_STARTS, true),
+        ramps("65,536: ramp leaves", LISTING_LIMIT, MOST, true),
         lines("65,536: stuck leaves", LISTING_LIMIT, &STUCK),
         lines("65,536: short leaves", LISTING_LIMIT, &SHORT),
         lines(
@@ -218,6 +231,7 @@ pub fn all() -> Vec<Case> {
         schedules("nine schedules of 32 x 48", 9),
         prices("1,048,576: price leaves", TEXT_LIMIT, MOST, true),
         prices("1,048,576: the same, TD 1", TEXT_LIMIT, MOST_STARTS, true),
+        ramps("1,048,576: ramp leaves", TEXT_LIMIT, MOST, true),
         lines("1,048,576: stuck leaves", TEXT_LIMIT, &STUCK),
         lines("1,048,576: short leaves", TEXT_LIMIT, &SHORT),
         lines(

@@ -141,6 +141,17 @@ pub fn price_leaf(r: &mut Random, least: u64, most: u64) -> String {
     row("price", q.into_iter()) + &row("reserve", s.into_iter())
 }
 
+/// A ramp leaf with multipliers from least to most.
+pub fn ramp_leaf(r: &mut Random, least: u64, most: u64) -> String {
+    let mut line = |key, values| row(key, (0..values).map(|_| r.within(least, most)));
+    let mut text = line("rampprice", PERIODS) + &line("reserve", PERIODS);
+    for _ in 0..UNITS {
+        text += &line("up", PERIODS - 1);
+        text += &line("down", PERIODS - 1);
+    }
+    text
+}
+
 /// A schedule's text with the same output in every period, all units on.
 pub fn schedule(output: impl Fn(usize, usize) -> u64) -> String {
     let mut text = "kind=schedule\nwriter=1\n".to_string();

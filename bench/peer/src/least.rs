@@ -9,15 +9,15 @@ const MOST_DOWN: usize = 97;
 
 /// What stands for a value that is not there, and the least number that means so.
 const NONE: i64 = 1 << 61;
-const AT_LEAST_NONE: i64 = 1 << 60;
+pub const AT_LEAST_NONE: i64 = 1 << 60;
 
 pub const OFF: u8 = 1;
 pub const ON: u8 = 2;
 
-/// The least of what a period on costs, over the whole outputs from pL to pU, with (q + s)·pU added.
+/// The least of what a period on costs, over the whole outputs from pL to pU, where each output costs b and is paid q, with q·pU added.
 #[inline(always)]
-fn least_on(g: &Unit, q: u64) -> u64 {
-    let (b, c) = (g.b, g.c);
+pub fn least_on(g: &Unit, b: u64, q: u64) -> u64 {
+    let c = g.c;
     let p = if q <= b + c * (2 * g.low + 1) {
         g.low
     } else if c == 0 {
@@ -125,7 +125,7 @@ const FEW_STATES: usize = 24;
 
 /// The walk over all states where they are few, or else over those that can be reached, as the proved walk is; with ALL over all.
 #[inline(always)]
-fn walk_value<const ALL: bool>(g: &Unit, on: &[i64], off: &[i64], fixed: &[u8]) -> i64 {
+pub fn walk_value<const ALL: bool>(g: &Unit, on: &[i64], off: &[i64], fixed: &[u8]) -> i64 {
     if ALL || g.up + g.down + g.cold_after < FEW_STATES {
         walk::<true>(g, on, off, fixed)
     } else {
@@ -161,7 +161,7 @@ pub fn leaf_value<const ALL: bool>(
     for u in 0..problem.units {
         let g = &problem.fleet[u];
         for t in 0..n {
-            on[t] = least_on(g, q[t]) as i64;
+            on[t] = least_on(g, g.b, q[t]) as i64;
             off[t] = (both[t] * g.high) as i64;
         }
         let v = walk_value::<ALL>(g, &on, &off, &fixed[u * n..u * n + n]);

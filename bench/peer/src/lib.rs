@@ -12,6 +12,7 @@ mod listing;
 mod page;
 mod period;
 mod problem;
+mod ramp;
 mod tree;
 
 pub use docket::{Answer, Docket};

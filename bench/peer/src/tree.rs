@@ -3,13 +3,14 @@ use crate::least::{is_stuck, leaf_value, OFF, ON};
 use crate::lines::Lines;
 use crate::period::{is_crowd, sum_in_order, Orders};
 use crate::problem::{Problem, MOST_PERIODS, MOST_UNITS};
+use crate::ramp::{RampLeaf, Steps};
 use crate::Refusal;
 
 const MOST_DEPTH: usize = 63;
 const MOST_PRICE: u64 = 1_000_000_000;
 pub const MOST_WRITER: u64 = 65_535;
 
-/// The smallest value of the price leaves, None for never; and the counts.
+/// The smallest value of the price and ramp leaves, None for never; and the counts.
 #[derive(Clone, Copy, Debug, PartialEq, Eq)]
 pub struct Figures {
     pub writer: u64,
@@ -79,6 +80,8 @@ impl<const ALL: bool> Reader<'_, ALL> {
             self.read_crowd()?;
         } else if self.lines.begins(b"count=") {
             return self.read_count(depth);
+        } else if self.lines.begins(b"rampprice=") {
+            self.read_ramp()?;
         } else {
             self.read_price()?;
         }
@@ -135,7 +138,14 @@ impl<const ALL: bool> Reader<'_, ALL> {
         self.lines.take_row(b"price=", n, 0, MOST_PRICE)?;
         let q = self.lines.values;
         self.lines.take_row(b"reserve=", n, 0, MOST_PRICE)?;
-        match leaf_value::<ALL>(self.problem, &q, &self.lines.values, &self.fixed) {
+        let value = leaf_value::<ALL>(self.problem, &q, &self.lines.values, &self.fixed);
+        self.take_value(value)
+    }
+
+    /// Lowers the bound to the value of a leaf whose last line was taken last; None where a unit is stuck.
+    #[inline(always)]
+    fn take_value(&mut self, value: Option<i64>) -> Result<(), u64> {
+        match value {
             None => self.refuse_last(35),
             Some(value) => {
                 let bound = self.figures.bound.unwrap_or(i64::MAX);
@@ -143,6 +153,27 @@ impl<const ALL: bool> Reader<'_, ALL> {
                 Ok(())
             }
         }
+    }
+
+    /// A stuck unit ends the sum, and not the reading.
+    #[inline(never)]
+    fn read_ramp(&mut self) -> Result<(), u64> {
+        let (n, steps) = (self.problem.periods, self.problem.periods - 1);
+        self.lines.take_row_after(b"rampprice=", n, 0, MOST_PRICE)?;
+        let q = self.lines.values;
+        self.lines.take_row(b"reserve=", n, 0, MOST_PRICE)?;
+        let mut leaf = RampLeaf::new(self.problem, &q, &self.lines.values);
+        let mut multipliers = Steps::default();
+        for u in 0..self.problem.units {
+            if steps > 0 {
+                self.lines.take_row(b"up=", steps, 0, MOST_PRICE)?;
+                multipliers.up.put(&self.lines.values[..steps]);
+                self.lines.take_row(b"down=", steps, 0, MOST_PRICE)?;
+                multipliers.down.put(&self.lines.values[..steps]);
+            }
+            leaf.add::<ALL>(u, &multipliers, &self.fixed[u * n..u * n + n]);
+        }
+        self.take_value(leaf.value)
     }
 
     fn read_split(&mut self, depth: usize) -> Result<(), u64> {

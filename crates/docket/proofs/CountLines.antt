@@ -28,7 +28,7 @@ use Rattle.docket.proofs.OneVerdict.{part, Fine}
 use Rattle.docket.proofs.EachText as each
 
 -- a text that begins as a tree and is refused at a line after its first is refused there as a tree
-refused-in-tree : (P : Instance) (text : List ℕ) (n m : ℕ) (v : Verdict) → Is (some P) text v → v ≡ refused-line n m → Begins text kind-tree → 2 ≤ m → RefusedAt P text n m
+pub refused-in-tree : (P : Instance) (text : List ℕ) (n m : ℕ) (v : Verdict) → Is (some P) text v → v ≡ refused-line n m → Begins text kind-tree → 2 ≤ m → RefusedAt P text n m
 refused-in-tree P text n m v (too-long h) e b k = absurd (omega (arith, k, ap (part (λ r. r .line)) e))
 refused-in-tree P text n m v (no-kind h p s t) e b k = absurd (t b)
 refused-in-tree P text n m v (second-problem h c) e b k = absurd (omega (arith, k, ap (part (λ r. r .line)) e))

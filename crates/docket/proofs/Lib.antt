@@ -24,6 +24,7 @@ pub mod NeverHeld
 pub mod Contracts
 pub mod Promises
 pub mod CountLines
+pub mod RampLines
 pub mod Questions
 pub mod UnitsTold
 pub mod Midnight

@@ -17,6 +17,7 @@ use Rattle.model.specs.Held.{view}
 use Rattle.model.specs.Above.{Mark, root}
 use Rattle.model.specs.Agreement.{Candidate, LeafOf, above, leaf-at}
 use Rattle.model.specs.Leaf.{is-stuck, value, unit-least}
+use Rattle.model.specs.Ramps.{ramp-value, ramp-least}
 use Rattle.model.specs.declared.figures.Bound.the-variants.{Never as never, Number as number}
 use Rattle.model.specs.Tree.{Tree, Holds, leaf-bound, tree-figures}
 use Rattle.model.specs.Tree as tree
@@ -121,6 +122,12 @@ pub minima-true : (n : ℕ) (q s : ℕ → ℕ) (g : Generator) (m : ℕ → Mar
     → ((r : List ℕ) → Candidate n g m r → unit-least n q s g m ≤ℤ value n q s g r)
     × ((r : List ℕ) × Candidate n g m r × (value n q s g r ≡ unit-least n q s g m))
 minima-true n q s g m good free = (least.unit-least-below n q s g m, least.unit-least-attained n q s g m good free)
+
+-- likewise those of a ramp leaf, over the same rows
+pub ramp-minima-true : (n : ℕ) (q s x y : ℕ → ℕ) (g : Generator) (m : ℕ → Mark) → GoodUnit g → T (not (is-stuck n g m))
+    → ((r : List ℕ) → Candidate n g m r → ramp-least n q s x y g m ≤ℤ ramp-value n q s x y g r)
+    × ((r : List ℕ) × Candidate n g m r × (ramp-value n q s x y g r ≡ ramp-least n q s x y g m))
+ramp-minima-true n q s x y g m good free = (least.ramp-least-below n q s x y g m, least.ramp-least-attained n q s x y g m good free)
 
 -- ---- For every list of texts, lodged in turn in a fresh docket: each text is exactly one thing at its place, and the texts alone decide which
 

@@ -2,30 +2,32 @@
 -- the texts of a list are is `Is` and `Are` (specs/Texts.antt). What a request changes in problems, rules and refusals is in the definitions of which
 -- Promises.antt speaks.
 use mathlib.Core.Path.{_≡_, refl}
-use mathlib.Core.Bool.{Bool, true, false}
+use mathlib.Core.Bool.{Bool, true, false, not}
 use mathlib.Core.List.{List, [], _∷_, _++_, map}
 use mathlib.Core.Logic.{_↔_}
 use mathlib.Core.Option.{Option, none, some}
-use Prim.Native.Nat.{ℕ, suc, _+_, _-_, _≤_, _<_, min}
+use Prim.Native.Nat.{ℕ, suc, pred, _+_, _-_, _≤_, _<_, min}
 use native.Mathlib.Omega.{arith}
-use lib.Dec.{lit<, lit≤}
-use lib.IntN.{pos}
+use lib.Dec.{T, lit<, lit≤}
+use lib.IntN.{pos, _+ℤ_, _-ℤ_, _*ℤ_}
 use lib.ListN.{length, take}
 use lib.Signed.{_≤ℤ_}
 use Rattle.decimal.specs.Decimal.{digits, digits-by}
 use Rattle.model.specs.declared.generator.Generator.{Generator}
 use Rattle.model.specs.Instance.{Instance, Schedule, _at_, Each}
 use Rattle.model.specs.Ranges.{All, InRange, Ordered, WellFormed}
-use Rattle.model.specs.Rules.{FirstRamp, MeetsPrinted, Meets}
+use Rattle.model.specs.Rules.{on, if-on, FirstRamp, MeetsPrinted, Meets}
 use Rattle.model.specs.Cost.{cost}
 use Rattle.model.specs.Breach.{Breach}
 use Rattle.model.specs.Broken.{Of, OffRamp, Broken, Lower}
 use Rattle.model.specs.Above.{Above, root, count, side}
 use Rattle.model.specs.Largest.{total, falling, largest, LargestSum, FallingOrder}
-use Rattle.model.specs.Leaf.{usable, available, not-off, Crowded, those}
+use Rattle.model.specs.Leaf.{usable, available, not-off, Crowded, those, any-stuck, value, units-least, requirement, leaf-value}
+use Rattle.model.specs.Ramps.{over-rise, over-fall, sumℤ, ramp-charge, ramp-value, Steps, ramp-leasts, ramp-leaf-value, RampPrices, ups, downs}
+use Rattle.model.specs.declared.figures.Bound.the-variants.{Never as never, Number as number}
 use Rattle.model.specs.Turns.{in-turn, took, Fewest}
-use Rattle.model.specs.Tree.{short, crowd, stuck, price, Tree, leaf, fork, Narrows, GoodFork, GoodLeaf, LeafHolds, leaf-bound, Limits, tree-figures}
-use Rattle.model.specs.Agreement.{running, Agrees, LeafOf, OneLeaf}
+use Rattle.model.specs.Tree.{Leaf, short, crowd, stuck, price, ramp, Tree, leaf, fork, Narrows, GoodFork, GoodLeaf, HasPrices, LeafHolds, leaf-bound, Limits, bound, tree-figures}
+use Rattle.model.specs.Agreement.{running, Agrees, LeafOf, leaf-at, OneLeaf}
 use Rattle.model.specs.Possible.{Possible, possible, NodeOf, above-node, counts-above}
 use Rattle.model.specs.Unread.{AlikeButMidnight}
 use Rattle.model.proofs.Sides as sides
@@ -34,6 +36,10 @@ use Rattle.model.proofs.Capacities as capacities
 use Rattle.model.proofs.FallingOrders as orders
 use Rattle.model.proofs.Turns as turns
 use Rattle.model.proofs.Ignored as ignored
+use Rattle.model.proofs.EveryLeaf as each-leaf
+use Rattle.model.proofs.RampRules as ramp-rules
+use Rattle.model.proofs.RampLeaf as ramp-leaf
+use Rattle.model.proofs.RampLeaf.{Unpriced}
 use Rattle.model.proofs.Narrowing as narrowing
 use Rattle.model.proofs.Unread as unread
 use Rattle.walk.specs.Marks.{mark-of, marks-in}
@@ -45,9 +51,9 @@ use Rattle.problem.specs.Rendering.{lines-after}
 use Rattle.text.specs.Strings.{bytes}
 use Rattle.problem.specs.Refusals.{unit}
 use Rattle.problem.proofs.Examples.{example, example-formed}
-use Rattle.tree.specs.Rendering.{short-key, crowd-key, fork-line, node-lines, is-split-line}
-use Rattle.tree.specs.Places.{first-line, in-first, HoldsAmong}
-use Rattle.tree.specs.Refusals.{count-line, node-form, NodeBreaks, BrokenAt}
+use Rattle.tree.specs.Rendering.{short-key, crowd-key, step-lines, fork-line, node-lines, is-split-line}
+use Rattle.tree.specs.Places.{Part, first-line, in-first, HoldsAmong}
+use Rattle.tree.specs.Refusals.{count-line, node-form, NodeBreaks, Ends, PartBreaks, BrokenAt}
 use Rattle.tree.specs.WellFormed as tree-lines
 use Rattle.tree.proofs.SplitCounts.{split-lines}
 use Rattle.answer.specs.StatedAnswers.{AnswerValues, refused, Carries}
@@ -64,10 +70,11 @@ use Rattle.docket.specs.Promised.{after, answer, given, ScheduleText, Lo
 use Rattle.docket.specs.Specimens.{problem-of, listed-problem, tree-text, count-twice, specimens, Answered}
 use Rattle.docket.specs.Docket.{sound}
 use Rattle.docket.specs.Taking.{FitQuestion, asked, taken-under, taken-of}
-use Rattle.docket.specs.Requested.{NodeLineDue, TakenThere, Told, AsAsked, Midnight, in-period-1, UnitLineDue}
+use Rattle.docket.specs.Requested.{NodeLineDue, PartLineDue, TakenThere, Told, AsAsked, Midnight, in-period-1, UnitLineDue}
 use Rattle.docket.proofs.SpecimenTexts.{is-listed-problem}
 use Rattle.docket.proofs.SpecimenList.{specimens-answered}
 use Rattle.docket.proofs.CountLines as count-lines
+use Rattle.docket.proofs.RampLines as ramp-texts
 use Rattle.docket.proofs.UnitsTold as telling
 use Rattle.docket.proofs.Midnight as midnight
 use Rattle.docket.proofs.Promises as promises
@@ -181,6 +188,72 @@ pub asked-as-leaf : (P : Instance) (period most : ℕ) (fixed : List ℕ) → Fi
     → (u : Taken) → TakenThere P (asked P (period - 1) most fixed) (period - 1) u → TakenThere P A (period - 1) u
 asked-as-leaf P period most fixed F A a = telling.asked-there P period most fixed F A a
 
+-- ---- [6] Prices on the ramps
+
+-- A ramp leaf is written as its T multipliers, the reserve line, and then for every unit in turn its up line and its down line
+pub ramp-lines : (q s : List ℕ) (l : List RampPrices) → node-lines (leaf (ramp q s l)) ≡ plain-line (bytes "rampprice=") q ∷ plain-line (bytes "reserve=") s ∷ step-lines l
+unfolding node-lines
+ramp-lines q s l = refl
+
+pub unit-lines : (x : RampPrices) (l : List RampPrices) → step-lines (x ∷ l) ≡ plain-line (bytes "up=") (x .up) ∷ plain-line (bytes "down=") (x .down) ∷ step-lines l
+unit-lines x l = refl
+
+-- Within the limits it has T multipliers on each of its first two lines and T - 1 on each of the others, two for every unit; in one period these are absent
+pub ramp-shape : (P : Instance) (q s : List ℕ) (l : List RampPrices) → GoodLeaf P (ramp q s l)
+    → (length q ≡ P .periods) × (length s ≡ P .periods) × (P .periods ≡ 1 → length l ≡ 0) × ((P .periods ≡ 1 → ⊥) → length l ≡ length (P .units))
+    × All (λ x. (length (x .up) ≡ P .periods - 1) × (length (x .down) ≡ P .periods - 1)) l
+ramp-shape = ramp-leaf.good-shape
+
+-- To a row's value at the prices are added, for each period from the second, number t of the ups times the left side of (12) less its right side, and number t of the
+-- downs times the left side of (11) less its right side, p being the output of the period before, p′ that of the period, and u, u′ their statuses, on or off: up times
+-- p′ - (p + UR·u + pU·(1 - u)), down times (p - DR·u - pU·(1 - u′)) - p′. `rise-printed`, `fall-printed` and `charge-printed` of crates/source/proofs/Ramps.antt say that
+-- these are the source's, with its own letters
+pub ramp-printed : (n : ℕ) (q s x y : ℕ → ℕ) (g : Generator) (r : List ℕ) → ramp-value n q s x y g r ≡ value n q s g r +ℤ sumℤ (pred n) (λ t.
+    let p = r at t in
+    let p′ = r at suc t in
+    (pos (x t) *ℤ (pos p′ -ℤ (pos p +ℤ pos (if-on (on p) (g .UR)) +ℤ pos (if-on (not (on p)) (g .pU)))))
+    +ℤ (pos (y t) *ℤ ((pos p -ℤ pos (if-on (on p) (g .DR)) -ℤ pos (if-on (not (on p′)) (g .pU))) -ℤ pos p′)))
+unfolding ramp-value ramp-charge
+ramp-printed n q s x y g r = refl
+
+-- Each of these differences is 0 or below for a schedule that keeps the rules, in every unit and every period from the second
+pub ramps-not-above : (P : Instance) (sch : Schedule) → MeetsPrinted P sch
+    → Each (λ g r. (t : ℕ) → suc t < P .periods → (over-rise g (r at t) (r at suc t) ≤ℤ pos 0) × (over-fall g (r at t) (r at suc t) ≤ℤ pos 0)) (P .units) sch
+ramps-not-above = ramp-rules.steps-kept
+
+-- The leaf's value is the sum of the units' leasts of it and of q·D + s·(D + R) over the periods; the leasts are true minima (`ramp-minima-true` of Promises.antt). In a
+-- tree's bound it counts as a price leaf's does: both are numbers, of which the bound is the smallest (`bound-smallest` there)
+pub ramp-counts : (P : Instance) (A : Above) (q s : List ℕ) (l : List RampPrices)
+    → (leaf-bound P A (ramp q s l) ≡ number (ramp-leasts (P .periods) (λ t. q at t) (λ t. s at t) (ups l) (downs l) (P .units) (A .marks) +ℤ pos (requirement P (λ t. q at t) (λ t. s at t))))
+    × (leaf-bound P A (price q s) ≡ number (units-least (P .periods) (λ t. q at t) (λ t. s at t) (P .units) (A .marks) +ℤ pos (requirement P (λ t. q at t) (λ t. s at t))))
+unfolding leaf-bound ramp-leaf-value leaf-value
+ramp-counts P A q s l = (refl, refl)
+
+-- So a bound is never exactly where no leaf has prices, of either kind
+pub never-exactly : (P : Instance) (t : Tree) → (bound P root t ≡ never) ↔ ((i : LeafOf t) → HasPrices (leaf-at t i) → ⊥)
+never-exactly P t = each-leaf.never-exactly P root t
+
+-- Whatever its multipliers, no schedule that meets the rules and agrees with what stands above it costs less; that no schedule at all undercuts a held bound is
+-- `bounds-below` below, for every tree
+pub ramp-undercut : (P : Instance) (sch : Schedule) → MeetsPrinted P sch → (A : Above) → Agrees A sch → (q s : ℕ → ℕ) (x y : Steps)
+    → ramp-leaf-value P (A .marks) q s x y ≤ℤ pos (cost P sch)
+ramp-undercut = ramp-leaf.ramp-below
+
+-- With all ramp multipliers 0 it equals the price leaf, and so it does in one period
+pub ramp-flat : (P : Instance) (A : Above) (q s : List ℕ) (l : List RampPrices) → Unpriced l → leaf-bound P A (ramp q s l) ≡ leaf-bound P A (price q s)
+ramp-flat = ramp-leaf.leaf-flat
+
+pub ramp-one : (P : Instance) (A : Above) (q s : List ℕ) (l : List RampPrices) → P .periods ≡ 1 → leaf-bound P A (ramp q s l) ≡ leaf-bound P A (price q s)
+ramp-one = ramp-leaf.leaf-one
+
+-- It holds where a price leaf does, and like it reads no counts
+pub ramp-holds : (P : Instance) (A : Above) (q s : List ℕ) (l : List RampPrices) → LeafHolds P A (ramp q s l) ≡ LeafHolds P A (price q s)
+unfolding LeafHolds
+ramp-holds P A q s l = refl
+
+pub ramps-unread : (P : Instance) (A B : Above) → A .marks ≡ B .marks → (q s : List ℕ) (l : List RampPrices) → leaf-bound P A (ramp q s l) ≡ leaf-bound P B (ramp q s l)
+ramps-unread = ignored.ramps-ignore
+
 -- For every list of texts, lodged in turn in a fresh docket: vs is what they are, `given vs` the problem that they gave, `answer texts text` the answer to
 -- one text more
 module _ (texts : List (List ℕ)) (vs : List Verdict) (are : Are none texts vs) where
@@ -220,6 +293,17 @@ module _ (texts : List (List ℕ)) (vs : List Verdict) (are : Are none texts vs)
     pub thirty-six-exactly : (t : ℕ) → NodeLineDue P text before (ended (plain-line crowd-key (suc t ∷ []))) A d → t < P .periods
         → (answer texts text ≡ refused 36 (2 + length before) 0 0) ↔ (Crowded P A t → ⊥)
     thirty-six-exactly = count-lines.crowd-gets-36 texts vs are P known text before A d
+
+  -- ---- [6] again: the numbers of a later line of a leaf, where it is due after a part of the leaf with A above it
+
+  module _ (P : Instance) (known : given vs ≡ some P) (text : List ℕ) (before : List Line) (x : Line) (A : Above) (p : Part) (due : PartLineDue P text before x A p) where
+    -- are those of `PartBreaks` (tree/specs/Refusals.antt), and no others
+    pub part-refused : (n : ℕ) → (answer texts text ≡ refused n (2 + length before) 0 0) ↔ PartBreaks P A x p n
+    part-refused = ramp-texts.part-refused texts vs are P known text before x A p due
+
+    -- 35 comes exactly where the line is in range, ends its leaf, and a unit is stuck: at the leaf's last line and at no other
+    pub thirty-five-exactly : (answer texts text ≡ refused 35 (2 + length before) 0 0) ↔ (((l : Leaf) × Ends P x p l) × T (any-stuck (P .periods) (P .units) (A .marks)))
+    thirty-five-exactly = ramp-texts.last-gets-35 texts vs are P known text before x A p due
 
   -- ---- [2] again: asked of the docket after the texts
 

@@ -24,7 +24,7 @@ use Rattle.docket.proofs.ListVerdicts.{fine-after, are-verdicts}
 use Rattle.docket.proofs.Reached.{docket-of}
 use Rattle.docket.proofs.Lists.{lodges}
 use Rattle.docket.proofs.Specimens.{rows, figures, judged-as}
-use Rattle.docket.proofs.SpecimenTexts.{by-seven, is-listed-problem, is-listed-schedule, is-listed-tree, is-lone-leaf, is-lone-short, is-counted-tree, is-crowded-tree, is-lone-crowd, is-count-twice, is-empty, is-early, schedules-judged, units-judged, problems-judged, alone-judged}
+use Rattle.docket.proofs.SpecimenTexts.{by-seven, is-listed-problem, is-listed-schedule, is-listed-tree, is-lone-leaf, is-lone-short, is-counted-tree, is-crowded-tree, is-lone-crowd, is-count-twice, is-ramp-tree, is-stuck-ramp, is-empty, is-early, schedules-judged, units-judged, problems-judged, alone-judged}
 
 -- ---- answers by what the texts are
 
@@ -88,6 +88,8 @@ specimens-answered =
     also then-one is-crowded-tree
     also then-one is-lone-crowd
     also then-one is-count-twice
+    also then-one is-ramp-tree
+    also then-one is-stuck-ramp
     also tt
 
 -- ---- the listing: its three answers, and what its report then shows, 1980 by 7 and 1980 by 3

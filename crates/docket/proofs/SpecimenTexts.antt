@@ -15,8 +15,10 @@ use Rattle.model.specs.Rules.{output, capacity}
 use Rattle.model.specs.Cost.{cost, row-cost}
 use Rattle.model.specs.Breach.{first-breach}
 use Rattle.model.specs.Above.{count}
+use Rattle.model.specs.Leaf.{usable, available, is-stuck}
 use Rattle.model.specs.Tree.{short, crowd, leaf, fork}
 use Rattle.model.specs.CountExamples.{by-count, by-both}
+use Rattle.model.specs.RampExamples.{priced-ramps}
 use Rattle.refusal.specs.Refusals.{refusal-of, carries-line, carries-unit, carries-period}
 use Rattle.text.specs.Lines.{missing, ended, kind-of, kind-problem, kind-schedule, kind-tree}
 use Rattle.text.specs.Forms.{malformed, wrong-count, outside-range}
@@ -24,17 +26,19 @@ use Rattle.text.specs.Course.{judged-from}
 use Rattle.problem.specs.Units.{unit-of}
 use Rattle.problem.specs.Course as problem-course
 use Rattle.problem.specs.Rendering as problems
-use Rattle.problem.proofs.Examples.{example, example-rendered}
+use Rattle.problem.proofs.Examples.{example, example-rendered, example-formed}
 use Rattle.schedule.specs.Course as schedule-course
 use Rattle.schedule.specs.ReadAnswers.{schedule-outcome}
 use Rattle.schedule.specs.Rendering as schedules
 use Rattle.tree.specs.Rendering as trees
+use Rattle.tree.specs.NodeLines.{line-kind-of, kind-tests, leaf-tests}
+use Rattle.tree.specs.Course as tree-course
 use Rattle.docket.specs.Verdicts.{Verdict, refused, problem, schedule, tree}
 use Rattle.docket.specs.Texts.{refused-line, Is, no-kind, tree-early}
 use Rattle.docket.specs.Lodging.{admit, text-judged}
-use Rattle.docket.specs.Specimens.{problem-of, listed-problem, schedule-text, listed-schedule, tree-text, listed-tree, lone-leaf, lone-short, counted-tree, crowded-tree, lone-crowd, count-twice, start-problem, off-two, off-three, down-problem}
+use Rattle.docket.specs.Specimens.{problem-of, listed-problem, schedule-text, listed-schedule, tree-text, listed-tree, lone-leaf, lone-short, counted-tree, crowded-tree, lone-crowd, count-twice, ramp-tree, stuck-ramp, start-problem, off-two, off-three, down-problem}
 use Rattle.docket.proofs.OneVerdict.{verdict-of}
-use Rattle.docket.proofs.Specimens.{rows, one-split, lone-price, figures, is-problem, is-cheap, is-tree, is-lone-price, is-not-short, is-counted, is-crowded, is-not-crowd, is-no-narrower}
+use Rattle.docket.proofs.Specimens.{rows, one-split, lone-price, figures, is-problem, is-cheap, is-tree, is-lone-price, is-not-short, judged-as, is-counted, is-crowded, is-not-crowd, is-no-narrower, is-ramped}
 
 -- ---- the listing's texts are those of its problem, schedule and tree
 
@@ -82,6 +86,20 @@ is-lone-crowd = written (counts-rendered .2) is-not-crowd
 
 pub is-count-twice : Is (some example) count-twice (refused-line 37 4)
 is-count-twice = written (counts-rendered .3) is-no-narrower
+
+ramps-rendered : ramp-tree ≡ trees.render 5 priced-ramps
+unfolding tree-text trees.render trees.node-lines digits digits-by
+ramps-rendered = refl
+
+pub is-ramp-tree : Is (some example) ramp-tree (tree (figures 5 1125 0 1))
+is-ramp-tree = written ramps-rendered is-ramped
+
+stuck-judged : verdict-of (some example) stuck-ramp ≡ refused-line 35 11
+unfolding text-judged admit kind-of tree-course.tree-judged judged-from tree-course.judge tree-course.tests tree-course.next-due tree-course.after-node tree-course.after-part line-kind-of malformed wrong-count outside-range kind-tests leaf-tests available usable is-stuck refusal-of carries-line carries-unit carries-period tree-text
+stuck-judged = refl
+
+pub is-stuck-ramp : Is (some example) stuck-ramp (refused-line 35 11)
+is-stuck-ramp = judged-as (some example) example-formed stuck-ramp (refused-line 35 11) stuck-judged
 
 -- ---- in a fresh docket
 

@@ -17,6 +17,7 @@ use Rattle.model.specs.declared.figures.Bound.the-variants.{Number as number}
 use Rattle.model.specs.Figures.{tree-gives}
 use Rattle.model.specs.Tree.{short, crowd, stuck, Tree, leaf, fork, GoodLeaf, LeafHolds, Limits, Holds, splits, leaves, tree-figures}
 use Rattle.model.specs.CountExamples.{by-count, by-both, count-bounds, count-limits, count-holds}
+use Rattle.model.specs.RampExamples.{priced-ramps, specimen-ramps, specimen-limits, specimen-holds}
 use Rattle.model.proofs.BoundExamples.{example-tree, lone-leaf, example-limits, example-holds, example-bound, lone-bound}
 use Rattle.refusal.specs.Refusals.{refusal-of, carries-line, carries-unit, carries-period}
 use Rattle.text.specs.Lines.{kind-of, kind-problem}
@@ -157,3 +158,14 @@ is-not-crowd = judged-as (some example) example-formed _ _ (counts-judged .0)
 
 pub is-no-narrower : Is (some example) (trees.render 3 (fork (count 1 1) (fork (count 1 1) (leaf (short 1)) (leaf (short 1))) (leaf (short 1)))) (refused-line 37 4)
 is-no-narrower = judged-as (some example) example-formed _ _ (counts-judged .1)
+
+-- ---- document 02, [6]: a tree with prices on the ramps
+
+is-priced-ramps : Is (some example) (trees.render 5 priced-ramps) (tree (bounded 5 (tree-figures example priced-ramps)))
+unfolding trees.render trees.node-lines digits digits-by
+is-priced-ramps = a-tree 5 priced-ramps (lit≤ tt) refl (lit≤ tt, lit≤ tt) specimen-limits specimen-holds
+
+-- 1125, with no split line and one leaf
+pub is-ramped : Is (some example) (trees.render 5 priced-ramps) (tree (figures 5 1125 0 1))
+unfolding splits leaves
+is-ramped = subst (λ (b : Bound). Is (some example) (trees.render 5 priced-ramps) (tree (bounded 5 (tree-gives b 0 1)))) (specimen-ramps .0) is-priced-ramps

@@ -21,7 +21,7 @@ use Rattle.text.specs.LineRefused.{Beginning}
 use Rattle.problem.specs.Units.{unit-form}
 use Rattle.problem.specs.Rendering.{lines-after}
 use Rattle.problem.specs.Refusals.{FormAt, InLimits}
-use Rattle.tree.specs.Places.{node-at, LineAt}
+use Rattle.tree.specs.Places.{Part, node-at, part-at, LineAt}
 use Rattle.tree.specs.Refusals.{WrittenTree, written-lines, HoldsSoFar}
 use Rattle.docket.specs.declared.taking.TakenAnswer.{TakenAnswer}
 use Rattle.docket.specs.declared.taking.TakenAnswer.the-variants.{NoProblem, Unfit, Taken as taken}
@@ -85,3 +85,18 @@ pub record UnitLineDue (text : List ℕ) (before : List Line) (x : Line) : Type 
   pub some-problem : Instance
   pub beginning : Beginning lines-after InLimits before some-problem
   pub place : FormAt some-problem (length before) unit-form
+
+-- ---- [6] Prices on the ramps
+
+-- the line x of a tree's text stands where a later line of a leaf is due, with A above the leaf, after a part of it: the lines between the first and it begin the text
+-- of some writer and some tree within the limits, whose leaves, as far as they end there, meet their rules
+pub record PartLineDue (P : Instance) (text : List ℕ) (before : List Line) (x : Line) (A : Above) (p : Part) : Type 0 where
+  pub short : Short text
+  pub begins : Begins text kind-tree
+  pub rest : List Line
+  pub lines : later (lines-of text) ≡ before ++ (x ∷ rest)
+  pub some-tree : WrittenTree
+  pub beginning : Beginning written-lines (HoldsSoFar P) before some-tree
+  pub nodes-before : ℕ
+  pub after-writer : length before ≡ suc nodes-before
+  pub place : LineAt root 0 (some-tree .tree) nodes-before (part-at A p)

@@ -1,4 +1,4 @@
--- Document 01, Specimens on that problem: the marked ones, with 60 and 0 at midnight (document 02, [3]), and five more of that request. Each is a pair of the texts
+-- Document 01, Specimens on that problem: the marked ones, with 60 and 0 at midnight (document 02, [3]), five more of that request, four of [1] and two of [6]. Each is a pair of the texts
 -- that are lodged in turn from a fresh docket and the answer to the last of them.
 use mathlib.Core.Path.{_≡_}
 use mathlib.Core.List.{List, [], _∷_, _++_, map}
@@ -73,6 +73,16 @@ lone-crowd = tree-text ("writer=3" ∷ "crowd=2" ∷ [])
 abbrev pub count-twice : List ℕ
 count-twice = tree-text ("writer=3" ∷ "count=2,1" ∷ "count=2,1" ∷ "short=2" ∷ "short=2" ∷ "short=2" ∷ [])
 
+-- ---- document 02, [6]: trees with prices on the ramps
+
+abbrev pub ramp-tree : List ℕ
+ramp-tree = tree-text ("writer=5" ∷ "rampprice=10,14" ∷ "reserve=0,2" ∷ "up=7" ∷ "down=3" ∷ "up=5" ∷ "down=1" ∷ [])
+
+-- unit 1, which was on for three periods and stays off for two at least, off in period 1 and on in period 2: it is stuck
+abbrev pub stuck-ramp : List ℕ
+stuck-ramp =
+    tree-text ("writer=5" ∷ "split=1,1" ∷ "split=1,2" ∷ "short=2" ∷ "rampprice=10,14" ∷ "reserve=0,2" ∷ "up=7" ∷ "down=3" ∷ "up=5" ∷ "down=1" ∷ "short=2" ∷ [])
+
 -- ---- problems of one unit, with nothing demanded and no cost but that of a start: Hsc is 20 and Csc 60
 
 -- one period, TD 1 and Tcold 1: Tini says how long the unit has been off
@@ -133,6 +143,9 @@ specimens =
     -- a lone crowd=2: 36, line 3; count=2,1 in the first tree of another: 37, line 4
     ∷ (listed-problem ∷ lone-crowd ∷ [], refused 36 3 0 0)
     ∷ (listed-problem ∷ count-twice ∷ [], refused 37 4 0 0)
+    -- document 02, [6]: a ramp leaf alone is worth 1125, and less or more where two of its numbers change places; one with a stuck unit is 35 at its last line, line 11
+    ∷ (listed-problem ∷ ramp-tree ∷ [], held (its-bound (tree-gives (number (pos 1125)) 0 1)))
+    ∷ (listed-problem ∷ stuck-ramp ∷ [], refused 35 11 0 0)
     ∷ []
 
 -- ---- what is said of a pair

@@ -28,7 +28,7 @@ outputs-short : outputs-room (replicate 618 0) (replicate 1536 0) (replicate 153
 outputs-short = refl
 
 -- the numbers that are asked for by calls
-the-sizes : (numbers-count ≡ 618) × ((rows-count ≡ 1536) × (rules ≡ 3))
+the-sizes : (numbers-count ≡ 618) × ((rows-count ≡ 1536) × (rules ≡ 4))
 the-sizes = (refl, (refl, refl))
 
 -- SIZE_MAX and SIZE_MAX - 1

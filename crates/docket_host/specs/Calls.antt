@@ -23,7 +23,7 @@ use Rattle.docket_host.specs.HostAnswer.{too-little-room}
 
 -- the number of the rules by which texts are judged: it goes up where some text gets another answer
 abbrev pub rules : ℕ
-rules = 3
+rules = 4
 
 -- no docket: the largest number but the one for too little room
 abbrev pub no-docket : ℕ

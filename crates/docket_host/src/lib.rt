@@ -23,7 +23,7 @@ pub const NO_DOCKET: usize = 18446744073709551614;
 pub extern "C" fn docket_rules() -> usize
     ensures { λ r. ⌜ r ≡ rules ⌝ }
 {
-    3
+    4
 }
 
 // How many numbers the first slice of a state has.

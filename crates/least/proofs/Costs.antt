@@ -1,5 +1,5 @@
 -- The costs by period at given prices: they fit, and the walk over them is the walk in prices.
-use mathlib.Core.Path.{_≡_, refl, sym, _∙_}
+use mathlib.Core.Path.{_≡_, refl, sym}
 use mathlib.Core.Bool.{Bool, true, false}
 use mathlib.Core.List.{List, [], _∷_, _++_}
 use Prim.Native.Nat.{ℕ, suc, _+_, _*_, _-_, _≤_, _<_}
@@ -19,7 +19,7 @@ use Rattle.model.proofs.WalkPeriods.{walk-ext}
 use Rattle.walk.specs.Limits.{GoodCosts}
 use Rattle.walk.specs.GoingBack.{costs-of}
 use Rattle.least.specs.Limits.{GoodPrices, GoodSlopes}
-use Rattle.least.specs.Priced.{Priced}
+use Rattle.least.specs.Priced.{Priced, Costed}
 
 -- a list whose every entry is in range
 pub all-of : (M : ℕ) (l : List ℕ) → ((t : ℕ) → t < length l → l at t ≤ M) → All (λ v. Between 0 v M) l
@@ -28,26 +28,48 @@ all-of M (v ∷ l) h = ((omega arith, h 0 (omega arith)), all-of M l (λ t i. h 
 
 -- ---- arrays that begin with the costs
 
-module _ {g : Generator} {q s on off : List ℕ} (K : Priced g q s on off) (rest : List ℕ) where
-  on-front : take (length q) (on ++ rest) ≡ on
-  on-front = take-at on rest (length q) (K .on-long)
+module _ {n : ℕ} {w : ℕ → Bool → ℕ} {on off : List ℕ} (K : Costed n w on off) (rest : List ℕ) where
+  on-front : take n (on ++ rest) ≡ on
+  on-front = take-at on rest n (K .on-long)
 
-  off-front : take (length q) (off ++ rest) ≡ off
-  off-front = take-at off rest (length q) (K .off-long)
+  off-front : take n (off ++ rest) ≡ off
+  off-front = take-at off rest n (K .off-long)
 
-  pub on-front-fits : length q ≤ length (on ++ rest)
+  pub on-front-fits : n ≤ length (on ++ rest)
   on-front-fits = omega (arith, length-append on rest, K .on-long)
 
-  pub off-front-fits : length q ≤ length (off ++ rest)
+  pub off-front-fits : n ≤ length (off ++ rest)
   off-front-fits = omega (arith, length-append off rest, K .off-long)
 
-  pub on-front-long : length q ≡ length (take (length q) (on ++ rest))
+  pub on-front-long : n ≡ length (take n (on ++ rest))
   on-front-long = rw on-front (sym (K .on-long))
 
-  pub off-front-long : length q ≡ length (take (length q) (off ++ rest))
+  pub off-front-long : n ≡ length (take n (off ++ rest))
   off-front-long = rw off-front (sym (K .off-long))
 
--- ---- sizes, and the walk
+  module _ (periods-in : Between 1 n 48) (fits : (t : ℕ) → t < n → (d : Bool) → w t d ≤ 1_000_000_000_000_000) where
+    costed-good : GoodCosts n on off
+    costed-good =
+        record {
+          periods-in = periods-in;
+          on-long = K .on-long;
+          off-long = K .off-long;
+          on-in = all-of 1_000_000_000_000_000 on (λ t l. let h : t < n = omega (arith, K .on-long) in omega (arith, K .on-at t h, fits t h true));
+          off-in = all-of 1_000_000_000_000_000 off (λ t l. let h : t < n = omega (arith, K .off-long) in omega (arith, K .off-at t h, fits t h false));
+        }
+
+    pub front-good : GoodCosts (length (take n (on ++ rest))) (take n (on ++ rest)) (take n (off ++ rest))
+    front-good = rw (on-front, off-front, K .on-long) costed-good
+
+  pub front-walk : (g : Generator) (m : ℕ → Mark)
+      → walk (length (take n (on ++ rest))) g m (costs-of (take n (on ++ rest)) (take n (off ++ rest))) (g .on) (g .since) ≡ walk n g m w (g .on) (g .since)
+  front-walk g m = rw (on-front, off-front, K .on-long) (walk-ext n g m m (costs-of on off) w (λ t l. refl) same (g .on) (g .since))
+    where
+      same : (t : ℕ) → t < n → (d : Bool) → costs-of on off t d ≡ w t d
+      same t l true = K .on-at t l
+      same t l false = K .off-at t l
+
+-- ---- at prices: sizes
 
 module _ (n : ℕ) (q s : List ℕ) (P : GoodPrices n q s) where
   pub price-in : (t : ℕ) → GoodPrice (q at t)
@@ -76,38 +98,14 @@ module _ (n : ℕ) (q s : List ℕ) (P : GoodPrices n q s) where
     unfolding offset
     part-offset-fits t l = omega (arith, sum-part t n (λ i. (q at i + s at i) * g .pU) l, sum-offset-fits)
 
-    -- costs at the prices
-    module _ (on off : List ℕ) (K : Priced g q s on off) where
-      pub priced-good : GoodCosts n on off
-      priced-good =
-          let e : length q ≡ n = P .q-long in
-          record {
-            periods-in = P .periods-in;
-            on-long = K .on-long ∙ e;
-            off-long = K .off-long ∙ e;
-            on-in = all-of 1_000_000_000_000_000 on (λ t l. omega (arith, K .on-at t (omega (arith, K .on-long)), worth-fits g good (q at t) (s at t) (price-in t) (reserve-in t) true));
-            off-in = all-of 1_000_000_000_000_000 off (λ t l. omega (arith, K .off-at t (omega (arith, K .off-long)), period-added-fits t));
-          }
+    pub period-worth-fits : (t : ℕ) → t < n → (d : Bool) → worth g (q at t) (s at t) d ≤ 1_000_000_000_000_000
+    period-worth-fits t l d = omega (arith, worth-fits g good (q at t) (s at t) (price-in t) (reserve-in t) d)
 
-      pub priced-walk : (m : ℕ → Mark) → walk n g m (costs-of on off) (g .on) (g .since) ≡ price-walk n (λ t. q at t) (λ t. s at t) g m
-      unfolding price-walk
-      priced-walk m =
-          walk-ext n g m m (costs-of on off) (λ t. worth g (q at t) (s at t)) (λ t l. refl) same (g .on) (g .since)
-        where
-          same : (t : ℕ) → t < n → (d : Bool) → costs-of on off t d ≡ worth g (q at t) (s at t) d
-          same t l true = K .on-at t (omega (arith, P .q-long))
-          same t l false = K .off-at t (omega (arith, P .q-long))
+-- ---- at prices: the walk
 
--- the same of two arrays that begin with the costs
-module _ {g : Generator} {q s on off : List ℕ} (good : GoodUnit g) (P : GoodPrices (length q) q s) (K : Priced g q s on off) (rest : List ℕ) where
-  abbrev on′ : List ℕ
-  on′ = take (length q) (on ++ rest)
+pub priced-costed : {g : Generator} {q s on off : List ℕ} → Priced g q s on off → Costed (length q) (λ t. worth g (q at t) (s at t)) on off
+priced-costed K = record { on-long = K .on-long; off-long = K .off-long; on-at = K .on-at; off-at = K .off-at }
 
-  abbrev off′ : List ℕ
-  off′ = take (length q) (off ++ rest)
-
-  pub front-good : GoodCosts (length on′) on′ off′
-  front-good = rw (on-front K rest, off-front K rest, K .on-long) (priced-good (length q) q s P g good on off K)
-
-  pub front-walk : (m : ℕ → Mark) → walk (length on′) g m (costs-of on′ off′) (g .on) (g .since) ≡ price-walk (length q) (λ t. q at t) (λ t. s at t) g m
-  front-walk m = rw (on-front K rest, off-front K rest, K .on-long) (priced-walk (length q) q s P g good on off K m)
+pub price-walk-is : (n : ℕ) (q s : ℕ → ℕ) (g : Generator) (m : ℕ → Mark) → walk n g m (λ t. worth g (q t) (s t)) (g .on) (g .since) ≡ price-walk n q s g m
+unfolding price-walk
+price-walk-is n q s g m = refl

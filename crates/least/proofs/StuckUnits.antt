@@ -17,7 +17,7 @@ use Rattle.walk.specs.Limits.{GoodCosts}
 use Rattle.walk.specs.GoingBack.{costs-of}
 use Rattle.walk.proofs.Fronts.{front-length, front-at}
 use Rattle.least.proofs.Costs.{all-of}
-use Rattle.least.proofs.UnitParts.{part-marks}
+use Rattle.least.proofs.UnitParts.{part-same}
 
 -- the front of an array of zeros
 abbrev free : ℕ → List ℕ
@@ -42,6 +42,5 @@ stuck-at-is n (suc u) (g ∷ l) d m h = stuck-at-is n u l d (rest m) (omega arit
 pub part-stuck : (n u : ℕ) (l : List Generator) (d : Generator) (above : List ℕ) → u < length l → (N long : ℕ) → N ≡ n → long ≡ n
     → is-stuck N (getD l u d) (marks-of (take long (drop (u * n) above))) ≡ stuck-at n l (marks-in (length l) n above) u
 part-stuck n u l d above h N long e f =
-    rw (e, f)
-    (is-stuck-ext n (getD l u d) (marks-of (take n (drop (u * n) above))) (marks-in (length l) n above u) (part-marks (length l) n u above h)
-    ∙ stuck-at-is n u l d (marks-in (length l) n above) h)
+    part-same (length l) n u above h (λ N m. is-stuck N (getD l u d) m) (λ m m′ i. is-stuck-ext n (getD l u d) m m′ i) N (u * n) long e refl f
+    ∙ stuck-at-is n u l d (marks-in (length l) n above) h

@@ -2,8 +2,9 @@
 -- prices need.
 use mathlib.Core.Path.{_≡_}
 use mathlib.Core.List.{List}
-use Prim.Native.Nat.{ℕ}
+use Prim.Native.Nat.{ℕ, suc}
 use lib.ListN.{length}
+use Rattle.model.specs.Instance.{_at_}
 use Rattle.model.specs.Ranges.{Between, All, GoodPrice}
 
 -- price multipliers q and reserve multipliers s of n periods
@@ -13,6 +14,14 @@ pub record GoodPrices (n : ℕ) (q s : List ℕ) : Type 0 where
   pub s-long : length s ≡ n
   pub q-in : All GoodPrice q
   pub s-in : All GoodPrice s
+
+-- the multipliers of a unit's rises or falls in n periods, by the period that a step ends with: 0 in the first period, into which no step leads, and
+-- behind the last
+pub record GoodSteps (n : ℕ) (l : List ℕ) : Type 0 where
+  pub long : length l ≡ suc n
+  pub first : l at 0 ≡ 0
+  pub last : l at n ≡ 0
+  pub in-range : All GoodPrice l
 
 -- what a unit of output costs, and a unit short of pU
 pub record GoodSlopes (x y : ℕ) : Type 0 where

@@ -1,4 +1,5 @@
-// One unit under fixed statuses: its best outputs and least value at given prices, and whether it is stuck.
+// One unit under fixed statuses: its best outputs, its least value at given prices, on its ramps too, and whether it is stuck.
 pub mod output;
+pub mod ramp;
 pub mod stuck;
 pub mod unit;

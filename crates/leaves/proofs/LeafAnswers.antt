@@ -1,5 +1,6 @@
--- A price leaf's answer from its units' answer and the requirement.
-use mathlib.Core.Path.{_≡_}
+-- A leaf's answer from its units' answer and the requirement.
+use mathlib.Core.Path.{_≡_, refl}
+use mathlib.Core.Bool.{Bool, true, false, cond}
 use mathlib.Core.List.{List}
 use Prim.Native.Nat.{ℕ}
 use lib.IntN.{ℤ, pos, _+ℤ_}
@@ -9,26 +10,24 @@ use Rattle.model.specs.Ranges.{WellFormed}
 use Rattle.model.specs.Leaf.{any-stuck, units-least, requirement, leaf-value}
 use Rattle.least.specs.declared.unit.Least.the-variants.{Stuck, Value}
 use Rattle.least.specs.Limits.{GoodPrices}
-use Rattle.leaves.specs.LeafLeasts.{leasts-of, leaf-of}
-use Rattle.leaves.specs.Limits.{Small}
-use Rattle.leaves.proofs.Units.{said-stuck, said-value, units-small}
+use Rattle.leaves.specs.LeafLeasts.{leasts-of, leaf-of, plus-requirement}
+use Rattle.leaves.specs.Limits.{SmallLeast}
+use Rattle.leaves.proofs.SmallSums.{small-least}
+use Rattle.leaves.proofs.Units.{units-small}
 
-module _ (P : Instance) (m : Marks) (q s : ℕ → ℕ) where
-  -- a unit is stuck
-  pub leaf-stuck : Stuck ≡ leasts-of (P .periods) q s (P .units) m → Stuck ≡ leaf-of P m q s
-  leaf-stuck e = rw (said-stuck (any-stuck (P .periods) (P .units) m) (units-least (P .periods) q s (P .units) m) e)
+-- of units that are stuck where b says so, and have the sum z
+pub plus-required : (P : Instance) (q s : ℕ → ℕ) (b : Bool) (z : ℤ) → plus-requirement P q s (cond b Stuck (Value z)) ≡ cond b Stuck (Value (z +ℤ pos (requirement P q s)))
+plus-required P q s true z = refl
+plus-required P q s false z = refl
 
-  -- no unit is
-  pub leaf-found : (v : ℤ) → Value v ≡ leasts-of (P .periods) q s (P .units) m → Value (v +ℤ pos (requirement P q s)) ≡ leaf-of P m q s
-  unfolding leaf-value
-  leaf-found v e =
-      let r = said-value (any-stuck (P .periods) (P .units) m) (units-least (P .periods) q s (P .units) m) v e in
-      rw (r .0, r .1)
+-- of a price leaf
+pub leaf-answer : (P : Instance) (m : Marks) (q s : ℕ → ℕ) → plus-requirement P q s (leasts-of (P .periods) q s (P .units) m) ≡ leaf-of P m q s
+unfolding leaf-value
+leaf-answer P m q s = plus-required P q s (any-stuck (P .periods) (P .units) m) (units-least (P .periods) q s (P .units) m)
 
--- the units' sum leaves room for the requirement
-pub leasts-small : (P : Instance) → WellFormed P → (m : Marks) (q s : List ℕ) → GoodPrices (P .periods) q s → (v : ℤ)
-    → Value v ≡ leasts-of (P .periods) (λ t. q at t) (λ t. s at t) (P .units) m → Small v
-leasts-small P W m q s good v e =
-    let z = units-least (P .periods) (λ t. q at t) (λ t. s at t) (P .units) m in
-    rw (said-value (any-stuck (P .periods) (P .units) m) z v e .1)
+-- the units' answer leaves room for the requirement
+pub leasts-small : (P : Instance) → WellFormed P → (m : Marks) (q s : List ℕ) → GoodPrices (P .periods) q s
+    → SmallLeast (leasts-of (P .periods) (λ t. q at t) (λ t. s at t) (P .units) m)
+leasts-small P W m q s good =
+    small-least (any-stuck (P .periods) (P .units) m) (units-least (P .periods) (λ t. q at t) (λ t. s at t) (P .units) m)
     (units-small (P .periods) q s good (P .units) (W .units-good) (W .units-in .1) m)

@@ -1,4 +1,5 @@
--- Sums of small values as signed 64-bit numbers.
+-- Sums of small values as signed 64-bit numbers, and small answers.
+use mathlib.Core.Path.{_≡_}
 use mathlib.Core.Bool.{Bool, true, false, cond}
 use Prim.Native.Nat.{ℕ, suc, _-_, _^_, _≤_, _<_}
 use native.Mathlib.Omega.{arith}
@@ -8,7 +9,9 @@ use lib.Signed.{mag}
 use mir.Syntax.{w64}
 use mir.Val.{SFits}
 use Rattle.model.proofs.Integers.{up, down}
-use Rattle.leaves.specs.Limits.{Small}
+use Rattle.least.specs.declared.unit.Least.{Least}
+use Rattle.least.specs.declared.unit.Least.the-variants.{Stuck, Value}
+use Rattle.leaves.specs.Limits.{Small, SmallLeast}
 
 mag-either : (t : Bool) (x y k : ℕ) → x < k → y < k → mag (cond t (negsuc x) (pos y)) < k
 mag-either true x y k h j = h
@@ -30,3 +33,15 @@ add-fits x y h j = record { sfits = omega (arith, mag-add x y h j) }
 pub small-of : (z : ℤ) → up z ≤ 100_000_000_000_000_000 → down z ≤ 100_000_000_000_000_000 → Small z
 small-of (pos a) h j = omega arith
 small-of (negsuc a) h j = omega arith
+
+-- ---- answers
+
+pub small-least : (b : Bool) (z : ℤ) → Small z → SmallLeast (cond b Stuck (Value z))
+small-least true z h = tt
+small-least false z h = h
+
+pub small-told : (l : Least) (v : ℤ) → Value v ≡ l → SmallLeast l → Small v
+small-told Stuck v e h = absurd (let i : _≡_ {A = ℕ} 0 1 = cc in omega arith)
+small-told (Value w) v e h =
+    let i : v ≡ w = cc in
+    rw i h

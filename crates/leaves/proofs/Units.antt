@@ -52,18 +52,20 @@ module _ (n : ℕ) where
       go false j = j
 
   -- one unit more
-  pub any-stuck-more : (u : ℕ) (l : List Generator) (d : Generator) (m : Marks) → u < length l → any-stuck n (take u l) m ≡ false
-      → is-stuck n (getD l u d) (m u) ≡ false → any-stuck n (take (suc u) l) m ≡ false
-  any-stuck-more u [] d m h e j = absurd (omega arith)
-  any-stuck-more zero (g ∷ l) d m h e j = rw j
-  any-stuck-more (suc u) (g ∷ l) d m h e j =
-      go (is-stuck n g (m 0)) e (λ i. any-stuck-more u l d (rest m) (omega arith) i j)
+  pub any-stuck-next : (u : ℕ) (l : List Generator) (d : Generator) (m : Marks) → u < length l
+      → any-stuck n (take (suc u) l) m ≡ (any-stuck n (take u l) m || is-stuck n (getD l u d) (m u))
+  any-stuck-next u [] d m h = absurd (omega arith)
+  any-stuck-next zero (g ∷ l) d m h = go (is-stuck n g (m 0))
     where
-      go : (b : Bool) → (b || any-stuck n (take u l) (rest m)) ≡ false
-          → (any-stuck n (take u l) (rest m) ≡ false → any-stuck n (take (suc u) l) (rest m) ≡ false)
-          → (b || any-stuck n (take (suc u) l) (rest m)) ≡ false
-      go true i k = i
-      go false i k = k i
+      go : (b : Bool) → (b || false) ≡ b
+      go true = refl
+      go false = refl
+  any-stuck-next (suc u) (g ∷ l) d m h = go (is-stuck n g (m 0)) (any-stuck-next u l d (rest m) (omega arith))
+    where
+      go : (b : Bool) → any-stuck n (take (suc u) l) (rest m) ≡ (any-stuck n (take u l) (rest m) || is-stuck n (getD l u d) (m (suc u)))
+          → (b || any-stuck n (take (suc u) l) (rest m)) ≡ ((b || any-stuck n (take u l) (rest m)) || is-stuck n (getD l u d) (m (suc u)))
+      go true e = refl
+      go false e = e
 
   pub units-least-more : (q s : ℕ → ℕ) (u : ℕ) (l : List Generator) (d : Generator) (m : Marks) → u < length l
       → units-least n q s (take (suc u) l) m ≡ units-least n q s (take u l) m +ℤ unit-least n q s (getD l u d) (m u)
@@ -88,7 +90,7 @@ module _ (n : ℕ) (q s : ℕ → ℕ) (u : ℕ) (l : List Generator) (d : Gener
   value-found v e h =
       let r = said-value (is-stuck n (getD l u d) (m u)) (unit-least n q s (getD l u d) (m u)) v e in
       rw (add-one u) (
-        any-stuck-more n u l d m inside h (r .0),
+        rw (any-stuck-next n u l d m inside, h, r .0) refl,
         ap (λ (z : ℤ). units-least n q s (take u l) m +ℤ z) (r .1) ∙ sym (units-least-more n q s u l d m inside),
       )
 

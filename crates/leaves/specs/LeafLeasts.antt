@@ -1,16 +1,18 @@
 -- What a leaf answers: that a unit is stuck, or a least value, which only a leaf without a stuck unit has; whether the units are short and how many were taken, or
--- whether they are a crowd (document 01, Rules for a leaf; document 02, [1] and [2]).
+-- whether they are a crowd (document 01, Rules for a leaf; document 02, [1], [2] and [6]).
 use mathlib.Core.Bool.{Bool, false, cond, _||_}
 use mathlib.Core.List.{List}
 use mathlib.Core.Option.{Option, none, some}
 use Prim.Native.Nat.{ℕ, _+_}
 use lib.Dec.{ltb}
+use lib.IntN.{pos, _+ℤ_}
 use Rattle.model.specs.declared.generator.Generator.{Generator}
 use Rattle.model.specs.Instance.{Instance, _at_}
 use Rattle.model.specs.Above.{Marks, Above}
 use Rattle.model.specs.Largest.{total}
 use Rattle.model.specs.Turns.{in-turn, took}
-use Rattle.model.specs.Leaf.{available, fixed-on, not-off, any-stuck, units-least, leaf-value}
+use Rattle.model.specs.Leaf.{available, fixed-on, not-off, any-stuck, units-least, requirement, leaf-value}
+use Rattle.model.specs.Ramps.{Steps, ramp-leasts, ramp-leaf-value}
 use Rattle.least.specs.declared.unit.Least.{Least}
 use Rattle.least.specs.declared.unit.Least.the-variants.{Stuck, Value}
 use Rattle.leaves.specs.declared.short.Taken.{Taken}
@@ -22,6 +24,24 @@ leasts-of n q s gs m = cond (any-stuck n gs m) Stuck (Value (units-least n q s g
 -- of a price leaf
 abbrev pub leaf-of : Instance → Marks → (ℕ → ℕ) → (ℕ → ℕ) → Least
 leaf-of P m q s = cond (any-stuck (P .periods) (P .units) m) Stuck (Value (leaf-value P m q s))
+
+-- with prices on the ramps: of these units, and of a leaf
+abbrev pub ramp-leasts-of : ℕ → (ℕ → ℕ) → (ℕ → ℕ) → Steps → Steps → List Generator → Marks → Least
+ramp-leasts-of n q s x y gs m = cond (any-stuck n gs m) Stuck (Value (ramp-leasts n q s x y gs m))
+
+abbrev pub ramp-leaf-of : Instance → Marks → (ℕ → ℕ) → (ℕ → ℕ) → Steps → Steps → Least
+ramp-leaf-of P m q s x y = cond (any-stuck (P .periods) (P .units) m) Stuck (Value (ramp-leaf-value P m q s x y))
+
+-- what units answer, and one unit more
+abbrev pub plus-unit : Least → Least → Least
+plus-unit Stuck l = Stuck
+plus-unit (Value v) Stuck = Stuck
+plus-unit (Value v) (Value w) = Value (v +ℤ w)
+
+-- what all units answer, with what the periods require
+abbrev pub plus-requirement : Instance → (ℕ → ℕ) → (ℕ → ℕ) → Least → Least
+plus-requirement P q s Stuck = Stuck
+plus-requirement P q s (Value v) = Value (v +ℤ pos (requirement P q s))
 
 -- whether `short` holds: what is available in period t is below D + R
 abbrev pub short-at : Instance → Above → ℕ → Bool

@@ -11,6 +11,7 @@ ghost use Rattle.walk.specs.Marks.{above-of};
 ghost use Rattle.least.specs.Limits.{GoodPrices};
 ghost use Rattle.leaves.specs.LeafLeasts.{leasts-of, leaf-of};
 ghost use Rattle.leaves.specs.Limits.{Small};
+use crate::ramp::with_requirement;
 use layout::demand_at;
 use layout::generator_at;
 use layout::periods_in;
@@ -20,7 +21,7 @@ use least::unit::Least;
 use least::unit::unit_least;
 
 // The sum of two values.
-fn add(x: i64, y: i64) -> i64
+pub(crate) fn add(x: i64, y: i64) -> i64
     requires { ⌜ Small x × Small y ⌝ }
     ensures { λ r. ⌜ r ≡ x +ℤ y ⌝ }
 {
@@ -66,7 +67,7 @@ fn required(q: u64, s: u64, demand: u64, spare: u64) -> u64
 }
 
 // What all periods require.
-fn sum_requirement(numbers: &[u64], q: &[u64], s: &[u64]) -> u64
+pub(crate) fn sum_requirement(numbers: &[u64], q: &[u64], s: &[u64]) -> u64
     requires { ⌜ Laid (now numbers) ⌝ }
     requires { ⌜ GoodPrices (instance-in (now numbers) .periods) (now q) (now s) ⌝ }
     ensures { λ r. ⌜ r ≡ requirement (instance-in (now (numbers .entry))) (λ t. (now (q .entry)) at t) (λ t. (now (s .entry)) at t) ⌝ }
@@ -88,11 +89,5 @@ pub fn leaf_value(numbers: &[u64], q: &[u64], s: &[u64], above: &[u8]) -> Least
     requires { ⌜ length (instance-in (now numbers) .units) * instance-in (now numbers) .periods ≤ length (now above) ⌝ }
     ensures { λ r. ⌜ r ≡ leaf-of (instance-in (now (numbers .entry))) (above-of (instance-in (now (numbers .entry))) (now (above .entry)) .marks) (λ t. (now (q .entry)) at t) (λ t. (now (s .entry)) at t) ⌝ }
 {
-    match units_least(numbers, q, s, above) {
-        Least::Stuck => Least::Stuck,
-        Least::Value(v) => {
-            let requirement = sum_requirement(numbers, q, s);
-            Least::Value(add(v, requirement as i64))
-        }
-    }
+    with_requirement(numbers, q, s, units_least(numbers, q, s, above))
 }

@@ -1,8 +1,9 @@
 -- A tree leaf by leaf: it holds exactly when every leaf's rule holds under what stands above that leaf, and its bound is the
--- smallest of its leaves' bounds, a price leaf's being its value and any other's never. Both by induction on the tree.
-use mathlib.Core.Path.{_≡_, refl, _∙_}
+-- smallest of its leaves' bounds, a price leaf's or a ramp leaf's being its value and any other's never. Both by induction on the tree.
+use mathlib.Core.Path.{_≡_, refl, ap₂, _∙_}
 use mathlib.Core.Bool.{Bool, true, false, not, cond}
-use mathlib.Core.Logic.{_⊎_, inl, inr}
+use mathlib.Core.Logic.{_⊎_, inl, inr, _↔_}
+use Prim.Native.Nat.{ℕ}
 use native.Mathlib.Omega.{arith}
 use lib.Dec.{T, not-T}
 use lib.IntN.{ℤ}
@@ -13,7 +14,7 @@ use Rattle.model.specs.Leaf.{minℤ}
 use Rattle.model.specs.declared.figures.Bound.{Bound}
 use Rattle.model.specs.declared.figures.Bound.the-variants.{Never as never, Number as number}
 use Rattle.model.specs.Figures.{lower}
-use Rattle.model.specs.Tree.{Tree, leaf, fork, LeafHolds, leaf-bound, Holds, bound}
+use Rattle.model.specs.Tree.{Leaf, short, crowd, stuck, price, ramp, Tree, leaf, fork, HasPrices, LeafHolds, leaf-bound, Holds, bound}
 use Rattle.model.specs.Best.{higher}
 use Rattle.model.proofs.Integers.{le→nat, min-left, min-right, ltZ→nat, nltZ→nat}
 use Rattle.model.specs.Agreement.{LeafOf, above, leaf-at}
@@ -94,3 +95,30 @@ bound-lowest P A (fork f x y) (inl i) =
     lower-not-left (bound P (side f false A) x) (bound P (side f true A) y) _ (bound-lowest P (side f false A) x i)
 bound-lowest P A (fork f x y) (inr i) =
     lower-not-right (bound P (side f false A) x) (bound P (side f true A) y) _ (bound-lowest P (side f true A) y i)
+
+-- it is never exactly where no leaf has prices
+pub never-exactly : (P : Instance) (A : Above) (t : Tree) → (bound P A t ≡ never) ↔ ((i : LeafOf t) → HasPrices (leaf-at t i) → ⊥)
+unfolding bound leaf-bound
+never-exactly P A (leaf l) = go l
+  where
+    go : (l : Leaf) → (leaf-bound P A l ≡ never) ↔ ((i : Unit {0}) → HasPrices l → ⊥)
+    go (short t) = ((λ e i h. h), (λ f. refl))
+    go (crowd t) = ((λ e i h. h), (λ f. refl))
+    go (stuck U) = ((λ e i h. h), (λ f. refl))
+    go (price q s) = ((λ e i h. absurd (let z : _≡_ {A = ℕ} 0 1 = cc in omega arith)), (λ f. absurd (f tt tt)))
+    go (ramp q s k) = ((λ e i h. absurd (let z : _≡_ {A = ℕ} 0 1 = cc in omega arith)), (λ f. absurd (f tt tt)))
+never-exactly P A (fork f x y) =
+    let X = bound P (side f false A) x in
+    let Y = bound P (side f true A) y in
+    let a = never-exactly P (side f false A) x in
+    let b = never-exactly P (side f true A) y in
+    ((λ e. split (a .0 (both X Y e .0)) (b .0 (both X Y e .1))), (λ h. ap₂ lower (a .1 (λ i. h (inl i))) (b .1 (λ i. h (inr i)))))
+  where
+    both : (v w : Bound) → lower v w ≡ never → (v ≡ never) × (w ≡ never)
+    both never w e = (refl, e)
+    both (number v) never e = absurd (let z : _≡_ {A = ℕ} 0 1 = cc in omega arith)
+    both (number v) (number w) e = absurd (let z : _≡_ {A = ℕ} 0 1 = cc in omega arith)
+
+    split : ((i : LeafOf x) → HasPrices (leaf-at x i) → ⊥) → ((i : LeafOf y) → HasPrices (leaf-at y i) → ⊥) → (i : LeafOf (fork f x y)) → HasPrices (leaf-at (fork f x y) i) → ⊥
+    split a b (inl i) h = a i h
+    split a b (inr i) h = b i h

@@ -11,10 +11,13 @@ pub mod Held
 pub mod Valid
 pub mod Lists
 pub mod Duality
+pub mod RampSums
+pub mod RampRules
 pub mod Capacities
 pub mod Turns
 pub mod Sorting
 pub mod Sides
+pub mod RampLeaf
 pub mod LeafSound
 pub mod Soundness
 pub mod Leaves
@@ -42,9 +45,11 @@ pub mod LeastWalks
 pub mod Caps
 pub mod BestOutputs
 pub mod PriceWalks
+pub mod RampWalks
 pub mod BoundExamples
 pub mod UnitLeasts
 pub mod WalkSizes
+pub mod RampSizes
 pub mod LeafSizes
 pub mod TreeSizes
 pub mod CostSizes
@@ -52,6 +57,7 @@ pub mod WalkPeriods
 pub mod Tables
 pub mod WrongOutputs
 pub mod WrongRamps
+pub mod RampPeriods
 pub mod Extents
 pub mod TreeExtents
 pub mod Unread

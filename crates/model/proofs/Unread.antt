@@ -1,22 +1,24 @@
 -- p0 is read by no cost, by none of the printed rules, and by nothing of a tree: each of these is what it is with 0 for every p0, and so the
 -- same for two problems that differ in p0 alone. Of one unit this is found by computing, with an induction where a run of statuses is walked.
 use mathlib.Core.Path.{_≡_, refl, sym, _∙_, ap, ap₂, transport}
-use mathlib.Core.Bool.{Bool, true, false, not, _&&_, _||_}
+use mathlib.Core.Bool.{Bool, true, false, not, cond, _&&_, _||_}
 use mathlib.Core.List.{List, [], _∷_, map}
 use mathlib.Core.Logic.{_⊎_, _↔_, Iff·rfl, Iff·symm, Iff·trans}
 use Prim.Native.Nat.{ℕ, zero, suc, _+_, _-_, _≤_, _<_}
-use lib.Dec.{T}
+use lib.Dec.{T, eqb}
 use lib.IntN.{ℤ, pos, _+ℤ_, _-ℤ_}
 use lib.ListN.{length}
 use Rattle.model.specs.declared.generator.Generator.{Generator}
 use Rattle.model.specs.Instance.{Instance, Schedule, _at_, sum, sum-units, Each}
+use Rattle.model.specs.Ranges.{All}
 use Rattle.model.specs.Rules.{on, if-on, statuses, output, capacity, permits, spent, keeps, Row, MeetsPrinted}
 use Rattle.model.specs.Cost.{switch-cost, switch-costs, fuel-cost, row-cost, cost}
 use Rattle.model.specs.Above.{free, Mark, Marks, rest, Above, Fork, status, count, side, AboveMost, agrees}
 use Rattle.model.specs.Leaf.{unless-off, usable, summed, available, if-fixed-on, fixed-on, Crowded, words, those, none-of, outputs, runs, rows-of, is-stuck, stuck-at, any-stuck, least, revenue, value, unit-least, units-least, requirement, leaf-value}
+use Rattle.model.specs.Ramps.{ramp-charge, ramp-value, ramp-least, Steps, rest-steps, ups, downs, ramp-leasts, ramp-leaf-value}
 use Rattle.model.specs.declared.figures.Bound.the-variants.{Number as number}
 use Rattle.model.specs.Figures.{lower}
-use Rattle.model.specs.Tree.{Leaf, short, crowd, stuck, price, Tree, leaf, fork, Narrows, GoodFork, GoodLeaf, LeafHolds, leaf-bound, Limits, Holds, bound}
+use Rattle.model.specs.Tree.{Leaf, short, crowd, stuck, price, ramp, Tree, leaf, fork, Narrows, GoodFork, Multipliers, StepMultipliers, GoodLeaf, LeafHolds, leaf-bound, Limits, Holds, bound}
 use Rattle.model.specs.Examples.{unit1, unit2, example}
 use Rattle.model.specs.Unread.{with-p0, AlikeUnits, AlikeButMidnight}
 
@@ -61,6 +63,11 @@ module _ (k : ℕ) (g : Generator) where
   unit-least-unread : (n : ℕ) (q s : ℕ → ℕ) (m : ℕ → Mark) → unit-least n q s (with-p0 k g) m ≡ unit-least n q s g m
   unfolding unit-least value revenue
   unit-least-unread n q s m i = least (map (λ r. pos (row-cost-unread n r i) -ℤ pos (revenue n q s g r)) (rows-unread n m i))
+
+  ramp-least-unread : (n : ℕ) (q s x y : ℕ → ℕ) (m : ℕ → Mark) → ramp-least n q s x y (with-p0 k g) m ≡ ramp-least n q s x y g m
+  unfolding ramp-least ramp-value ramp-charge value revenue
+  ramp-least-unread n q s x y m i =
+      least (map (λ r. (pos (row-cost-unread n r i) -ℤ pos (revenue n q s g r)) +ℤ ramp-charge n x y g r) (rows-unread n m i))
 
 -- p0 does not move a row's rules
 row-moved : (n : ℕ) (r : List ℕ) (k k′ : ℕ) (g : Generator) → Row n (with-p0 k g) r → Row n (with-p0 k′ g) r
@@ -119,6 +126,12 @@ unfolding units-least
 units-least-without n q s [] m = refl
 units-least-without n q s (g ∷ gs) m = ap₂ _+ℤ_ (unit-least-unread 0 g n q s (m 0)) (units-least-without n q s gs (rest m))
 
+ramp-leasts-without : (n : ℕ) (q s : ℕ → ℕ) (x y : Steps) (gs : List Generator) (m : Marks) → ramp-leasts n q s x y (map (with-p0 0) gs) m ≡ ramp-leasts n q s x y gs m
+unfolding ramp-leasts
+ramp-leasts-without n q s x y [] m = refl
+ramp-leasts-without n q s x y (g ∷ gs) m =
+    ap₂ _+ℤ_ (ramp-least-unread 0 g n q s (x 0) (y 0) (m 0)) (ramp-leasts-without n q s (rest-steps x) (rest-steps y) gs (rest m))
+
 -- ---- a problem, with 0 for every p0
 
 abbrev pub without-p0 : Instance → Instance
@@ -133,12 +146,17 @@ module _ (P : Instance) where
   unfolding leaf-value requirement
   leaf-value-without m q s = ap (λ (x : ℤ). x +ℤ pos (requirement P q s)) (units-least-without (P .periods) q s (P .units) m)
 
+  ramp-value-without : (m : Marks) (q s : ℕ → ℕ) (x y : Steps) → ramp-leaf-value (without-p0 P) m q s x y ≡ ramp-leaf-value P m q s x y
+  unfolding ramp-leaf-value requirement
+  ramp-value-without m q s x y = ap (λ (z : ℤ). z +ℤ pos (requirement P q s)) (ramp-leasts-without (P .periods) q s x y (P .units) m)
+
   pub leaf-bound-without : (A : Above) (l : Leaf) → leaf-bound (without-p0 P) A l ≡ leaf-bound P A l
   unfolding leaf-bound
   leaf-bound-without A (short t) = refl
   leaf-bound-without A (crowd t) = refl
   leaf-bound-without A (stuck U) = refl
   leaf-bound-without A (price q s) = ap number (leaf-value-without (A .marks) (λ t. q at t) (λ t. s at t))
+  leaf-bound-without A (ramp q s l) = ap number (ramp-value-without (A .marks) (λ t. q at t) (λ t. s at t) (ups l) (downs l))
 
   bound-without : (A : Above) (t : Tree) → bound (without-p0 P) A t ≡ bound P A t
   unfolding bound
@@ -155,6 +173,8 @@ module _ (P : Instance) where
   good-leaf-without (crowd t) = refl
   good-leaf-without (stuck U) = λ i. U < count-without (P .units) i
   good-leaf-without (price q s) = refl
+  good-leaf-without (ramp q s l) =
+      λ i. Multipliers P q × Multipliers P s × ((length l ≡ cond (eqb (P .periods) 1) 0 (count-without (P .units) i)) × All (λ x. StepMultipliers P (x .up) × StepMultipliers P (x .down)) l)
 
   limits-without : (A : Above) (d : ℕ) (t : Tree) → Limits (without-p0 P) A d t ≡ Limits P A d t
   unfolding Limits
@@ -176,6 +196,7 @@ module _ (P : Instance) where
   leaf-holds-without A (crowd t) = λ i. (t < P .periods) × crowded-without A t i
   leaf-holds-without A (stuck U) = λ i. T (stuck-at-without (P .periods) (P .units) (A .marks) U i)
   leaf-holds-without A (price q s) = λ i. T (not (any-stuck-without (P .periods) (P .units) (A .marks) i))
+  leaf-holds-without A (ramp q s l) = λ i. T (not (any-stuck-without (P .periods) (P .units) (A .marks) i))
 
   holds-without : (A : Above) (t : Tree) → Holds (without-p0 P) A t ≡ Holds P A t
   unfolding Holds

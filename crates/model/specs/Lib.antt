@@ -9,9 +9,11 @@ pub mod Broken
 pub mod Above
 pub mod Largest
 pub mod Leaf
+pub mod Ramps
 pub mod Turns
 pub mod Walk
 pub mod Prices
+pub mod RampCosts
 pub mod Table
 pub mod Figures
 pub mod Tree
@@ -23,3 +25,4 @@ pub mod Examples
 pub mod TreeExamples
 pub mod CountExamples
 pub mod TurnExamples
+pub mod RampExamples

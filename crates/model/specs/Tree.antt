@@ -1,25 +1,36 @@
--- Document 01, Texts and Rules for a leaf, and document 02, [1]: trees, their limits, their leaves' rules, their bound and counts.
+-- Document 01, Texts and Rules for a leaf, and document 02, [1] and [6]: trees, their limits, their leaves' rules, their bound and counts.
 use mathlib.Core.Path.{_≡_}
-use mathlib.Core.Bool.{true, false, not}
+use mathlib.Core.Bool.{true, false, not, cond}
 use mathlib.Core.List.{List}
-use Prim.Native.Nat.{ℕ, suc, _+_, _-_, _≤_, _<_, max}
-use lib.Dec.{T}
+use Prim.Native.Nat.{ℕ, suc, pred, _+_, _-_, _≤_, _<_, max}
+use lib.Dec.{T, eqb}
 use lib.ListN.{length}
 use Rattle.model.specs.Instance.{Instance, _at_}
 use Rattle.model.specs.Ranges.{All, GoodPrice}
 use Rattle.model.specs.Above.{free, Above, root, Fork, status, count, side, BelowMost}
 use Rattle.model.specs.Leaf.{available, Crowded, stuck-at, any-stuck, leaf-value}
+use Rattle.model.specs.Ramps.{RampPrices, ups, downs, ramp-leaf-value}
 use Rattle.model.specs.declared.figures.Bound.{Bound}
 use Rattle.model.specs.declared.figures.Bound.the-variants.{Never as never, Number as number}
 use Rattle.model.specs.declared.figures.TreeFigures.{TreeFigures}
 use Rattle.model.specs.Figures.{lower, tree-gives}
 
--- units and periods count from 0; a price leaf has a price multiplier and a reserve multiplier for each period
+-- units and periods count from 0; a price leaf has a price multiplier and a reserve multiplier for each period, and a ramp leaf has those of the units'
+-- steps besides
 pub data Leaf : Type 0 where
   short : ℕ → Leaf
   crowd : ℕ → Leaf
   stuck : ℕ → Leaf
   price : List ℕ → List ℕ → Leaf
+  ramp : List ℕ → List ℕ → List RampPrices → Leaf
+
+-- a leaf that has a value: one with prices
+abbrev pub HasPrices : Leaf → Type 0
+HasPrices (short t) = ⊥
+HasPrices (crowd t) = ⊥
+HasPrices (stuck U) = ⊥
+HasPrices (price q s) = Unit {0}
+HasPrices (ramp q s l) = Unit {0}
 
 -- a leaf, or a fork with its first tree and its second
 pub data Tree : Type 0 where
@@ -41,12 +52,25 @@ GoodFork P A (count t K) = (t < P .periods) × (K ≤ length (P .units) - 1) × 
 abbrev pub Multipliers : Instance → List ℕ → Type 0
 Multipliers P l = (length l ≡ P .periods) × All GoodPrice l
 
+-- T - 1 multipliers in range, for the steps from each period to the next
+abbrev pub StepMultipliers : Instance → List ℕ → Type 0
+StepMultipliers P l = (length l ≡ pred (P .periods)) × All GoodPrice l
+
+-- how many units have such lines: each of them; none, where there is but one period
+abbrev pub ramped : Instance → ℕ
+ramped P = cond (eqb (P .periods) 1) 0 (length (P .units))
+
+-- the two lines of each
+abbrev pub GoodRamps : Instance → List RampPrices → Type 0
+GoodRamps P l = (length l ≡ ramped P) × All (λ x. StepMultipliers P (x .up) × StepMultipliers P (x .down)) l
+
 -- the period, the unit or the multipliers in range
 unfoldable pub GoodLeaf : Instance → Leaf → Type 0
 GoodLeaf P (short t) = t < P .periods
 GoodLeaf P (crowd t) = t < P .periods
 GoodLeaf P (stuck U) = U < length (P .units)
 GoodLeaf P (price q s) = Multipliers P q × Multipliers P s
+GoodLeaf P (ramp q s l) = Multipliers P q × Multipliers P s × GoodRamps P l
 
 -- the leaf's rule (33, 36, 34, 35)
 unfoldable pub LeafHolds : Instance → Above → Leaf → Type 0
@@ -54,13 +78,15 @@ LeafHolds P A (short t) = (t < P .periods) × (available P A t < P .demand at t 
 LeafHolds P A (crowd t) = (t < P .periods) × Crowded P A t
 LeafHolds P A (stuck U) = T (stuck-at (P .periods) (P .units) (A .marks) U)
 LeafHolds P A (price q s) = T (not (any-stuck (P .periods) (P .units) (A .marks)))
+LeafHolds P A (ramp q s l) = T (not (any-stuck (P .periods) (P .units) (A .marks)))
 
--- a price leaf's value; never, of any other
+-- a price leaf's value, and a ramp leaf's; never, of any other
 unfoldable pub leaf-bound : Instance → Above → Leaf → Bound
 leaf-bound P A (short t) = never
 leaf-bound P A (crowd t) = never
 leaf-bound P A (stuck U) = never
 leaf-bound P A (price q s) = number (leaf-value P (A .marks) (λ t. q at t) (λ t. s at t))
+leaf-bound P A (ramp q s l) = number (ramp-leaf-value P (A .marks) (λ t. q at t) (λ t. s at t) (ups l) (downs l))
 
 -- ---- a tree
 
@@ -74,7 +100,7 @@ unfoldable pub Holds : Instance → Above → Tree → Type 0
 Holds P A (leaf l) = LeafHolds P A l
 Holds P A (fork f x y) = Holds P (side f false A) x × Holds P (side f true A) y
 
--- the smallest price leaf's value; never, if there is no price leaf
+-- the smallest value of its price leaves and ramp leaves; never, if it has neither
 unfoldable pub bound : Instance → Above → Tree → Bound
 bound P A (leaf l) = leaf-bound P A l
 bound P A (fork f x y) = lower (bound P (side f false A) x) (bound P (side f true A) y)

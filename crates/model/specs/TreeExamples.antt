@@ -128,7 +128,7 @@ tree-holds : Holds example root tree
 unfolding Holds LeafHolds available usable is-stuck
 tree-holds = ((lit< tt, lit< tt), tt)
 
--- the smallest leaf may be the last or the first, and below 0; without a price leaf the bound is never
+-- the smallest leaf may be the last or the first, and below 0; without a leaf that has prices the bound is never
 abbrev halves : ℕ → ℕ → Tree
 halves q q′ = fork (status 0 0) (leaf (price (q ∷ []) (0 ∷ []))) (leaf (price (q′ ∷ []) (0 ∷ [])))
 

@@ -3,7 +3,7 @@ ghost use mathlib.Core.Path.{_≡_};
 ghost use Prim.Native.Nat.{_<_};
 ghost use Rattle.model.specs.Figures.{lower, no-figures, add-split, add-leaf};
 
-// The smallest value of the price leaves, or that there is none.
+// The smallest value of the price leaves and ramp leaves, or that there is none.
 pub enum Bound {
     Never,
     Number(i64),

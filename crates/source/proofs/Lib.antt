@@ -10,6 +10,7 @@ pub mod Schedules
 pub mod Horizon
 pub mod Leaves
 pub mod Counts
+pub mod Ramps
 -- the costs, (13) to (20), and (1)
 pub mod Downtime
 pub mod Charges

@@ -1,21 +1,51 @@
 -- A line that is read into a row as long as the values due: the verdict is that of the line, and a good line leaves its numbers.
-use Prim.Native.Nat.{ℕ, _≤_, _<_}
+use Prim.Native.Nat.{ℕ, _+_, _≤_, _<_}
 use native.Mathlib.Omega.{arith}
 use mathlib.Core.Path.{_≡_, refl, sym, ap, subst, _∙_}
-use mathlib.Core.Bool.{Bool, true}
+use mathlib.Core.Bool.{Bool, true, false, cond, _||_}
 use mathlib.Core.List.{List, append-nil, _++_}
-use lib.ListN.{length, replicate, length-replicate, drop-of-length-le}
+use lib.Dec.{eqb}
+use lib.ListN.{length, drop, set, length-set, replicate, length-replicate, drop-of-length-le}
 use lib.Seq.{take-all}
 use Rattle.decimal.specs.NumberRead.{read-cap}
-use Rattle.text.specs.Lines.{Line, line-at, one-line}
-use Rattle.text.specs.Forms.{Form, form, plain, numbers-of, all-within, good-line, place-after, row-of, all-below}
-use Rattle.text.specs.Scan.{keyed-at, stored-at, values-verdict}
+use Rattle.text.specs.Lines.{Line, line-at, one-line, begins}
+use Rattle.text.specs.Forms.{has-minus, formed, Form, form, plain, numbers-of, all-within, good-line, place-after, row-of, all-below}
+use Rattle.text.specs.Scan.{Scan, cut, last, more, magnitude, wrong, reading, values-at, keyed-at, stored-at, values-verdict}
 use Rattle.text.specs.declared.Values.{Values}
+use Rattle.text.specs.declared.Values.the-variants.{Read}
 use Rattle.text.specs.declared.Verdict.{Verdict}
 use Rattle.text.specs.declared.Verdict.the-variants.{Good}
 use Rattle.text.proofs.Rows.{verdict-is, good-held, below-same}
 use Rattle.text.proofs.Verdicts.{ruled-good}
 use Rattle.text.proofs.Plain.{AllBetween, plain-was}
+
+-- ---- a row keeps its length, whatever is read into it
+
+reading-long : (m : ℕ) (c : Scan) (at k : ℕ) (minus : Bool) (o : List ℕ) → length (reading m c at k minus o .out) ≡ length o
+unfolding reading
+reading-long m cut at k minus o = refl
+reading-long m (last f) at k minus o = go (formed (eqb (k + 1) m) f)
+  where
+    go : (b : Bool) → length ((cond b (record { answer = Read (k + 1) (at + length f + 1) (minus || has-minus f); out = set o k (magnitude f) }) (wrong o)) .out) ≡ length o
+    go true = length-set o k (magnitude f)
+    go false = refl
+reading-long m (more f g) at k minus o =
+    go (formed (eqb (k + 1) m) f) (reading-long m g (at + length f + 1) (k + 1) (minus || has-minus f) (set o k (magnitude f)) ∙ length-set o k (magnitude f))
+  where
+    go : (b : Bool) → length (reading m g (at + length f + 1) (k + 1) (minus || has-minus f) (set o k (magnitude f)) .out) ≡ length o
+        → length ((cond b (reading m g (at + length f + 1) (k + 1) (minus || has-minus f) (set o k (magnitude f))) (wrong o)) .out) ≡ length o
+    go true e = e
+    go false e = refl
+
+pub stored-long : (key s : List ℕ) (at : ℕ) (o : List ℕ) → length (stored-at key s at o) ≡ length o
+unfolding keyed-at values-at
+stored-long key s at o = go (begins key (drop at s))
+  where
+    go : (b : Bool) → length ((cond b (values-at s (at + length key) 0 o) (wrong o)) .out) ≡ length o
+    go true = reading-long 0 _ (at + length key) 0 false o
+    go false = refl
+
+-- ---- a good line
 
 -- what a good line leaves: the row holds its numbers, and the next line's start is known
 pub record Filled (f : Form) (l : Line) (at next : ℕ) (out : List ℕ) : Type 0 where

@@ -27,7 +27,7 @@ use Rattle.tree.specs.Places.{Part}
 use Rattle.tree.specs.Course.{with-split, with-leaf, Pending, pending, Due, writer-due, nodes-due, part-due, nothing-due, after-fork, tests, next-due, judge, end}
 use Rattle.tree.specs.Acceptance.{Bounded, bounded}
 use Rattle.tree.proofs.Bounds.{add}
-use Rattle.tree.proofs.NodeLines.{part-lines, GoodPart, NodeWas, fork-was, leaf-was, part-was, node-was, PartWas, ends-leaf, part-was-line}
+use Rattle.tree.proofs.NodeLines.{part-lines, GoodPart, NodeWas, fork-was, leaf-was, part-was, node-was, PartWas, ends-leaf, goes-on, part-was-line}
 use Rattle.tree.proofs.Written.{map-both}
 
 -- ---- trees for the nodes still to be read
@@ -138,7 +138,7 @@ end-before P F x ls v s e f =
     }
 
 part-before : (P : Instance) (F : Bounded) (A : Above) (p : Part) (ps : List Pending) (x : Line) (ls : List Line) (v : Bounded) (s : Due)
-    → PartWas P F A 0 ps p x s → Left P s ls v → ForestAfter P F A p ps (x ∷ ls) v
+    → PartWas P F A 0 ps (LeafHolds P A) p x s → Left P s ls v → ForestAfter P F A p ps (x ∷ ls) v
 part-before P F A p ps x ls v s (ends-leaf l b n e g h) f = record {
   its = l;
   rest = b ∷ [];
@@ -148,6 +148,16 @@ part-before P F A p ps x ls v s (ends-leaf l b n e g h) f = record {
   good = g;
   holds = h;
   forest = f;
+}
+part-before P F A p ps x ls v s (goes-on r b n e g) f = record {
+  its = f .its;
+  rest = b ∷ f .rest;
+  whole = f .whole ∙ ap (λ (k : List (List ℕ)). k ++ f .rest) n ∙ append-assoc (part-lines p) (b ∷ []) (f .rest);
+  after = f .after;
+  lines = λ i. e i ∷ f .lines i;
+  good = λ m. f .good (g m);
+  holds = f .holds;
+  forest = f .forest;
 }
 
 writer-before : (P : Instance) (x : Line) (ls : List Line) (v : Bounded) (s : Due) → judge P writer-due x ≡ good s → Left P s ls v → Whole P (x ∷ ls) v

@@ -3,6 +3,7 @@
 use mathlib.Core.Path.{_≡_, refl, sym, ap, subst, _∙_}
 use mathlib.Core.Bool.{true, false}
 use mathlib.Core.List.{List, [], _∷_, _++_, map, append-assoc}
+use mathlib.Core.Logic.{_⊎_}
 use mathlib.Core.Option.{some}
 use Prim.Native.Nat.{ℕ, suc, pred, _≤_}
 use native.Mathlib.Omega.{arith}
@@ -11,30 +12,31 @@ use borrow.Author.Tests.{ltb-false, not-false}
 use Rattle.model.specs.Instance.{Instance, _at_}
 use Rattle.model.specs.Ranges.{GoodWriter}
 use Rattle.model.specs.Above.{Above, root, Fork, status, count, side}
-use Rattle.model.specs.Tree.{Leaf, short, crowd, stuck, price, Tree, leaf, fork, GoodFork, GoodLeaf, Limits}
+use Rattle.model.specs.Tree.{Leaf, short, crowd, stuck, price, ramp, Tree, leaf, fork, GoodFork, GoodLeaf, Limits}
 use Rattle.text.specs.Lines.{Line, ended, is-line, end-tree}
 use Rattle.text.specs.Course.{good}
 use Rattle.text.specs.Forms.{numbers-of}
 use Rattle.text.specs.Rendering.{plain-line}
 use Rattle.text.specs.Writer.{writer-key, writer-form}
 use Rattle.text.specs.Tests.{None, Passed, none-yet, one-more}
-use Rattle.text.proofs.Accepted.{rendered-good, rendered-numbers}
+use Rattle.text.proofs.Accepted.{Fits, rendered-line, rendered-good, rendered-numbers}
 use Rattle.text.proofs.Courses.{passed-both}
 use Rattle.text.proofs.Plain.{plain-passed, one-value}
 use Rattle.text.proofs.Tests.{good-none}
 use Rattle.text.proofs.Verdicts.{form-passes}
 use Rattle.text.proofs.WellFormed.{form-only, none-of-form}
 use Rattle.text.proofs.Words.{word-is}
-use Rattle.tree.specs.Rendering.{short-key, crowd-key, stuck-key, price-key, reserve-key, fork-line, leaf-lines, node-lines}
+use Rattle.tree.specs.Rendering.{short-key, crowd-key, stuck-key, price-key, reserve-key, rampprice-key, fork-line, leaf-lines, node-lines}
 use Rattle.tree.specs.Places.{Part, priced}
 use Rattle.tree.specs.NodeLines.{line-kind-of, named, counted, kind-tests, node-tests, leaf-tests}
-use Rattle.tree.specs.Refusals.{LineKind, split-line, count-line, short-line, crowd-line, stuck-line, price-line, node-form, part-form}
+use Rattle.tree.specs.Refusals.{LineKind, split-line, count-line, short-line, crowd-line, stuck-line, price-line, ramp-line, node-form, part-form}
 use Rattle.tree.specs.Course.{with-split, Pending, pending, Due, writer-due, nodes-due, part-due, nothing-due, tests, after-fork, after-leaf, after-node, after-part, next-due, judge, end}
 use Rattle.tree.specs.Acceptance.{Bounded}
 use Rattle.tree.proofs.Bounds.{add}
 use Rattle.tree.proofs.Lines.{multipliers-fit, was-multipliers, one-fits, was-one}
+use Rattle.tree.proofs.StepLines.{ramp-passes}
 use Rattle.tree.proofs.Written.{map-both}
-use Rattle.tree.proofs.NodeLines.{free-mark, narrows-is, was-split, was-count, part-lines, GoodPart, fork-good, price-good}
+use Rattle.tree.proofs.NodeLines.{free-mark, narrows-is, was-split, was-count, part-lines, GoodPart, fork-good, price-good, ramp-good, PartWas, ends-leaf, goes-on, by-part}
 use Rattle.tree.proofs.Correct.{forest-lines}
 
 -- these lines pass the tests of the form, each at its place
@@ -139,21 +141,34 @@ module _ (P : Instance) (F : Bounded) (p : Pending) (ps : List Pending) (x : Lin
       let r = plain-passed price-key (P .periods) 0 1000000000 x [] n in
       leaf-before (w .its) (plain-line price-key (numbers-of (node-form P price-line) x)) (w .rest) (w .after) (w .whole) (r .line) (w .lines)
       (w .good (was-multipliers P price-key x r)) (w .forest)
+  node-before ramp-line n w =
+      let r = plain-passed rampprice-key (P .periods) 0 1000000000 x [] n in
+      leaf-before (w .its) (plain-line rampprice-key (numbers-of (node-form P ramp-line) x)) (w .rest) (w .after) (w .whole) (r .line) (w .lines)
+      (w .good (was-multipliers P rampprice-key x r)) (w .forest)
 
 part-before : (P : Instance) (F : Bounded) (A : Above) (p : Part) (ps : List Pending) (x : Line) (ls : List Line) → None (form-only (tests P (part-due F A p ps) x))
     → FormLeft P (after-part P F A p ps x) ls → FormForestAfter P p ps (x ∷ ls)
-unfolding GoodLeaf tests leaf-tests after-part
-part-before P F A (priced q) ps x ls n f =
-    let w = plain-passed reserve-key (P .periods) 0 1000000000 x [] n in
-    let s = numbers-of (part-form P (priced q)) x in
-    record {
-      its = price q s;
-      rest = plain-line reserve-key s ∷ [];
-      whole = refl;
+unfolding tests leaf-tests
+part-before P F A p ps x ls n f = go (by-part P F A 0 ps (λ l. Unit {0}) p x (form-passes (part-form P p) x [] .0 n .0) (λ e q s. (tt, λ k. tt))) f
+  where
+    go : {s : Due} → PartWas P F A 0 ps (λ l. Unit {0}) p x s → FormLeft P s ls → FormForestAfter P p ps (x ∷ ls)
+    go (ends-leaf l b n e g h) f = record {
+      its = l;
+      rest = b ∷ [];
+      whole = n;
       after = ls;
-      lines = ap (λ (l : Line). l ∷ ls) (w .line);
-      good = λ m. (m, was-multipliers P reserve-key x w);
+      lines = ap (λ (y : Line). y ∷ ls) e;
+      good = g;
       forest = f;
+    }
+    go (goes-on r b n e g) f = record {
+      its = f .its;
+      rest = b ∷ f .rest;
+      whole = f .whole ∙ ap (λ (k : List (List ℕ)). k ++ f .rest) n ∙ append-assoc (part-lines p) (b ∷ []) (f .rest);
+      after = f .after;
+      lines = λ i. e i ∷ f .lines i;
+      good = λ m. f .good (g m);
+      forest = f .forest;
     }
 
 line-before : (P : Instance) (s : Due) (x : Line) (ls : List Line) → None (form-only (tests P s x)) → FormLeft P (next-due P s x) ls → FormLeft P s (x ∷ ls)
@@ -211,6 +226,11 @@ module _ (P : Instance) (some : 1 ≤ P .periods) where
       let w = one-fits stuck-key (length (P .units)) U g in
       one-more (form-passes f (ended (plain-line stuck-key (suc U ∷ []))) [] .1 (rendered-good f false (suc U ∷ []) w, tt))
       (ap (λ (vs : List ℕ). after-leaf P F A ps (stuck (pred (vs at 0)))) (rendered-numbers f false (suc U ∷ []) w)) none-yet
+  leaf-passes A d F ps (ramp q s l) g =
+      also (ramp-good P F A d ps some q (g .0)) (ramp-passes P F A ps (λ u x. form-only (tests P u x)) (Unit {0}) (λ p vs w o. part-of-form p vs w) some q s l (g .1) (g .2) tt)
+    where
+      part-of-form : (p : Part) (vs : List ℕ) → Fits (part-form P p) false vs → None (form-only (tests P (part-due F A p ps) (rendered-line (part-form P p) false vs)))
+      part-of-form p vs w = form-passes (part-form P p) (rendered-line (part-form P p) false vs) [] .1 (rendered-good (part-form P p) false vs w, tt)
   leaf-passes A d F ps (price q s) g =
       let f = part-form P (priced q) in
       let w = multipliers-fit P reserve-key some s (g .1) in

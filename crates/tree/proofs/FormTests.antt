@@ -15,9 +15,9 @@ use Rattle.text.specs.Tests.{Test, _if_, FirstTrue, this, after, tests-of-missi
 use Rattle.text.specs.WellFormed.{of-form}
 use Rattle.text.proofs.Tests.{Every, first-every}
 use Rattle.text.proofs.WellFormed.{form-only}
-use Rattle.tree.specs.Places.{Part, priced}
+use Rattle.tree.specs.Places.{Part}
 use Rattle.tree.specs.NodeLines.{line-kind-of, kind-tests, node-tests, leaf-tests, part-tests}
-use Rattle.tree.specs.Refusals.{LineKind, split-line, count-line, short-line, crowd-line, stuck-line, price-line, node-form, part-form}
+use Rattle.tree.specs.Refusals.{LineKind, split-line, count-line, short-line, crowd-line, stuck-line, price-line, ramp-line, node-form, part-form}
 use Rattle.tree.specs.Course.{Due, writer-due, nodes-due, part-due, nothing-due, tests, next-due, end}
 use Rattle.tree.specs.Acceptance.{Bounded}
 
@@ -63,10 +63,11 @@ module _ (P : Instance) (A : Above) (x : Line) (n : ℕ) where
   kind-first d crowd-line = first-of-form (kind-tests P A d crowd-line x) (refl, tt) (form-tests (node-form P crowd-line) x []) (refl, (refl, (refl, tt))) n
   kind-first d stuck-line = first-of-form (kind-tests P A d stuck-line x) (refl, tt) (form-tests (node-form P stuck-line) x []) (refl, (refl, (refl, tt))) n
   kind-first d price-line = first-of-form [] tt (node-tests P A d price-line x) (refl, (refl, (refl, tt))) n
+  kind-first d ramp-line = first-of-form [] tt (node-tests P A d ramp-line x) (refl, (refl, (refl, tt))) n
 
   part-first : (p : Part) → FirstTrue n (form-only (part-tests P A p x)) ↔ ((of-form n ≡ true) × FirstTrue n (part-tests P A p x))
   unfolding leaf-tests
-  part-first (priced q) = first-of-form (leaf-tests P A (priced q)) (refl, tt) (form-tests (part-form P (priced q)) x []) (refl, (refl, (refl, tt))) n
+  part-first p = first-of-form (leaf-tests P A p) (refl, tt) (form-tests (part-form P p) x []) (refl, (refl, (refl, tt))) n
 
 pub form-first : (P : Instance) (s : Due) (left : List Line) (n : ℕ)
     → FirstTrue n (tests-before (λ u l. form-only (tests P u l)) (next-due P) end s left) ↔ ((of-form n ≡ true) × FirstTrue n (tests-before (tests P) (next-due P) end s left))

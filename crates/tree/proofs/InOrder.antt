@@ -6,9 +6,9 @@ use Rattle.model.specs.Above.{Above}
 use Rattle.text.specs.Lines.{Line, end-tree}
 use Rattle.text.specs.Writer.{writer-form}
 use Rattle.text.proofs.InOrder.{after-form, InTurn, no-more, taken, left-out, numbers, InOrder, form-in-order, word-in-order, nothing-in-order}
-use Rattle.tree.specs.Places.{Part, priced}
+use Rattle.tree.specs.Places.{Part}
 use Rattle.tree.specs.NodeLines.{line-kind-of, kind-tests, leaf-tests}
-use Rattle.tree.specs.Refusals.{LineKind, split-line, count-line, short-line, crowd-line, stuck-line, price-line, node-form, part-form}
+use Rattle.tree.specs.Refusals.{LineKind, split-line, count-line, short-line, crowd-line, stuck-line, price-line, ramp-line, node-form, part-form}
 use Rattle.tree.specs.Course.{Due, writer-due, nodes-due, part-due, nothing-due, tests}
 
 -- a node line by its kind: 31 and 32, 32 and 37, 33, 36, 34, or none
@@ -20,11 +20,12 @@ kind-in-turn P A d short-line l = left-out (left-out (left-out (taken no-more)))
 kind-in-turn P A d crowd-line l = left-out (left-out (left-out (left-out (left-out (left-out (taken no-more))))))
 kind-in-turn P A d stuck-line l = left-out (left-out (left-out (left-out (taken no-more))))
 kind-in-turn P A d price-line l = no-more
+kind-in-turn P A d ramp-line l = no-more
 
 -- a later line of a leaf: 35
 leaf-in-turn : (P : Instance) (A : Above) (p : Part) → InTurn (numbers (leaf-tests P A p)) after-form
 unfolding leaf-tests
-leaf-in-turn P A (priced q) = left-out (left-out (left-out (left-out (left-out (taken no-more)))))
+leaf-in-turn P A p = left-out (left-out (left-out (left-out (left-out (taken no-more)))))
 
 pub in-order : (P : Instance) (s : Due) (l : Line) → InOrder (tests P s l)
 unfolding tests

@@ -9,9 +9,9 @@ use lib.ListN.{drop}
 use borrow.Author.Tests.{not-true, ne-eqb}
 use Rattle.text.specs.Lines.{Line, missing, unended, ended, bytes-of, due, longer, cut-at, lines-of, line-at, one-line, begins}
 use Rattle.text.proofs.Cuts.{and-both}
-use Rattle.tree.specs.Rendering.{split-key, count-key, short-key, crowd-key, stuck-key}
+use Rattle.tree.specs.Rendering.{split-key, count-key, short-key, crowd-key, stuck-key, rampprice-key}
 use Rattle.tree.specs.NodeLines.{node-keys, kind-among, line-kind-of}
-use Rattle.tree.specs.Refusals.{LineKind, split-line, count-line, short-line, crowd-line, stuck-line, price-line}
+use Rattle.tree.specs.Refusals.{LineKind, split-line, count-line, short-line, crowd-line, stuck-line, price-line, ramp-line}
 
 longer-bytes : (b : ℕ) (l : Line) → bytes-of (longer b l) ≡ b ∷ bytes-of l
 longer-bytes b missing = refl
@@ -51,7 +51,7 @@ module _ (text : List ℕ) (here : ℕ) where
 
   by-keys : line-kind-of (line-at text here) ≡ kind-among node-keys (drop here text)
   unfolding line-kind-of
-  by-keys = among-due node-keys (drop here text) (refl, (refl, (refl, (refl, (refl, tt)))))
+  by-keys = among-due node-keys (drop here text) (refl, (refl, (refl, (refl, (refl, (refl, tt))))))
 
   pub split-there : Begins split-key true → Stands split-line
   split-there a = sym (by-keys ∙ rw a refl)
@@ -72,36 +72,43 @@ module _ (text : List ℕ) (here : ℕ) where
           pub stuck-there : Begins stuck-key true → Stands stuck-line
           stuck-there e = sym (by-keys ∙ rw (a, b, c, d, e) refl)
 
-          pub price-there : Begins stuck-key false → Stands price-line
-          price-there e = sym (by-keys ∙ rw (a, b, c, d, e) refl)
+          module _ (e : Begins stuck-key false) where
+            pub ramp-there : Begins rampprice-key true → Stands ramp-line
+            ramp-there f = sym (by-keys ∙ rw (a, b, c, d, e, f) refl)
+
+            pub price-there : Begins rampprice-key false → Stands price-line
+            price-there f = sym (by-keys ∙ rw (a, b, c, d, e, f) refl)
 
 -- ---- the key of a kind, where the line is of that kind
 
--- of five tests in turn, the one that a kind rests on; a price line rests on none
-abbrev test-of : Bool → Bool → Bool → Bool → Bool → LineKind → Bool
-test-of a b c d e split-line = a
-test-of a b c d e count-line = b
-test-of a b c d e short-line = c
-test-of a b c d e crowd-line = d
-test-of a b c d e stuck-line = e
-test-of a b c d e price-line = true
+-- of six tests in turn, the one that a kind rests on; a price line rests on none
+abbrev test-of : Bool → Bool → Bool → Bool → Bool → Bool → LineKind → Bool
+test-of a b c d e f split-line = a
+test-of a b c d e f count-line = b
+test-of a b c d e f short-line = c
+test-of a b c d e f crowd-line = d
+test-of a b c d e f stuck-line = e
+test-of a b c d e f ramp-line = f
+test-of a b c d e f price-line = true
 
-rests-on : (a b c d e : Bool) → test-of a b c d e (cond a split-line (cond b count-line (cond c short-line (cond d crowd-line (cond e stuck-line price-line))))) ≡ true
-rests-on true b c d e = refl
-rests-on false true c d e = refl
-rests-on false false true d e = refl
-rests-on false false false true e = refl
-rests-on false false false false true = refl
-rests-on false false false false false = refl
+rests-on : (a b c d e f : Bool)
+    → test-of a b c d e f (cond a split-line (cond b count-line (cond c short-line (cond d crowd-line (cond e stuck-line (cond f ramp-line price-line)))))) ≡ true
+rests-on true b c d e f = refl
+rests-on false true c d e f = refl
+rests-on false false true d e f = refl
+rests-on false false false true e f = refl
+rests-on false false false false true f = refl
+rests-on false false false false false true = refl
+rests-on false false false false false false = refl
 
 module _ (text : List ℕ) (here : ℕ) where
   abbrev tested : LineKind → Bool
-  tested = let t = drop here text in test-of (begins split-key t) (begins count-key t) (begins short-key t) (begins crowd-key t) (begins stuck-key t)
+  tested = let t = drop here text in test-of (begins split-key t) (begins count-key t) (begins short-key t) (begins crowd-key t) (begins stuck-key t) (begins rampprice-key t)
 
   stands-by : (k : LineKind) → line-kind-of (line-at text here) ≡ k → tested k ≡ true
   stands-by k e =
       let t = drop here text in
-      ap tested (sym e ∙ by-keys text here) ∙ rests-on (begins split-key t) (begins count-key t) (begins short-key t) (begins crowd-key t) (begins stuck-key t)
+      ap tested (sym e ∙ by-keys text here) ∙ rests-on (begins split-key t) (begins count-key t) (begins short-key t) (begins crowd-key t) (begins stuck-key t) (begins rampprice-key t)
 
   pub split-begins : line-kind-of (line-at text here) ≡ split-line → Begins text here split-key true
   split-begins = stands-by split-line

@@ -22,10 +22,10 @@ use Rattle.text.specs.Tests.{Test, _if_, found}
 use Rattle.text.proofs.Verdicts.{form-found}
 use Rattle.least.specs.declared.unit.Least.the-variants.{Stuck, Value}
 use Rattle.leaves.specs.LeafLeasts.{short-at, crowd-at, leaf-of}
-use Rattle.tree.specs.Rendering.{price-key, reserve-key}
-use Rattle.tree.specs.Places.{Part, priced}
+use Rattle.tree.specs.Rendering.{price-key, reserve-key, rampprice-key}
+use Rattle.tree.specs.Places.{Part, priced, ramp-priced}
 use Rattle.tree.specs.NodeLines.{line-kind-of, named, kind-tests, node-tests, leaf-tests}
-use Rattle.tree.specs.Refusals.{LineKind, short-line, crowd-line, stuck-line, price-line, node-form, part-form}
+use Rattle.tree.specs.Refusals.{LineKind, short-line, crowd-line, stuck-line, price-line, ramp-line, node-form, part-form}
 use Rattle.tree.specs.declared.leaf.LeafKind.{LeafKind}
 use Rattle.tree.specs.declared.leaf.LeafKind.the-variants as leaf
 use Rattle.tree.specs.Kinds.{leaf-kind}
@@ -111,6 +111,14 @@ module _ (P : Instance) (text : List ℕ) (here : ℕ) (A : Above) (d : ℕ) whe
       line-passed price-line e (row-good (node-form P price-line) text here row is n v) refl F rest
       ∙ ap (λ (q : List ℕ). good (part-due F A (priced q) rest)) (sym (values-taken P price-key text here row is n v))
 
+  pub ramp-read : (e : line-kind-of (line-at text here) ≡ ramp-line) (row : Row) (is : row ≡ row-of (node-form P ramp-line) (line-at text here) here) (n : ℕ)
+      (v : row .verdict ≡ Good n)
+      → AtNode P text here A d (λ F rest. good (part-due F A (ramp-priced (take (P .periods) (row .values))) rest))
+  unfolding kind-tests after-node
+  ramp-read e row is n v F rest =
+      line-passed ramp-line e (row-good (node-form P ramp-line) text here row is n v) refl F rest
+      ∙ ap (λ (q : List ℕ). good (part-due F A (ramp-priced q) rest)) (sym (values-taken P rampprice-key text here row is n v))
+
 -- ---- a leaf's depth plays no part
 
 pub leaf-anywhere : (P : Instance) (text : List ℕ) (here l : ℕ) (S : TreeFigures) (A : Above) (d : ℕ) (k : LeafKind) → line-kind-of (line-at text here) ≡ leaf-kind k
@@ -127,6 +135,7 @@ leaf-anywhere P text here l S A d k e =
     go leaf.Crowd = refl
     go leaf.Stuck = refl
     go leaf.Price = refl
+    go leaf.Ramp = refl
 
 -- ---- where a later line of a leaf is due
 
@@ -137,7 +146,7 @@ module _ (P : Instance) (text : List ℕ) (here : ℕ) (A : Above) (p : Part) wh
   part-line-refused n h F rest = refused-found (part-form P p) (line-at text here) n (leaf-tests P A p) (next-due P (part-due F A p rest) (line-at text here)) h
 
   -- none of these: the leaf's own tests are left
-  part-passed : forms.good-line (part-form P p) (line-at text here) ≡ true → {ts : List Test} → leaf-tests P A p ≡ ts
+  pub part-passed : forms.good-line (part-form P p) (line-at text here) ≡ true → {ts : List Test} → leaf-tests P A p ≡ ts
       → AtPart P text here A p (λ F rest. found ts (after-part P F A p rest (line-at text here)))
   unfolding judge tests next-due
   part-passed g t F rest =

@@ -1,38 +1,41 @@
 -- Where lines begin the text of a tree and pass all tests, the leaves that end among them hold: a leaf's rule is tested at its last line.
 use mathlib.Core.Path.{_≡_, refl, sym, ap, subst, _∙_}
-use mathlib.Core.Bool.{true, false, not}
+use mathlib.Core.Bool.{Bool, true, false, not, cond}
 use mathlib.Core.List.{List, [], _∷_, _++_, map, append-assoc}
-use Prim.Native.Nat.{ℕ, suc, pred, _+_, _-_, _<_}
+use Prim.Native.Nat.{ℕ, zero, suc, pred, _+_, _-_, _<_}
 use native.Mathlib.Omega.{arith}
-use lib.Dec.{ltb}
+use lib.Dec.{eqb, ltb}
 use lib.ListN.{length, drop, length-append, length-map}
 use lib.Seq.{drop-append-seam}
-use borrow.Author.Tests.{ltb-true, not-false}
+use borrow.Author.Tests.{ltb-true, not-false, eqb-true, eqb-false, eq-eqb}
 use Rattle.model.specs.Instance.{Instance, _at_}
 use Rattle.model.specs.Ranges.{GoodWriter}
 use Rattle.model.specs.Above.{Above, root, Fork, side}
 use Rattle.model.specs.Leaf.{available, stuck-at}
 use Rattle.model.specs.Figures.{no-figures}
-use Rattle.model.specs.Tree.{Leaf, short, crowd, stuck, price, Tree, leaf, fork, GoodLeaf, LeafHolds, Limits, Holds}
+use Rattle.model.specs.Ramps.{RampPrices}
+use Rattle.model.specs.Tree.{Leaf, short, crowd, stuck, price, ramp, Tree, leaf, fork, ramped, GoodLeaf, LeafHolds, Limits, Holds}
 use Rattle.leaves.specs.LeafLeasts.{crowd-at}
 use Rattle.leaves.proofs.Crowds.{crowd-is}
 use Rattle.text.specs.Lines.{Line, ended, end-tree}
 use Rattle.text.specs.Course.{good}
+use Rattle.text.specs.Forms.{numbers-of}
 use Rattle.text.specs.Rendering.{plain-line}
 use Rattle.text.specs.Writer.{writer-key}
 use Rattle.text.specs.Tests.{None, one-more}
 use Rattle.text.proofs.Accepted.{rendered-numbers}
 use Rattle.text.proofs.Tests.{good-none}
 use Rattle.text.proofs.Verdicts.{form-passes}
-use Rattle.tree.specs.Rendering.{short-key, crowd-key, stuck-key, price-key, reserve-key, fork-line, leaf-lines, node-lines, lines-after}
-use Rattle.tree.specs.NodeLines.{line-kind-of, named, kind-tests, leaf-tests}
-use Rattle.tree.specs.Places.{priced, HoldsAmong}
-use Rattle.tree.specs.Refusals.{WrittenTree, short-line, crowd-line, stuck-line, node-form, part-form}
-use Rattle.tree.specs.Course.{with-split, Pending, pending, Due, writer-due, nodes-due, part-due, tests, after-node, after-part, next-due, judge}
+use Rattle.tree.specs.Rendering.{short-key, crowd-key, stuck-key, price-key, reserve-key, rampprice-key, up-key, down-key, step-lines, fork-line, leaf-lines, node-lines, lines-after}
+use Rattle.tree.specs.NodeLines.{line-kind-of, named, kind-tests}
+use Rattle.tree.specs.Places.{priced, ramp-priced, with-steps, with-ups, HoldsAmong}
+use Rattle.tree.specs.Refusals.{WrittenTree, short-line, crowd-line, stuck-line, price-line, ramp-line, node-form, part-form}
+use Rattle.tree.specs.Course.{with-split, Pending, pending, Due, writer-due, nodes-due, part-due, tests, after-leaf, after-node, after-part, next-due, judge}
 use Rattle.tree.specs.Acceptance.{Bounded, bounded}
 use Rattle.tree.proofs.Lines.{one-fits}
 use Rattle.tree.proofs.Written.{map-both}
-use Rattle.tree.proofs.NodeLines.{is-T, not-T, fork-good}
+use Rattle.tree.proofs.StepLines.{one-longer}
+use Rattle.tree.proofs.NodeLines.{is-T, fork-good, holds-at-last}
 use Rattle.tree.proofs.Complete.{Passes, writer-good}
 use Rattle.tree.proofs.LinePlaces.{leaf-line}
 
@@ -68,10 +71,6 @@ module _ (P : Instance) where
         let v : named f l 0 ≡ U = ap (λ (vs : List ℕ). pred (vs at 0)) (rendered-numbers f false (suc U ∷ []) (one-fits stuck-key (length (P .units)) U h)) ∙ omega arith in
         let g : not (stuck-at (P .periods) (P .units) (A .marks) (named f l 0)) ≡ false = form-passes f l (kind-tests P A d stuck-line l) .0 n .1 .0 in
         is-T b (not-false b (rw v at g))
-
-    price-held : (q r s : List ℕ) (x : Line) → None (tests P (part-due F A (priced q) ps) x) → LeafHolds P A (price r s)
-    unfolding tests leaf-tests LeafHolds
-    price-held q r s x n = not-T _ (form-passes (part-form P (priced q)) x (leaf-tests P A (priced q)) .0 n .1 .0)
 
   -- ---- among the first lines
 
@@ -110,14 +109,69 @@ module _ (P : Instance) where
 
   -- ---- a leaf
 
-  -- a reserve line that passes, and the lines behind it
-  past-reserve : (A : Above) (F : Bounded) (q r s : List ℕ) (ps : List Pending) (x : Line) (ls : List Line) (u : Due) → Passes P (part-due F A (priced q) ps) (x ∷ ls) u
-      → LeafHolds P A (price r s) × Passes P (next-due P (part-due F A (priced q) ps) x) ls u
-  past-reserve A F q r s ps x ls u (one-more n d h) = (price-held A 0 F ps q r s x n, subst (λ (v : Due). Passes P v ls u) (sym d) h)
+  -- a line that passes, and the lines behind it
+  past : (s : Due) (x : Line) (ls : List Line) (u : Due) → Passes P s (x ∷ ls) u → None (tests P s x) × Passes P (next-due P s x) ls u
+  past s x ls u (one-more n d h) = (n, subst (λ (v : Due). Passes P v ls u) (sym d) h)
+
+  -- the lines of a ramp leaf's units: they end inside, or they go on behind it, and then the last one said that it holds
+  data StepsPassing (A : Above) (ps : List Pending) (m : List RampPrices) (ls : List Line) (u : Due) : Type 0 where
+    ends-inside : length ls < length (step-lines m) → StepsPassing A ps m ls u
+    ends-behind : (F : Bounded) (rest : List Line) → ls ≡ map ended (step-lines m) ++ rest → (0 < length m → (q s : List ℕ) (l : List RampPrices) → LeafHolds P A (ramp q s l))
+        → Passes P (nodes-due F ps) rest u → StepsPassing A ps m ls u
+
+  one-unit : (A : Above) (ps : List Pending) (x : RampPrices) (m : List RampPrices) (y z : Line) (ls : List Line) (u : Due)
+      → y ≡ ended (plain-line up-key (x .up)) → z ≡ ended (plain-line down-key (x .down))
+      → (m ≡ [] → (q s : List ℕ) (l : List RampPrices) → LeafHolds P A (ramp q s l)) → StepsPassing A ps m ls u → StepsPassing A ps (x ∷ m) (y ∷ z ∷ ls) u
+  one-unit A ps x m y z ls u a b h (ends-inside l) = ends-inside (omega (arith, l))
+  one-unit A ps x m y z ls u a b h (ends-behind F rest e k p) = ends-behind F rest (λ i. a i ∷ b i ∷ e i) (λ _. go m h k) p
+    where
+      go : (m : List RampPrices) → (m ≡ [] → (q s : List ℕ) (l : List RampPrices) → LeafHolds P A (ramp q s l))
+          → (0 < length m → (q s : List ℕ) (l : List RampPrices) → LeafHolds P A (ramp q s l)) → (q s : List ℕ) (l : List RampPrices) → LeafHolds P A (ramp q s l)
+      go [] h k = h refl
+      go (x ∷ m) h k = k (omega arith)
+
+  steps-passing : (A : Above) (F : Bounded) (ps : List Pending) (m : List RampPrices) (q s : List ℕ) (k : List RampPrices) → length k + length m ≡ ramped P
+      → (ls more after : List Line) (u : Due) → ls ++ more ≡ map ended (step-lines m) ++ after → (b : Bool) → eqb (ramped P) (length k) ≡ b
+      → Passes P (cond b (after-leaf P F A ps (ramp q s k)) (part-due F A (with-steps q s k) ps)) ls u → StepsPassing A ps m ls u
+  unfolding tests next-due after-part
+  steps-passing A F ps [] q s k n ls more after u e true c h = ends-behind _ ls refl (λ l. absurd (omega arith)) h
+  steps-passing A F ps [] q s k n ls more after u e false c h = absurd (eqb-false (ramped P) (length k) c (omega arith))
+  steps-passing A F ps (x ∷ m) q s k n ls more after u e true c h = absurd (let z = eqb-true (ramped P) (length k) c in omega arith)
+  steps-passing A F ps (x ∷ m) q s k n [] more after u e false c h = ends-inside (omega arith)
+  steps-passing A F ps (x ∷ m) q s k n (y ∷ []) more after u e false c h = ends-inside (omega arith)
+  steps-passing A F ps (x ∷ m) q s k n (y ∷ z ∷ ls) more after u e false c h =
+      let g = past (part-due F A (with-steps q s k) ps) y (z ∷ ls) u h in
+      let v = numbers-of (part-form P (with-steps q s k)) y in
+      let g′ = past (part-due F A (with-ups q s k v) ps) z ls u (g .1) in
+      let w : RampPrices = record { up = v; down = numbers-of (part-form P (with-ups q s k v)) z } in
+      let k′ = k ++ (w ∷ []) in
+      let long = one-longer k w in
+      let a : y ≡ ended (plain-line up-key (x .up)) = cc in
+      let b : z ≡ ended (plain-line down-key (x .down)) = cc in
+      let r : ls ++ more ≡ map ended (step-lines m) ++ after = cc in
+      one-unit A ps x m y z ls u a b (λ o a b. holds-at-last P F A 0 ps (with-ups q s k v) z (g′ .0) (eq-eqb (ramped P) (suc (length k)) (none-left m o n)) a b .1)
+      (steps-passing A F ps m q s k′ (omega arith) ls more after u r (eqb (ramped P) (length k′)) refl (g′ .1))
+    where
+      none-left : (m : List RampPrices) → m ≡ [] → length k + length (x ∷ m) ≡ ramped P → ramped P ≡ suc (length k)
+      none-left [] o n = omega arith
+      none-left (y ∷ m) o n = absurd (let z : _≡_ {A = ℕ} 0 1 = cc in omega arith)
+
+  -- all of them, behind the leaf's first two
+  whole-ramp : (A : Above) (ps : List Pending) (q r : List ℕ) (l : List RampPrices) (x y : Line) (ls : List Line) (u : Due)
+      → x ≡ ended (plain-line rampprice-key q) → y ≡ ended (plain-line reserve-key r)
+      → (l ≡ [] → (q s : List ℕ) (l : List RampPrices) → LeafHolds P A (ramp q s l)) → StepsPassing A ps l ls u → Passing A (leaf (ramp q r l)) ps (x ∷ y ∷ ls) u
+  unfolding Holds HoldsAmong node-lines
+  whole-ramp A ps q r l x y ls u a b h (ends-inside n) = inside (omega (arith, n)) (λ m. absurd (omega (arith, n, m)))
+  whole-ramp A ps q r l x y ls u a b h (ends-behind F rest e k p) = behind F rest (λ i. a i ∷ b i ∷ e i) (go l h k) p
+    where
+      go : (j : List RampPrices) → (j ≡ [] → (q s : List ℕ) (l : List RampPrices) → LeafHolds P A (ramp q s l))
+          → (0 < length j → (q s : List ℕ) (l : List RampPrices) → LeafHolds P A (ramp q s l)) → LeafHolds P A (ramp q r l)
+      go [] h k = h refl q r l
+      go (x ∷ j) h k = k (omega arith) q r l
 
   leaf-passing : (A : Above) (d : ℕ) (F : Bounded) (ps : List Pending) (l : Leaf) → GoodLeaf P l → (ls more after : List Line) (s : Due)
       → ls ++ more ≡ map ended (leaf-lines l) ++ after → Passes P (nodes-due F (pending A d ∷ ps)) ls s → Passing A (leaf l) ps ls s
-  unfolding Holds HoldsAmong node-lines next-due after-node after-part line-kind-of
+  unfolding Holds HoldsAmong node-lines tests next-due after-node after-part line-kind-of GoodLeaf
   leaf-passing A d F ps l g [] more after s e h = inside (leaf-line l) (none-held A (leaf l) 0 refl)
   leaf-passing A d F ps (short t) g (x ∷ ls) more after s e (one-more n k h) =
       let y : x ≡ ended (plain-line short-key (suc t ∷ [])) = cc in
@@ -134,9 +188,24 @@ module _ (P : Instance) where
   leaf-passing A d F ps (price q r) g (x ∷ []) more after s e h = inside (omega arith) (λ m. absurd (omega arith))
   leaf-passing A d F ps (price q r) g (x ∷ y ∷ ls) more after s e (one-more n k h) =
       let z : x ≡ ended (plain-line price-key q) = cc in
-      let p = past-reserve A F _ q r ps y ls s (moved (nodes-due F (pending A d ∷ ps)) (y ∷ ls) k z refl h) in
+      let t : List ℕ = numbers-of (node-form P price-line) (ended (plain-line price-key q)) in
+      let p = past (part-due F A (priced t) ps) y ls s (moved (nodes-due F (pending A d ∷ ps)) (y ∷ ls) k z refl h) in
       let w : y ≡ ended (plain-line reserve-key r) = cc in
-      behind _ ls (λ i. z i ∷ w i ∷ ls) (p .0) (p .1)
+      behind _ ls (λ i. z i ∷ w i ∷ ls) (holds-at-last P F A d ps (priced t) y (p .0) refl q r .0) (p .1)
+  leaf-passing A d F ps (ramp q r l) g (x ∷ []) more after s e h = inside (omega arith) (λ m. absurd (omega arith))
+  leaf-passing A d F ps (ramp q r l) g (x ∷ y ∷ ls) more after s e (one-more n k h) =
+      let z : x ≡ ended (plain-line rampprice-key q) = cc in
+      let t : List ℕ = numbers-of (node-form P ramp-line) (ended (plain-line rampprice-key q)) in
+      let p = past (part-due F A (ramp-priced t) ps) y ls s (moved (nodes-due F (pending A d ∷ ps)) (y ∷ ls) k z refl h) in
+      let w : y ≡ ended (plain-line reserve-key r) = cc in
+      let v : List ℕ = numbers-of (part-form P (ramp-priced t)) y in
+      let j : ls ++ more ≡ map ended (step-lines l) ++ after = cc in
+      whole-ramp A ps q r l x y ls s z w (λ o a b. holds-at-last P F A d ps (ramp-priced t) y (p .0) (eq-eqb (ramped P) 0 (none-said l o (g .2 .0))) a b .1)
+      (steps-passing A F ps l t v [] (omega (arith, g .2 .0)) ls more after s j (eqb (ramped P) 0) refl (p .1))
+    where
+      none-said : (l : List RampPrices) → l ≡ [] → length l ≡ ramped P → ramped P ≡ 0
+      none-said [] o n = sym n
+      none-said (y ∷ l) o n = absurd (let z : _≡_ {A = ℕ} 0 1 = cc in omega arith)
 
   -- ---- a fork
 

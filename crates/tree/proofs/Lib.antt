@@ -1,6 +1,9 @@
 -- What the definitions imply.
 pub mod Bounds
 pub mod Lines
+pub mod StepLines
+pub mod StepBuffers
+pub mod UnitReads
 pub mod NodeLines
 pub mod Written
 pub mod Complete
@@ -14,12 +17,16 @@ pub mod LeavesHold
 pub mod FormTests
 pub mod WhichLine
 pub mod NodeRefusals
+pub mod PartRefusals
 pub mod SplitCounts
 pub mod Acceptance
 pub mod Unique
 pub mod Witnesses
 pub mod RangeEnds
 pub mod ReserveLine
+pub mod RampLines
+pub mod RampRanges
+pub mod WrongRampLines
 pub mod InOrder
 pub mod Rows
 pub mod ReadLines
@@ -27,6 +34,8 @@ pub mod WaysThrough
 pub mod Marked
 pub mod Keys
 pub mod Leaves
+pub mod RampLeaves
+pub mod RampReading
 pub mod ForkLines
 pub mod Places
 pub mod Texts

@@ -41,16 +41,25 @@ all-between [] h i k = absurd (omega arith)
 all-between (x ∷ l) h zero k = h .0
 all-between (x ∷ l) h (suc i) k = all-between l (h .1) i (omega arith)
 
-between-all : (l : List ℕ) → AllBetween 0 1000000000 l → All GoodPrice l
+pub between-all : (l : List ℕ) → AllBetween 0 1000000000 l → All GoodPrice l
 between-all [] h = tt
 between-all (x ∷ l) h = (h 0 (omega arith), between-all l (λ i k. h (suc i) (omega arith)))
 
+module _ (n : ℕ) (key : List ℕ) where
+  pub many-fit : 1 ≤ n → (l : List ℕ) → (length l ≡ n) × All GoodPrice l → Fits (plain key n 0 1000000000) false l
+  many-fit some l m = plain-fits key n 0 1000000000 l some (m .0) (all-between l (m .1))
+
+  pub were-many : (l : Line) → IsPlain key n 0 1000000000 l
+      → (length (numbers-of (plain key n 0 1000000000) l) ≡ n) × All GoodPrice (numbers-of (plain key n 0 1000000000) l)
+  were-many l w = (w .count, between-all (numbers-of (plain key n 0 1000000000) l) (w .range))
+
+-- one for each period
 module _ (P : Instance) (key : List ℕ) where
   pub multipliers-fit : 1 ≤ P .periods → (l : List ℕ) → Multipliers P l → Fits (plain key (P .periods) 0 1000000000) false l
-  multipliers-fit some l m = plain-fits key (P .periods) 0 1000000000 l some (m .0) (all-between l (m .1))
+  multipliers-fit = many-fit (P .periods) key
 
   pub was-multipliers : (l : Line) → IsPlain key (P .periods) 0 1000000000 l → Multipliers P (numbers-of (plain key (P .periods) 0 1000000000) l)
-  was-multipliers l w = (w .count, between-all (numbers-of (plain key (P .periods) 0 1000000000) l) (w .range))
+  was-multipliers = were-many (P .periods) key
 
 -- ---- one number
 

@@ -3,7 +3,8 @@
 use mathlib.Core.Path.{_≡_, refl, sym, ap, subst, _∙_}
 use mathlib.Core.Bool.{Bool, true, false}
 use mathlib.Core.List.{List, [], _∷_, _++_, map}
-use Prim.Native.Nat.{ℕ, zero, suc, _+_, _-_, _≤_, _<_}
+use mathlib.Core.Logic.{_⊎_, inl, inr}
+use Prim.Native.Nat.{ℕ, zero, suc, pred, _+_, _-_, _≤_, _<_}
 use native.Mathlib.Omega.{arith}
 use lib.Dec.{ltb}
 use lib.ListN.{length, take, length-append, length-map}
@@ -13,24 +14,53 @@ use Rattle.model.specs.Instance.{Instance}
 use Rattle.model.specs.Ranges.{GoodWriter}
 use Rattle.model.specs.Above.{Above, root, Fork, side}
 use Rattle.model.specs.Figures.{no-figures}
-use Rattle.model.specs.Tree.{Leaf, Tree, leaf, fork, GoodLeaf, Limits, Holds}
+use Rattle.model.specs.Ramps.{RampPrices}
+use Rattle.model.specs.Tree.{Leaf, ramp, Tree, leaf, fork, StepMultipliers, ramped, GoodLeaf, Limits, Holds}
 use Rattle.text.specs.Lines.{Line, ended, end-tree}
 use Rattle.text.specs.Course.{good}
+use Rattle.text.specs.Rendering.{plain-line}
 use Rattle.text.specs.Tests.{Test, None, Passed, none-yet, one-more}
+use Rattle.text.proofs.Accepted.{Fits, rendered-line}
 use Rattle.text.proofs.Courses.{passed-both}
 use Rattle.text.proofs.Tests.{good-none}
 use Rattle.text.proofs.WellFormed.{form-only, none-of-form}
-use Rattle.tree.specs.Rendering.{leaf-lines, node-lines, lines-after}
-use Rattle.tree.specs.Places.{Part, PartAt, reserve-line, LinePlace, node-at, part-at, LineAt, first-line, later-line, in-first, in-second, HoldsAmong}
-use Rattle.tree.specs.Refusals.{WrittenTree}
-use Rattle.tree.specs.Course.{with-split, Pending, pending, Due, writer-due, nodes-due, part-due, nothing-due, tests, next-due, judge, end}
+use Rattle.tree.specs.Rendering.{reserve-key, rampprice-key, up-key, step-lines, leaf-lines, node-lines, lines-after}
+use Rattle.tree.specs.Places.{Part, ramp-priced, with-steps, with-ups, PartAt, reserve-line, ramp-reserve-line, up-line, down-line, LinePlace, node-at, part-at, LineAt, first-line, later-line, in-first, in-second, HoldsAmong}
+use Rattle.tree.specs.NodeLines.{is-last}
+use Rattle.tree.specs.Refusals.{WrittenTree, part-form}
+use Rattle.tree.specs.Course.{with-split, Pending, pending, Due, writer-due, nodes-due, part-due, nothing-due, tests, after-steps, next-due, judge, end}
 use Rattle.tree.specs.Acceptance.{Bounded, bounded}
 use Rattle.tree.proofs.Bounds.{add}
 use Rattle.tree.proofs.Written.{map-both}
-use Rattle.tree.proofs.NodeLines.{fork-good, price-good}
+use Rattle.tree.proofs.StepLines.{one-longer, step-lines-both, two-periods, more-due, reserve-pass}
+use Rattle.tree.proofs.Lines.{many-fit}
+use Rattle.tree.proofs.NodeLines.{GoodSteps, fork-good, price-good, ramp-good, part-good}
 use Rattle.tree.proofs.Complete.{node-good, writer-good, end-good}
 use Rattle.tree.proofs.FormLines.{node-passes}
 use Rattle.tree.proofs.LinePlaces.{line-among, line-placed}
+
+-- ---- the first lines of a ramp leaf
+
+module _ (q s : List ℕ) {l : List RampPrices} (k : List RampPrices) (x : RampPrices) (m : List RampPrices) (e : l ≡ k ++ (x ∷ m)) where
+  in-two : map ended (leaf-lines (ramp q s l)) ≡ map ended (leaf-lines (ramp q s k)) ++ map ended (step-lines (x ∷ m))
+  in-two =
+      ap (λ (j : List RampPrices). map ended (leaf-lines (ramp q s j))) e
+      ∙ ap (λ (ls : List (List ℕ)). map ended (plain-line rampprice-key q ∷ plain-line reserve-key s ∷ ls)) (step-lines-both k (x ∷ m))
+      ∙ map-both (leaf-lines (ramp q s k)) (step-lines (x ∷ m))
+
+  front-lines : take (length (leaf-lines (ramp q s k))) (map ended (leaf-lines (ramp q s l))) ≡ map ended (leaf-lines (ramp q s k))
+  front-lines =
+      ap (take (length (leaf-lines (ramp q s k)))) in-two
+      ∙ ap (λ (n : ℕ). take n (map ended (leaf-lines (ramp q s k)) ++ map ended (step-lines (x ∷ m)))) (sym (length-map (leaf-lines (ramp q s k)) ended))
+      ∙ take-append-seam (map ended (leaf-lines (ramp q s k))) (map ended (step-lines (x ∷ m)))
+
+  front-lines-up : take (suc (length (leaf-lines (ramp q s k)))) (map ended (leaf-lines (ramp q s l)))
+      ≡ map ended (leaf-lines (ramp q s k)) ++ (ended (plain-line up-key (x .up)) ∷ [])
+  front-lines-up =
+      let n : suc (length (leaf-lines (ramp q s k))) ≡ length (map ended (leaf-lines (ramp q s k))) + 1 = omega (arith, length-map (leaf-lines (ramp q s k)) ended) in
+      ap (take (suc (length (leaf-lines (ramp q s k))))) in-two
+      ∙ ap (λ (n : ℕ). take n (map ended (leaf-lines (ramp q s k)) ++ map ended (step-lines (x ∷ m)))) n
+      ∙ take-append-add (map ended (leaf-lines (ramp q s k))) (map ended (step-lines (x ∷ m))) 1
 
 -- ---- what is due where a line stands
 
@@ -62,16 +92,54 @@ module _ (P : Instance) (tests′ : Due → Line → List Test) (Asked : Above �
     abbrev Passes : Due → List Line → Due → Type 0
     Passes s ls s′ = Passed tests′ (next-due P) s ls s′
 
+    -- a unit's place among those that have lines of their own, and their multipliers
+    said : {l : List RampPrices} (k : List RampPrices) (x : RampPrices) (m : List RampPrices) → l ≡ k ++ (x ∷ m) → length l ≡ ramped P → length k < ramped P
+    said k x m e n = omega (arith, n, ap (λ (j : List RampPrices). length j) e, length-append k (x ∷ m))
+
+    front-good : (k : List RampPrices) (x : RampPrices) (m : List RampPrices) → GoodSteps P (k ++ (x ∷ m)) → GoodSteps P k × StepMultipliers P (x .up)
+    front-good [] x m g = (tt, g .0 .0)
+    front-good (y ∷ k) x m g = let r = front-good k x m (g .1) in ((g .0, r .0), r .1)
+
     -- one good line in front
     also : {s s′ s″ : Due} {x : Line} {ls : List Line} → judge P s x ≡ good s′ → Passes s′ ls s″ → Passes s (x ∷ ls) s″
     unfolding judge
     also {s} {s′} {s″} {x} e p = one-more (J .good-line s s′ x e) (good-none (next-due P s x) s′ (tests P s x) e .1) p
+
+    -- a line that is not a leaf's last passes
+    part-passes : (A : Above) (F : Bounded) (ps : List Pending) (p : Part) (vs : List ℕ) → Fits (part-form P p) false vs → (is-last P p ≡ false) ⊎ ⊥
+        → None (tests′ (part-due F A p ps) (rendered-line (part-form P p) false vs))
+    part-passes A F ps p vs w (inl e) = J .good-line (part-due F A p ps) _ _ (part-good P F A 0 ps p vs w (rw e refl))
+    part-passes A F ps p vs w (inr e) = absurd e
+
+    -- the first lines of a ramp leaf, as far as the lines of the units k
+    units-before : (q s : List ℕ) {l : List RampPrices} (k : List RampPrices) (x : RampPrices) (m : List RampPrices) → l ≡ k ++ (x ∷ m) → GoodLeaf P (ramp q s l)
+        → (A : Above) (d : ℕ) (F : Bounded) (ps : List Pending)
+        → Passes (nodes-due F (pending A d ∷ ps)) (map ended (leaf-lines (ramp q s k))) (part-due F A (with-steps q s k) ps)
+    unfolding GoodLeaf
+    units-before q s k x m e g A d F ps =
+        let n = said k x m e (g .2 .0) in
+        let u = front-good k x m (subst (GoodSteps P) e (g .2 .1)) in
+        also (ramp-good P F A d ps some q (g .0))
+        (subst (λ (z : Due). Passes (part-due F A (ramp-priced q) ps) (map ended (plain-line reserve-key s ∷ step-lines k)) z)
+        (more-due P F A ps tests′ ⊥ (part-passes A F ps) q s k n)
+        (reserve-pass P F A ps tests′ ⊥ (part-passes A F ps) some q s k (g .1) (u .0) (omega arith) (inl n)))
 
     -- the lines of a leaf before a later one
     to-part : {l : Leaf} {k : ℕ} {p : Part} → PartAt l k p → GoodLeaf P l → (A : Above) (d : ℕ) (F : Bounded) (ps : List Pending)
         → Passes (nodes-due F (pending A d ∷ ps)) (take k (map ended (leaf-lines l))) (part-due F A p ps)
     unfolding GoodLeaf
     to-part (reserve-line {q}) g A d F ps = also (price-good P F A d ps some q (g .0)) none-yet
+    to-part (ramp-reserve-line {q}) g A d F ps = also (ramp-good P F A d ps some q (g .0)) none-yet
+    to-part (up-line {q} {s} k x m e) g A d F ps =
+        subst (λ (ls : List Line). Passes (nodes-due F (pending A d ∷ ps)) ls (part-due F A (with-steps q s k) ps)) (sym (front-lines q s k x m e))
+        (units-before q s k x m e g A d F ps)
+    to-part (down-line {q} {s} k x m e) g A d F ps =
+        let n = said k x m e (g .2 .0) in
+        let u = front-good k x m (subst (GoodSteps P) e (g .2 .1)) in
+        let w = many-fit (pred (P .periods)) up-key (two-periods P some (omega arith)) (x .up) (u .1) in
+        subst (λ (ls : List Line). Passes (nodes-due F (pending A d ∷ ps)) ls (part-due F A (with-ups q s k (x .up)) ps)) (sym (front-lines-up q s k x m e))
+        (passed-both tests′ (next-due P) end (map ended (leaf-lines (ramp q s k))) (ended (plain-line up-key (x .up)) ∷ []) (units-before q s k x m e g A d F ps)
+        (also (part-good P F A 0 ps (with-steps q s k) (x .up) w refl) none-yet))
 
     -- the lines of a node before one of its lines
     to-place : {A : Above} {d : ℕ} {x : Tree} {k : ℕ} {w : LinePlace} → LineAt A d x k w → Limits P A d x → AskedAmong A k x → (F : Bounded) (ps : List Pending)

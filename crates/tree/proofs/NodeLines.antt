@@ -1,19 +1,21 @@
 -- The line of a fork within the limits is good at its place, so are the lines of a leaf whose rule holds, and a good line is so written: one law each
 -- way for any fork and any leaf.
-use mathlib.Core.Path.{_≡_, refl, ap, subst, _∙_}
-use mathlib.Core.Bool.{Bool, true, false, not}
+use mathlib.Core.Path.{_≡_, refl, sym, ap, subst, _∙_}
+use mathlib.Core.Bool.{Bool, true, false, not, cond, _&&_}
 use mathlib.Core.List.{List, [], _∷_, _++_, map}
-use mathlib.Core.Logic.{_↔_}
+use mathlib.Core.Logic.{_↔_, _⊎_, inl, inr}
 use mathlib.Core.Option as option
 use Prim.Native.Nat.{ℕ, suc, pred, _+_, _-_, _≤_, _<_}
 use native.Mathlib.Omega.{arith}
-use lib.Dec.{T, ltb}
-use lib.ListN.{length}
-use borrow.Author.Tests.{lt-ltb, ltb-true, le-ltb, ltb-false, not-false}
+use lib.Dec.{T, eqb, ltb}
+use lib.ListN.{length, length-append}
+use borrow.Author.Tests.{lt-ltb, ltb-true, le-ltb, ltb-false, not-false, eqb-true}
 use Rattle.model.specs.Instance.{Instance, _at_}
 use Rattle.model.specs.Above.{Mark, free, fixed, Above, Fork, status, count, BelowMost}
-use Rattle.model.specs.Leaf.{available, stuck-at}
-use Rattle.model.specs.Tree.{Leaf, short, crowd, stuck, price, Narrows, GoodFork, Multipliers, GoodLeaf, LeafHolds}
+use Rattle.model.specs.Ranges.{All}
+use Rattle.model.specs.Leaf.{available, stuck-at, any-stuck}
+use Rattle.model.specs.Ramps.{RampPrices}
+use Rattle.model.specs.Tree.{Leaf, short, crowd, stuck, price, ramp, Narrows, GoodFork, Multipliers, StepMultipliers, ramped, GoodLeaf, LeafHolds}
 use Rattle.leaves.specs.LeafLeasts.{crowd-at}
 use Rattle.leaves.proofs.Crowds.{crowd-is}
 use Rattle.text.specs.Lines.{Line, ended}
@@ -22,19 +24,20 @@ use Rattle.text.specs.Forms as forms
 use Rattle.text.specs.Course.{good}
 use Rattle.text.specs.Rendering.{plain-line}
 use Rattle.text.specs.Tests.{None, Passed, none-yet}
-use Rattle.text.proofs.Accepted.{Fits, rendered-good, rendered-numbers}
+use Rattle.text.proofs.Accepted.{Fits, rendered-line, rendered-good, rendered-numbers}
 use Rattle.text.proofs.Courses.{good-more}
 use Rattle.text.proofs.Tests.{none-good, good-none}
 use Rattle.text.proofs.Cuts.{and-both}
 use Rattle.text.proofs.Plain.{plain-was, plain-passed}
 use Rattle.text.proofs.Verdicts.{form-passes}
-use Rattle.tree.specs.Rendering.{split-key, count-key, short-key, crowd-key, stuck-key, price-key, reserve-key, fork-line, leaf-lines}
-use Rattle.tree.specs.Places.{Part, priced}
-use Rattle.tree.specs.NodeLines.{line-kind-of, named, counted, is-fixed, below-most, narrows, kind-tests, node-tests, leaf-tests, part-tests}
-use Rattle.tree.specs.Refusals.{LineKind, split-line, count-line, short-line, crowd-line, stuck-line, price-line, node-form, part-form}
-use Rattle.tree.specs.Course.{Pending, pending, Due, nodes-due, part-due, after-fork, after-leaf, tests, next-due, after-node, after-part, judge, end}
+use Rattle.tree.specs.Rendering.{split-key, count-key, short-key, crowd-key, stuck-key, price-key, reserve-key, rampprice-key, up-key, down-key, fork-line, leaf-lines}
+use Rattle.tree.specs.Places.{Part, priced, ramp-priced, with-steps, with-ups}
+use Rattle.tree.specs.NodeLines.{line-kind-of, named, counted, is-fixed, below-most, narrows, kind-tests, node-tests, is-last, leaf-tests, part-tests}
+use Rattle.tree.specs.Refusals.{LineKind, split-line, count-line, short-line, crowd-line, stuck-line, price-line, ramp-line, node-form, part-form}
+use Rattle.tree.specs.Course.{Pending, pending, Due, nodes-due, part-due, after-fork, after-leaf, after-steps, after-numbers, tests, next-due, after-node, after-part, judge, end}
 use Rattle.tree.specs.Acceptance.{Bounded}
-use Rattle.tree.proofs.Lines.{multipliers-fit, was-multipliers, one-fits, was-one, two-fits, was-two}
+use Rattle.tree.proofs.StepLines.{one-longer, steps-behind, ramp-passes}
+use Rattle.tree.proofs.Lines.{multipliers-fit, were-many, was-multipliers, one-fits, was-one, two-fits, was-two}
 
 -- ---- tests and facts
 
@@ -131,10 +134,24 @@ module _ (P : Instance) where
 -- the lines of it
 abbrev pub part-lines : Part → List (List ℕ)
 part-lines (priced q) = plain-line price-key q ∷ []
+part-lines (ramp-priced q) = plain-line rampprice-key q ∷ []
+part-lines (with-steps q s k) = leaf-lines (ramp q s k)
+part-lines (with-ups q s k x) = leaf-lines (ramp q s k) ++ (plain-line up-key x ∷ [])
+
+-- the multipliers of these units' steps in range
+abbrev pub GoodSteps : Instance → List RampPrices → Type 0
+GoodSteps P k = All (λ x. StepMultipliers P (x .up) × StepMultipliers P (x .down)) k
 
 -- its numbers in range
 abbrev pub GoodPart : Instance → Part → Type 0
 GoodPart P (priced q) = Multipliers P q
+GoodPart P (ramp-priced q) = Multipliers P q
+GoodPart P (with-steps q s k) = Multipliers P q × Multipliers P s × GoodSteps P k
+GoodPart P (with-ups q s k x) = Multipliers P q × Multipliers P s × GoodSteps P k × StepMultipliers P x
+
+pub good-more-steps : (P : Instance) (k : List RampPrices) (x : RampPrices) → GoodSteps P k → StepMultipliers P (x .up) → StepMultipliers P (x .down) → GoodSteps P (k ++ (x ∷ []))
+good-more-steps P [] x g u d = ((u, d), tt)
+good-more-steps P (y ∷ k) x g u d = (g .0, good-more-steps P k x (g .1) u d)
 
 module _ (P : Instance) (F : Bounded) (A : Above) (d : ℕ) (ps : List Pending) where
   -- what stands at the place, judged
@@ -222,26 +239,56 @@ module _ (P : Instance) (F : Bounded) (A : Above) (d : ℕ) (ps : List Pending) 
       (form-passes f l (kind-tests P A d price-line l) .1 (p, tt))
       ∙ ap (λ (vs : List ℕ). good (part-due F A (priced vs) ps)) (rendered-numbers f false q w)
 
+  pub ramp-good : 1 ≤ P .periods → (q : List ℕ) → Multipliers P q → At (ended (plain-line rampprice-key q)) (part-due F A (ramp-priced q) ps)
+  unfolding judge tests next-due line-kind-of after-node kind-tests
+  ramp-good some q m =
+      let f = node-form P ramp-line in
+      let l = ended (plain-line rampprice-key q) in
+      let w = multipliers-fit P rampprice-key some q m in
+      let p = rendered-good f false q w in
+      none-good (after-node P F (pending A d) ps ramp-line l) (node-tests P A d ramp-line l)
+      (form-passes f l (kind-tests P A d ramp-line l) .1 (p, tt))
+      ∙ ap (λ (vs : List ℕ). good (part-due F A (ramp-priced vs) ps)) (rendered-numbers f false q w)
+
+  -- a later line of a leaf, which is not the last or whose leaf has no stuck unit
+  pub part-good : (p : Part) (vs : List ℕ) → Fits (part-form P p) false vs → (is-last P p && any-stuck (P .periods) (P .units) (A .marks)) ≡ false
+      → judge P (part-due F A p ps) (rendered-line (part-form P p) false vs) ≡ good (after-numbers P F A p ps vs)
+  unfolding judge tests next-due after-part leaf-tests
+  part-good p vs w e =
+      let f = part-form P p in
+      let l = rendered-line f false vs in
+      none-good (next-due P (part-due F A p ps) l) (part-tests P A p l)
+      (form-passes f l (leaf-tests P A p) .1 (rendered-good f false vs w, (e, tt)))
+      ∙ ap (λ (ws : List ℕ). good (after-numbers P F A p ps ws)) (rendered-numbers f false vs w)
+
   pub reserve-good : 1 ≤ P .periods → (q s : List ℕ) → Multipliers P s → LeafHolds P A (price q s)
       → judge P (part-due F A (priced q) ps) (ended (plain-line reserve-key s)) ≡ good (after-leaf P F A ps (price q s))
-  unfolding judge tests next-due after-part leaf-tests LeafHolds
-  reserve-good some q s m k =
-      let f = part-form P (priced q) in
-      let l = ended (plain-line reserve-key s) in
-      let w = multipliers-fit P reserve-key some s m in
-      let p = rendered-good f false s w in
-      none-good (next-due P (part-due F A (priced q) ps) l) (part-tests P A (priced q) l)
-      (form-passes f l (leaf-tests P A (priced q)) .1 (p, (T-not _ k, tt)))
-      ∙ ap (λ (vs : List ℕ). good (after-leaf P F A ps (price q vs))) (rendered-numbers f false s w)
+  unfolding LeafHolds
+  reserve-good some q s m k = part-good (priced q) s (multipliers-fit P reserve-key some s m) (T-not _ k)
+
+  -- where a line is not the last, or no unit is stuck, 35 does not refuse it
+  unstuck : (c : Bool) → (c ≡ false) ⊎ (any-stuck (P .periods) (P .units) (A .marks) ≡ false) → (c && any-stuck (P .periods) (P .units) (A .marks)) ≡ false
+  unstuck true (inl e) = absurd (let z : _≡_ {A = ℕ} 0 1 = cc in omega arith)
+  unstuck true (inr f) = f
+  unstuck false o = refl
+
+  part-none : (p : Part) (vs : List ℕ) → Fits (part-form P p) false vs → (is-last P p && any-stuck (P .periods) (P .units) (A .marks)) ≡ false
+      → None (tests P (part-due F A p ps) (rendered-line (part-form P p) false vs))
+  unfolding judge
+  part-none p vs w e = good-none _ _ (tests P (part-due F A p ps) (rendered-line (part-form P p) false vs)) (part-good p vs w e) .0
 
   pub leaf-good : 1 ≤ P .periods → (x : Leaf) → GoodLeaf P x → LeafHolds P A x
       → Passed (tests P) (next-due P) (nodes-due F (pending A d ∷ ps)) (map ended (leaf-lines x)) (after-leaf P F A ps x)
-  unfolding judge GoodLeaf
+  unfolding judge GoodLeaf LeafHolds
   leaf-good some (short t) g h = good-more (tests P) (next-due P) end (short-good t h) none-yet
   leaf-good some (crowd t) g h = good-more (tests P) (next-due P) end (crowd-good t h) none-yet
   leaf-good some (stuck U) g h = good-more (tests P) (next-due P) end (stuck-good U g h) none-yet
   leaf-good some (price q s) g h =
       good-more (tests P) (next-due P) end (price-good some q (g .0)) (good-more (tests P) (next-due P) end (reserve-good some q s (g .1) h) none-yet)
+  leaf-good some (ramp q s l) g h =
+      let free : any-stuck (P .periods) (P .units) (A .marks) ≡ false = T-not _ h in
+      good-more (tests P) (next-due P) end (ramp-good some q (g .0))
+      (ramp-passes P F A ps (tests P) (any-stuck (P .periods) (P .units) (A .marks) ≡ false) (λ p vs w ok. part-none p vs w (unstuck (is-last P p) ok)) some q s l (g .1) (g .2) free)
 
   -- ---- a line that is good where a node is due is a fork's, or a leaf's of one line, or it begins a leaf of more
 
@@ -282,6 +329,10 @@ module _ (P : Instance) (F : Bounded) (A : Above) (d : ℕ) (ps : List Pending) 
       let w = plain-passed price-key (P .periods) 0 1000000000 l (kind-tests P A d price-line l) n in
       let q = numbers-of (node-form P price-line) l in
       part-was (priced q) (plain-line price-key q) refl (w .line) (was-multipliers P price-key l w)
+  by-kind ramp-line l n =
+      let w = plain-passed rampprice-key (P .periods) 0 1000000000 l (kind-tests P A d ramp-line l) n in
+      let q = numbers-of (node-form P ramp-line) l in
+      part-was (ramp-priced q) (plain-line rampprice-key q) refl (w .line) (was-multipliers P rampprice-key l w)
 
   pub node-was : (l : Line) (s : Due) → At l s → NodeWas l s
   unfolding judge tests next-due
@@ -289,21 +340,57 @@ module _ (P : Instance) (F : Bounded) (A : Above) (d : ℕ) (ps : List Pending) 
       let g = good-none (after-node P F (pending A d) ps (line-kind-of l) l) s (node-tests P A d (line-kind-of l) l) e in
       subst (λ (x : Due). NodeWas l x) (g .1) (by-kind (line-kind-of l) l (g .0))
 
-  -- a line that is good after a part of a leaf ends it
-  pub data PartWas (p : Part) (l : Line) : Due → Type 0 where
-    ends-leaf : (x : Leaf) (b : List ℕ) → leaf-lines x ≡ part-lines p ++ (b ∷ []) → l ≡ ended b → (GoodPart P p → GoodLeaf P x) → LeafHolds P A x
-        → PartWas p l (after-leaf P F A ps x)
+  -- a line that fits its form after a part of a leaf ends the leaf, of which then `Ok` holds, or makes the part longer
+  pub data PartWas (Ok : Leaf → Type 0) (p : Part) (l : Line) : Due → Type 0 where
+    ends-leaf : (x : Leaf) (b : List ℕ) → leaf-lines x ≡ part-lines p ++ (b ∷ []) → l ≡ ended b → (GoodPart P p → GoodLeaf P x) → Ok x
+        → PartWas Ok p l (after-leaf P F A ps x)
+    goes-on : (r : Part) (b : List ℕ) → part-lines r ≡ part-lines p ++ (b ∷ []) → l ≡ ended b → (GoodPart P p → GoodPart P r) → PartWas Ok p l (part-due F A r ps)
 
-  by-part : (p : Part) (l : Line) → None (part-tests P A p l) → PartWas p l (after-part P F A p ps l)
-  unfolding after-part leaf-tests GoodLeaf LeafHolds
-  by-part (priced q) l n =
-      let f = part-form P (priced q) in
-      let g = form-passes f l (leaf-tests P A (priced q)) .0 n in
-      let w = plain-was reserve-key (P .periods) 0 1000000000 l (g .0) in
-      ends-leaf (price q (numbers-of f l)) (plain-line reserve-key (numbers-of f l)) refl (w .line) (λ m. (m, was-multipliers P reserve-key l w)) (not-T _ (g .1 .0))
+  module _ (Ok : Leaf → Type 0) where
+    -- where these units have both lines, by whether they are all
+    units-said : (p : Part) (l : Line) (q s : List ℕ) (k : List RampPrices) (b : List ℕ) → leaf-lines (ramp q s k) ≡ part-lines p ++ (b ∷ []) → l ≡ ended b
+        → (GoodPart P p → Multipliers P q × Multipliers P s × GoodSteps P k) → (c : Bool) → eqb (ramped P) (length k) ≡ c → (c ≡ true → Ok (ramp q s k))
+        → PartWas Ok p l (cond c (after-leaf P F A ps (ramp q s k)) (part-due F A (with-steps q s k) ps))
+    unfolding GoodLeaf
+    units-said p l q s k b n e g true c o =
+        ends-leaf (ramp q s k) b n e (λ m. let w = g m in (w .0, w .1, (sym (eqb-true (ramped P) (length k) c), w .2))) (o refl)
+    units-said p l q s k b n e g false c o = goes-on (with-steps q s k) b n e g
 
-  pub part-was-line : (p : Part) (l : Line) (s : Due) → judge P (part-due F A p ps) l ≡ good s → PartWas p l s
-  unfolding judge tests next-due
+    pub by-part : (p : Part) (l : Line) → forms.good-line (part-form P p) l ≡ true
+        → (is-last P p ≡ true → (q s : List ℕ) → Ok (price q s) × ((k : List RampPrices) → Ok (ramp q s k))) → PartWas Ok p l (after-part P F A p ps l)
+    unfolding after-part GoodLeaf
+    by-part (priced q) l g o =
+        let f = part-form P (priced q) in
+        let w = plain-was reserve-key (P .periods) 0 1000000000 l g in
+        ends-leaf (price q (numbers-of f l)) (plain-line reserve-key (numbers-of f l)) refl (w .line) (λ m. (m, was-multipliers P reserve-key l w)) (o refl q (numbers-of f l) .0)
+    by-part (ramp-priced q) l g o =
+        let s = numbers-of (part-form P (ramp-priced q)) l in
+        let w = plain-was reserve-key (P .periods) 0 1000000000 l g in
+        units-said (ramp-priced q) l q s [] (plain-line reserve-key s) refl (w .line) (λ m. (m, was-multipliers P reserve-key l w, tt)) (eqb (ramped P) 0) refl (λ e. o e q s .1 [])
+    by-part (with-steps q s k) l g o =
+        let x = numbers-of (part-form P (with-steps q s k)) l in
+        let w = plain-was up-key (pred (P .periods)) 0 1000000000 l g in
+        goes-on (with-ups q s k x) (plain-line up-key x) refl (w .line) (λ m. (m .0, m .1, m .2, were-many (pred (P .periods)) up-key l w))
+    by-part (with-ups q s k x) l g o =
+        let y = numbers-of (part-form P (with-ups q s k x)) l in
+        let w = plain-was down-key (pred (P .periods)) 0 1000000000 l g in
+        let z : RampPrices = record { up = x; down = y } in
+        units-said (with-ups q s k x) l q s (k ++ (z ∷ [])) (plain-line down-key y) (steps-behind q s k z) (w .line)
+        (λ m. (m .0, m .1, good-more-steps P k z (m .2) (m .3) (were-many (pred (P .periods)) down-key l w))) (eqb (ramped P) (length (k ++ (z ∷ [])))) refl
+        (λ e. o (ap (eqb (ramped P)) (sym (one-longer k z)) ∙ e) q s .1 (k ++ (z ∷ [])))
+
+  -- where all tests pass, the leaf that it ends holds
+  pub holds-at-last : (p : Part) (l : Line) → None (part-tests P A p l) → is-last P p ≡ true → (q s : List ℕ) → LeafHolds P A (price q s) × ((k : List RampPrices) → LeafHolds P A (ramp q s k))
+  unfolding leaf-tests LeafHolds
+  holds-at-last p l n e q s =
+      let b = any-stuck (P .periods) (P .units) (A .marks) in
+      let h : (is-last P p && b) ≡ false = form-passes (part-form P p) l (leaf-tests P A p) .0 n .1 .0 in
+      let r : T (not b) = not-T b (ap (λ (c : Bool). c && b) (sym e) ∙ h) in
+      (r, λ k. r)
+
+  pub part-was-line : (p : Part) (l : Line) (s : Due) → judge P (part-due F A p ps) l ≡ good s → PartWas (LeafHolds P A) p l s
+  unfolding judge tests next-due leaf-tests
   part-was-line p l s e =
       let g = good-none (after-part P F A p ps l) s (part-tests P A p l) e in
-      subst (λ (x : Due). PartWas p l x) (g .1) (by-part p l (g .0))
+      subst (λ (x : Due). PartWas (LeafHolds P A) p l x) (g .1)
+      (by-part (LeafHolds P A) p l (form-passes (part-form P p) l (leaf-tests P A p) .0 (g .0) .0) (holds-at-last p l (g .0)))

@@ -37,7 +37,7 @@ module _ (P : Instance) (some : 1 ≤ P .periods) (text : List ℕ) (before rest
 -- ---- short, crowd and count lines
 
 -- the numbers by which a line does not fit a form are 12 to 14
-unfit-most : {f : Form} {l : Line} {n : ℕ} → Unfit f l n → n ≤ 14
+pub unfit-most : {f : Form} {l : Line} {n : ℕ} → Unfit f l n → n ≤ 14
 unfit-most (shows-none never) = omega arith
 unfit-most (miscounted neg vs r never) = omega arith
 unfit-most (out-of-range neg vs r c never) = omega arith

@@ -1,18 +1,19 @@
 -- What the tests say where a node's first line or a later line of a leaf is due, by renderings and the rules for forks and leaves: n is the first number whose test
 -- holds exactly where n refuses the line there.
-use mathlib.Core.Path.{_≡_, refl, sym, ap, subst, _∙_}
-use mathlib.Core.Bool.{Bool, true, false, not}
-use mathlib.Core.List.{List, [], _∷_}
+use mathlib.Core.Path.{_≡_, refl, sym, ap, subst, transport, _∙_}
+use mathlib.Core.Bool.{Bool, true, false, not, _&&_}
+use mathlib.Core.List.{List, [], _∷_, _++_}
 use mathlib.Core.Logic.{_↔_, _⊎_, inl, inr}
 use Prim.Native.Nat.{ℕ, suc, pred, _+_, _-_, _≤_, _<_}
 use native.Mathlib.Omega.{arith}
-use lib.Dec.{ltb}
+use lib.Dec.{T, eqb, ltb}
 use lib.ListN.{length}
-use borrow.Author.Tests.{lt-ltb, ltb-true, le-ltb, ltb-false, not-true, not-false}
+use borrow.Author.Tests.{lt-ltb, ltb-true, le-ltb, ltb-false, not-true, not-false, eqb-true, eq-eqb}
 use Rattle.model.specs.Instance.{Instance, _at_}
 use Rattle.model.specs.Above.{free, Above, status, count}
 use Rattle.model.specs.Leaf.{available, stuck-at, any-stuck}
-use Rattle.model.specs.Tree.{short, crowd, stuck, price, Narrows, GoodLeaf, LeafHolds, Multipliers}
+use Rattle.model.specs.Ramps.{RampPrices}
+use Rattle.model.specs.Tree.{Leaf, short, crowd, stuck, price, ramp, Narrows, ramped, GoodLeaf, LeafHolds, Multipliers}
 use Rattle.leaves.specs.LeafLeasts.{crowd-at}
 use Rattle.leaves.proofs.Crowds.{crowd-is}
 use Rattle.text.specs.Lines.{Line, missing, ended, due}
@@ -21,20 +22,22 @@ use Rattle.text.specs.Forms as forms
 use Rattle.text.specs.Rendering.{plain-line}
 use Rattle.text.specs.Tests.{Test, _if_, FirstTrue, this, after, tests-before}
 use Rattle.text.specs.LineRefused.{Renders, Unfit, shows-none, miscounted, out-of-range}
-use Rattle.text.proofs.Accepted.{rendered-good, rendered-numbers}
+use Rattle.text.proofs.Accepted.{Fits, rendered-line, rendered-good, rendered-numbers}
+use Rattle.text.proofs.Cuts.{and-both}
 use Rattle.text.proofs.Tests.{first-every}
 use Rattle.text.proofs.Unfit as unfit-laws
 use Rattle.text.proofs.Unfit.{true-not-false, otherwise, first-is, unfit-first, fits-passes, numbers-first}
 use Rattle.text.proofs.Plain.{plain-was}
 use Rattle.text.proofs.Verdicts.{form-passes}
-use Rattle.tree.specs.Rendering.{short-key, crowd-key, stuck-key, reserve-key, fork-line}
-use Rattle.tree.specs.Places.{Part, priced}
-use Rattle.tree.specs.NodeLines.{line-kind-of, named, counted, is-fixed, narrows, kind-tests, node-tests, leaf-tests, part-tests}
+use Rattle.tree.specs.Rendering.{short-key, crowd-key, stuck-key, reserve-key, down-key, fork-line}
+use Rattle.tree.specs.Places.{Part, priced, ramp-priced, with-steps, with-ups}
+use Rattle.tree.specs.NodeLines.{line-kind-of, named, counted, is-fixed, narrows, kind-tests, node-tests, is-last, leaf-tests, part-tests}
 use Rattle.tree.specs.Refusals as refusals
-use Rattle.tree.specs.Refusals.{NodeBreaks, no-node, unfit, again, PartBreaks, unfit-part, some-stuck, LineKind, split-line, count-line, short-line, crowd-line, stuck-line, price-line, node-form, part-form}
+use Rattle.tree.specs.Refusals.{NodeBreaks, no-node, unfit, again, Ends, price-ends, ramp-ends, steps-end, PartBreaks, unfit-part, some-stuck, LineKind, split-line, count-line, short-line, crowd-line, stuck-line, price-line, ramp-line, node-form, part-form}
 use Rattle.tree.specs.Course.{Pending, pending, nodes-due, part-due, tests, next-due, end}
 use Rattle.tree.specs.Acceptance.{Bounded}
-use Rattle.tree.proofs.Lines.{multipliers-fit, was-multipliers, one-fits, was-one}
+use Rattle.tree.proofs.Lines.{many-fit, were-many, multipliers-fit, was-multipliers, one-fits, was-one}
+use Rattle.tree.proofs.StepLines.{two-periods}
 use Rattle.tree.proofs.NodeLines.{T-is, is-T, T-not, not-T, free-mark, narrows-is, split-fits, was-split, count-fits, was-count}
 
 -- of a good line the other tests are left
@@ -53,6 +56,7 @@ module _ (P : Instance) (A : Above) (d : ℕ) where
   kind-shown crowd-line l neg vs r = ap line-kind-of (r .line)
   kind-shown stuck-line l neg vs r = ap line-kind-of (r .line)
   kind-shown price-line l neg vs r = ap line-kind-of (r .line)
+  kind-shown ramp-line l neg vs r = ap line-kind-of (r .line)
 
   -- ---- from tests to refusals
 
@@ -229,25 +233,62 @@ module _ (P : Instance) (some : 1 ≤ P .periods) (A : Above) where
   abbrev Tested : Part → Line → ℕ → Type 0
   Tested p l n = Unfit (part-form P p) l n ⊎ (((neg : Bool) × (vs : List ℕ) × unfit-laws.Fits (part-form P p) l neg vs) × FirstTrue n (leaf-tests P A p))
 
+  abbrev stuck-there : Bool
+  stuck-there = any-stuck (P .periods) (P .units) (A .marks)
+
+  -- the leaf that a last line ends, where it fits its form
+  ended-leaf : (p : Part) (l : Line) → forms.good-line (part-form P p) l ≡ true → is-last P p ≡ true
+      → (x : Leaf) × Ends P l p x × ((LeafHolds P A x → ⊥) ≡ ((T (not stuck-there)) → ⊥))
+  unfolding LeafHolds
+  ended-leaf (priced q) l g e =
+      let w = plain-was reserve-key (P .periods) 0 1000000000 l g in
+      let s = numbers-of (part-form P (priced q)) l in
+      (price q s, price-ends q s (was-multipliers P reserve-key l w) (w .line), refl)
+  ended-leaf (ramp-priced q) l g e =
+      let w = plain-was reserve-key (P .periods) 0 1000000000 l g in
+      let s = numbers-of (part-form P (ramp-priced q)) l in
+      (ramp q s [], ramp-ends q s (eqb-true (ramped P) 0 e) (was-multipliers P reserve-key l w) (w .line), refl)
+  ended-leaf (with-steps q s k) l g e = absurd (let z : _≡_ {A = ℕ} 0 1 = cc in omega arith)
+  ended-leaf (with-ups q s k x) l g e =
+      let w = plain-was down-key (pred (P .periods)) 0 1000000000 l g in
+      let y = numbers-of (part-form P (with-ups q s k x)) l in
+      (ramp q s (k ++ (record { up = x; down = y } ∷ [])), steps-end q s k x y (eqb-true (ramped P) (suc (length k)) e) (were-many (pred (P .periods)) down-key l w) (w .line), refl)
+
   -- 35 of a line that fits its form
   leaf-breaks : (p : Part) (l : Line) → forms.good-line (part-form P p) l ≡ true → (n : ℕ) → FirstTrue n (leaf-tests P A p) → PartBreaks P A l p n
-  unfolding leaf-tests LeafHolds
-  leaf-breaks (priced q) l g n (this e) =
-      let w = plain-was reserve-key (P .periods) 0 1000000000 l g in
-      let b = any-stuck (P .periods) (P .units) (A .marks) in
-      some-stuck q (numbers-of (part-form P (priced q)) l) (was-multipliers P reserve-key l w) (w .line) (λ h. true-not-false b e (T-not b h))
+  unfolding leaf-tests
+  leaf-breaks p l g n (this e) =
+      let both = and-both (is-last P p) stuck-there e in
+      let r = ended-leaf p l g (both .0) in
+      some-stuck (r .0) (r .1) (transport (sym (r .2)) (λ h. true-not-false stuck-there (both .1) (T-not stuck-there h)))
 
   judged-breaks : (p : Part) (l : Line) (n : ℕ) → Tested p l n → PartBreaks P A l p n
   judged-breaks p l n (inl u) = unfit-part u
   judged-breaks p l n (inr (t, f)) = leaf-breaks p l (form-passes (part-form P p) l [] .0 (fits-passes (part-form P p) l (t .0) (t .1) (t .2)) .0) n f
 
-  stuck-refused : (q s : List ℕ) → Multipliers P s → (LeafHolds P A (price q s) → ⊥) → FirstTrue 35 (part-tests P A (priced q) (ended (plain-line reserve-key s)))
-  unfolding leaf-tests LeafHolds
-  stuck-refused q s m f =
-      let p = part-form P (priced q) in
-      let b = any-stuck (P .periods) (P .units) (A .marks) in
-      good-first p (ended (plain-line reserve-key s)) (leaf-tests P A (priced q)) 35 (rendered-good p false s (multipliers-fit P reserve-key some s m))
-      (this (otherwise b (λ e. f (not-T b e))))
+  -- 35 refuses a last line where a unit is stuck
+  last-refused : (p : Part) (vs : List ℕ) → Fits (part-form P p) false vs → is-last P p ≡ true → (T (not stuck-there) → ⊥)
+      → FirstTrue 35 (part-tests P A p (rendered-line (part-form P p) false vs))
+  unfolding leaf-tests
+  last-refused p vs w e f =
+      good-first (part-form P p) (rendered-line (part-form P p) false vs) (leaf-tests P A p) 35 (rendered-good (part-form P p) false vs w)
+      (this (rw (e, otherwise stuck-there (λ e. f (not-T stuck-there e))) refl))
+
+  stuck-refused : (p : Part) (l : Line) (x : Leaf) → Ends P l p x → (LeafHolds P A x → ⊥) → FirstTrue 35 (part-tests P A p l)
+  unfolding LeafHolds
+  stuck-refused p l x (price-ends q s m e) f =
+      subst (λ (y : Line). FirstTrue 35 (part-tests P A p y)) (sym e) (last-refused (priced q) s (multipliers-fit P reserve-key some s m) refl f)
+  stuck-refused p l x (ramp-ends q s n m e) f =
+      subst (λ (y : Line). FirstTrue 35 (part-tests P A p y)) (sym e) (last-refused (ramp-priced q) s (multipliers-fit P reserve-key some s m) (eq-eqb (ramped P) 0 n) f)
+  stuck-refused p l x (steps-end q s k u y n m e) f =
+      let w = many-fit (pred (P .periods)) down-key (two-periods P some (omega (arith, n))) y m in
+      subst (λ (z : Line). FirstTrue 35 (part-tests P A p z)) (sym e) (last-refused (with-ups q s k u) y w (eq-eqb (ramped P) (suc (length k)) n) f)
+
+  -- no leaf ends with a line that is missing
+  none-ends : (p : Part) (x : Leaf) → Ends P missing p x → ⊥
+  none-ends p x (price-ends q s m e) = absurd (let z : _≡_ {A = ℕ} 0 1 = cc in omega arith)
+  none-ends p x (ramp-ends q s n m e) = absurd (let z : _≡_ {A = ℕ} 0 1 = cc in omega arith)
+  none-ends p x (steps-end q s k u y n m e) = absurd (let z : _≡_ {A = ℕ} 0 1 = cc in omega arith)
 
   pub part-first : (F : Bounded) (ps : List Pending) (p : Part) (left : List Line) (n : ℕ)
       → FirstTrue n (tests-before (tests P) (next-due P) end (part-due F A p ps) left) ↔ PartBreaks P A (due left) p n
@@ -259,5 +300,5 @@ module _ (P : Instance) (some : 1 ≤ P .periods) (A : Above) where
 
       back : (p : Part) (left : List Line) (n : ℕ) → PartBreaks P A (due left) p n → FirstTrue n (tests-before (tests P) (next-due P) end (part-due F A p ps) left)
       back p left n (unfit-part u) = law p left n .1 (inl u)
-      back p [] n (some-stuck q s m e f) = absurd (let z : _≡_ {A = ℕ} 0 1 = cc in omega arith)
-      back p (x ∷ left) n (some-stuck q s m e f) = subst (λ (l : Line). FirstTrue 35 (part-tests P A (priced q) l)) (sym e) (stuck-refused q s m f)
+      back p [] n (some-stuck x e f) = absurd (none-ends p x e)
+      back p (y ∷ left) n (some-stuck x e f) = stuck-refused p y x e f

@@ -75,7 +75,7 @@ node-lined P A d x n (no-narrower t K h k b e f) = refl
 part-lined : (P : Instance) (A : Above) (p : Part) (x : Line) (n : ℕ) → PartBreaks P A x p n → Lined n
 unfolding carries-line
 part-lined P A p x n (unfit-part u) = unfit-lined (part-form P p) x n u
-part-lined P A p x n (some-stuck q s m e f) = refl
+part-lined P A p x n (some-stuck y e f) = refl
 
 breaks-lined : (P : Instance) (v : WrittenTree) (k : ℕ) (x : Line) (n : ℕ) → Breaks P v k x n → Lined n
 unfolding carries-line

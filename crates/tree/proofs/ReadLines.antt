@@ -1,17 +1,21 @@
 -- The readers go from line to line: what one line does, what holds of every reading, one reading after another, and the reading of a
 -- whole text as a reading of its tree.
 use mathlib.Core.Path.{_≡_, refl, sym, ap, _∙_}
+use mathlib.Core.Bool.{Bool, true, false, cond}
 use mathlib.Core.List.{List, [], _∷_, _++_}
 use mathlib.Core.Option.{Option, none, some}
 use Prim.Native.Nat.{ℕ, zero, suc, _+_, _≤_, _<_}
 use native.Mathlib.Omega.{arith}
-use lib.ListN.{drop}
+use lib.Dec.{eqb}
+use lib.ListN.{length, drop}
 use Rattle.model.specs.Instance.{Instance}
 use Rattle.model.specs.Above.{Above}
+use Rattle.model.specs.Ramps.{RampPrices}
+use Rattle.model.specs.Tree.{ramp, ramped}
 use Rattle.model.specs.declared.figures.TreeFigures.{TreeFigures}
 use Rattle.model.specs.Figures.{no-figures}
 use Rattle.text.specs.Lines.{Line, missing, unended, ended, bytes-of, due, later, lines-of, line-at}
-use Rattle.text.specs.Forms.{malformed, place-after}
+use Rattle.text.specs.Forms.{malformed, place-after, numbers-of}
 use Rattle.text.specs.Course.{Found, refused, good, Judged, refused-at, judged-from}
 use Rattle.text.specs.Tests.{found}
 use Rattle.text.proofs.Tests.{found-refused-is, none-good, good-none}
@@ -19,9 +23,9 @@ use Rattle.text.proofs.LineByLine as steps
 use Rattle.tree.specs.declared.leaf.Read.{Read}
 use Rattle.tree.specs.declared.leaf.Read.the-variants.{Refused, Tree}
 use Rattle.tree.specs.NodeLines.{line-kind-of}
-use Rattle.tree.specs.Refusals.{LineKind, split-line, count-line, short-line, crowd-line, stuck-line, price-line}
-use Rattle.tree.specs.Places.{Part, priced}
-use Rattle.tree.specs.Course.{Pending, pending, Due, writer-due, nodes-due, part-due, nothing-due, tests, next-due, after-node, after-part, judge, end}
+use Rattle.tree.specs.Refusals.{LineKind, split-line, count-line, short-line, crowd-line, stuck-line, price-line, ramp-line, part-form}
+use Rattle.tree.specs.Places.{Part, priced, ramp-priced, with-steps, with-ups}
+use Rattle.tree.specs.Course.{Pending, pending, Due, writer-due, nodes-due, part-due, nothing-due, tests, after-leaf, next-due, after-node, after-part, judge, end}
 use Rattle.tree.specs.Acceptance.{Bounded, bounded}
 use Rattle.tree.specs.ReadAnswers.{all-read, read-lines, read-from, node-read, trees-read, Placed}
 use Rattle.tree.proofs.Rows.{unread, Moved, ended-moved}
@@ -155,6 +159,7 @@ node-line P F p ps x = record {
     go crowd-line = ((λ w rest. refl), tt, omega arith)
     go stuck-line = ((λ w rest. refl), tt, omega arith)
     go price-line = ((λ w rest. refl), tt, omega arith)
+    go ramp-line = ((λ w rest. refl), tt, omega arith)
 
 part-line : (P : Instance) (F : Bounded) (A : Above) (p : Part) (ps : List Pending) (x : Line) → NodeLine P (part-due F A p ps) x
 unfolding judge tests malformed next-due after-part
@@ -169,8 +174,20 @@ part-line P F A p ps x = record {
   unended-12 = λ b. refl;
 }
   where
+    -- the ramp leaf is read, or the next unit's lines are due
+    after-units : (q s : List ℕ) (k : List RampPrices) (b : Bool)
+        → Goes (part-due F A p ps) (λ w rest. cond b (after-leaf P (by w F) A (ps ++ rest) (ramp q s k)) (part-due (by w F) A (with-steps q s k) (ps ++ rest)))
+        (cond b (after-leaf P F A ps (ramp q s k)) (part-due F A (with-steps q s k) ps))
+    after-units q s k true = ((λ w rest. refl), tt, omega arith)
+    after-units q s k false = ((λ w rest. refl), tt, omega arith)
+
     go : (p : Part) → Goes (part-due F A p ps) (λ w rest. after-part P (by w F) A p (ps ++ rest) x) (after-part P F A p ps x)
     go (priced q) = ((λ w rest. refl), tt, omega arith)
+    go (ramp-priced q) = after-units q (numbers-of (part-form P (ramp-priced q)) x) [] (eqb (ramped P) 0)
+    go (with-steps q s k) = ((λ w rest. refl), tt, omega arith)
+    go (with-ups q s k y) =
+        let k′ = k ++ (record { up = y; down = numbers-of (part-form P (with-ups q s k y)) x } ∷ []) in
+        after-units q s k′ (eqb (ramped P) (length k′))
 
 -- ---- what holds where no node is left, and of each line of a node, holds of every reading
 

@@ -78,6 +78,11 @@ module _ (P : Instance) (text : List ℕ) (at l : ℕ) (S : TreeFigures) (A : Ab
   unfolding part-read
   part-refused n j = sym (read-refused P text at l (part-due (bounded 0 S) A p []) refl n (j (bounded 0 S) []))
 
+  pub part-part : (r : Part) (next : ℕ) → AtPart P text at A p (λ F rest. good (part-due F A r rest)) → Moved text at next
+      → part-read P text at l S A p ≡ part-read P text next (l + 1) S A r
+  unfolding part-read
+  part-part r next j m = read-good P text at l (part-due (bounded 0 S) A p []) refl _ next (j (bounded 0 S) []) m
+
   pub part-leaf : (b : Bound) (next : ℕ) (S′ : TreeFigures) → AtPart P text at A p (λ F rest. good (nodes-due (with-leaf F b) rest)) → Moved text at next
       → S′ ≡ add-leaf S b
       → Tree next (l + 1) S′ ≡ part-read P text at l S A p

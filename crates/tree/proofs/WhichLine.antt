@@ -65,7 +65,7 @@ module _ (P : Instance) (some : 1 ≤ P .periods) where
     node-breaks i A d z c n (behind-last e f) = absurd (let h = lines-long v in let m = line-among c in omega arith)
 
     -- a later line of a leaf
-    part-breaks : (i : ℕ) (A : Above) (p : Part) → k ≡ suc i → LineAt root 0 (v .tree) i (part-at A p) → (n : ℕ) → Number v k left n → PartBreaks P A (due left) p n
+    pub part-breaks : (i : ℕ) (A : Above) (p : Part) → k ≡ suc i → LineAt root 0 (v .tree) i (part-at A p) → (n : ℕ) → Number v k left n → PartBreaks P A (due left) p n
     part-breaks i A p z c n (at-numbers (refusals.at-writer e u)) = absurd (omega arith)
     part-breaks i A p z c n (at-numbers (refusals.at-node e a b)) = let w = line-once a c (omega arith) in absurd (let y : _≡_ {A = ℕ} 0 1 = cc in omega arith)
     part-breaks i A p z c n (at-numbers (refusals.at-part {A = A′} {p = p′} e a b)) =

@@ -1,22 +1,25 @@
 -- A tree's text judged line by line, as the code follows it: which line is due after which, and what each is found to be. Units and periods count from 0.
 use mathlib.Core.Path.{_≡_}
-use mathlib.Core.Bool.{true, false}
-use mathlib.Core.List.{List, [], _∷_}
+use mathlib.Core.Bool.{true, false, cond}
+use mathlib.Core.List.{List, [], _∷_, _++_}
 use mathlib.Core.Option.{Option, none, some}
 use Prim.Native.Nat.{ℕ, suc}
+use lib.Dec.{eqb}
+use lib.ListN.{length}
 use Rattle.model.specs.Instance.{Instance, _at_}
 use Rattle.model.specs.Above.{Above, root, Fork, status, count, side}
 use Rattle.model.specs.declared.figures.Bound.{Bound}
 use Rattle.model.specs.Figures.{no-figures, add-split, add-leaf}
-use Rattle.model.specs.Tree.{Leaf, short, crowd, stuck, price, leaf-bound}
+use Rattle.model.specs.Ramps.{RampPrices}
+use Rattle.model.specs.Tree.{Leaf, short, crowd, stuck, price, ramp, ramped, leaf-bound}
 use Rattle.text.specs.Lines.{Line, later, lines-of, line-at, kind-of, end-tree}
 use Rattle.text.specs.Forms.{numbers-of, form-tests, word-tests, nothing-tests}
 use Rattle.text.specs.Writer.{writer-form}
 use Rattle.text.specs.declared.Kind.the-variants as kind
 use Rattle.text.specs.Course.{Found, Judged, judged-from}
 use Rattle.text.specs.Tests.{Test, found}
-use Rattle.tree.specs.Places.{Part, priced}
-use Rattle.tree.specs.Refusals.{LineKind, split-line, count-line, short-line, crowd-line, stuck-line, price-line, node-form, part-form}
+use Rattle.tree.specs.Places.{Part, priced, ramp-priced, with-steps, with-ups}
+use Rattle.tree.specs.Refusals.{LineKind, split-line, count-line, short-line, crowd-line, stuck-line, price-line, ramp-line, node-form, part-form}
 use Rattle.tree.specs.Acceptance.{Bounded, bounded}
 use Rattle.tree.specs.NodeLines.{line-kind-of, named, counted, node-tests, part-tests}
 
@@ -68,10 +71,21 @@ after-node P F p ps short-line l = after-leaf P F (p .above) ps (short (named (n
 after-node P F p ps crowd-line l = after-leaf P F (p .above) ps (crowd (named (node-form P crowd-line) l 0))
 after-node P F p ps stuck-line l = after-leaf P F (p .above) ps (stuck (named (node-form P stuck-line) l 0))
 after-node P F p ps price-line l = part-due F (p .above) (priced (numbers-of (node-form P price-line) l)) ps
+after-node P F p ps ramp-line l = part-due F (p .above) (ramp-priced (numbers-of (node-form P ramp-line) l)) ps
 
--- and after a later line of a leaf, which a reserve line ends
+-- where these units have both lines: the ramp leaf is read, or the next unit's are due
+abbrev pub after-steps : Instance → Bounded → Above → List Pending → List ℕ → List ℕ → List RampPrices → Due
+after-steps P F A ps q s k = cond (eqb (ramped P) (length k)) (after-leaf P F A ps (ramp q s k)) (part-due F A (with-steps q s k) ps)
+
+-- and after a later line of a leaf, with these numbers
+abbrev pub after-numbers : Instance → Bounded → Above → Part → List Pending → List ℕ → Due
+after-numbers P F A (priced q) ps s = after-leaf P F A ps (price q s)
+after-numbers P F A (ramp-priced q) ps s = after-steps P F A ps q s []
+after-numbers P F A (with-steps q s k) ps x = part-due F A (with-ups q s k x) ps
+after-numbers P F A (with-ups q s k x) ps y = after-steps P F A ps q s (k ++ (record { up = x; down = y } ∷ []))
+
 unfoldable pub after-part : Instance → Bounded → Above → Part → List Pending → Line → Due
-after-part P F A (priced q) ps l = after-leaf P F A ps (price q (numbers-of (part-form P (priced q)) l))
+after-part P F A p ps l = after-numbers P F A p ps (numbers-of (part-form P p) l)
 
 -- what is due after a good line
 unfoldable pub next-due : Instance → Due → Line → Due

@@ -8,4 +8,5 @@ pub mod Course
 pub mod Coded
 pub mod Kinds
 pub mod ReadAnswers
+pub mod RampReads
 pub mod WellFormed

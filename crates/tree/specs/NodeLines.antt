@@ -2,24 +2,26 @@
 use mathlib.Core.Bool.{Bool, true, false, not, cond, _&&_}
 use mathlib.Core.List.{List, [], _∷_}
 use mathlib.Core.Option.{Option, none, some}
-use Prim.Native.Nat.{ℕ, _+_, pred}
-use lib.Dec.{ltb}
+use Prim.Native.Nat.{ℕ, suc, _+_, pred}
+use lib.Dec.{eqb, ltb}
+use lib.ListN.{length}
 use Rattle.model.specs.Instance.{Instance, _at_}
 use Rattle.model.specs.Above.{Mark, free, fixed, Above}
 use Rattle.model.specs.Leaf.{available, stuck-at, any-stuck}
+use Rattle.model.specs.Tree.{ramped}
 use Rattle.leaves.specs.LeafLeasts.{crowd-at}
 use Rattle.text.specs.Lines.{Line, bytes-of, begins}
 use Rattle.text.specs.Forms.{Form, numbers-of, form-tests}
 use Rattle.text.specs.Tests.{Test, _if_}
-use Rattle.tree.specs.Rendering.{split-key, count-key, short-key, crowd-key, stuck-key}
-use Rattle.tree.specs.Places.{Part, priced}
-use Rattle.tree.specs.Refusals.{LineKind, split-line, count-line, short-line, crowd-line, stuck-line, price-line, node-form, part-form}
+use Rattle.tree.specs.Rendering.{split-key, count-key, short-key, crowd-key, stuck-key, rampprice-key}
+use Rattle.tree.specs.Places.{Part, priced, ramp-priced, with-steps, with-ups}
+use Rattle.tree.specs.Refusals.{LineKind, split-line, count-line, short-line, crowd-line, stuck-line, price-line, ramp-line, node-form, part-form}
 
 -- ---- what a line is due to be
 
 -- the keys of node lines but the last, each with its kind
 abbrev pub node-keys : List (List ℕ × LineKind)
-node-keys = (split-key, split-line) ∷ (count-key, count-line) ∷ (short-key, short-line) ∷ (crowd-key, crowd-line) ∷ (stuck-key, stuck-line) ∷ []
+node-keys = (split-key, split-line) ∷ (count-key, count-line) ∷ (short-key, short-line) ∷ (crowd-key, crowd-line) ∷ (stuck-key, stuck-line) ∷ (rampprice-key, ramp-line) ∷ []
 
 -- the kind whose key these bytes begin with; bytes with no node's key are no price line either
 abbrev pub kind-among : List (List ℕ × LineKind) → List ℕ → LineKind
@@ -69,15 +71,23 @@ kind-tests P A d crowd-line l = 36 if not (crowd-at P A (named (node-form P crow
 -- 34: a run of the unit's statuses obeys and agrees
 kind-tests P A d stuck-line l = 34 if not (stuck-at (P .periods) (P .units) (A .marks) (named (node-form P stuck-line) l 0)) ∷ []
 kind-tests P A d price-line l = []
+kind-tests P A d ramp-line l = []
 
 abbrev pub node-tests : Instance → Above → ℕ → LineKind → Line → List Test
 node-tests P A d k l = form-tests (node-form P k) l (kind-tests P A d k l)
 
 -- ---- a later line of a leaf
 
--- 35: at its reserve line a price leaf is refused where a unit is stuck
+-- whether it is the leaf's last: the reserve line, where no unit has lines of its own; else the down line of the last
+abbrev pub is-last : Instance → Part → Bool
+is-last P (priced q) = true
+is-last P (ramp-priced q) = eqb (ramped P) 0
+is-last P (with-steps q s l) = false
+is-last P (with-ups q s l x) = eqb (ramped P) (suc (length l))
+
+-- 35: at its last line a leaf is refused where a unit is stuck
 unfoldable pub leaf-tests : Instance → Above → Part → List Test
-leaf-tests P A (priced q) = 35 if any-stuck (P .periods) (P .units) (A .marks) ∷ []
+leaf-tests P A p = 35 if (is-last P p && any-stuck (P .periods) (P .units) (A .marks)) ∷ []
 
 abbrev pub part-tests : Instance → Above → Part → Line → List Test
 part-tests P A p l = form-tests (part-form P p) l (leaf-tests P A p)

@@ -1,20 +1,31 @@
 -- Where the lines of a tree's text stand: which node, what is above it, and which leaves end before a line.
+use mathlib.Core.Path.{_≡_}
 use mathlib.Core.Bool.{true, false}
-use mathlib.Core.List.{List}
+use mathlib.Core.List.{List, _∷_, _++_}
 use Prim.Native.Nat.{ℕ, suc, _+_, _-_, _≤_}
 use lib.ListN.{length}
 use Rattle.model.specs.Instance.{Instance}
 use Rattle.model.specs.Above.{Above, Fork, side}
-use Rattle.model.specs.Tree.{Leaf, price, LeafHolds, Tree, leaf, fork}
+use Rattle.model.specs.Ramps.{RampPrices}
+use Rattle.model.specs.Tree.{Leaf, price, ramp, LeafHolds, Tree, leaf, fork}
 use Rattle.tree.specs.Rendering.{leaf-lines, node-lines}
 
--- what the lines so far say of a leaf of more than one line: a price leaf's price multipliers
+-- what the lines so far say of a leaf of more than one line: a price leaf's price multipliers; a ramp leaf's; with its reserve multipliers, those of the
+-- steps of as many units as have both lines; and with these the next unit's ups
 pub data Part : Type 0 where
   priced : List ℕ → Part
+  ramp-priced : List ℕ → Part
+  with-steps : List ℕ → List ℕ → List RampPrices → Part
+  with-ups : List ℕ → List ℕ → List RampPrices → List ℕ → Part
 
 -- line k of a leaf, counted from 0, is due after this part of it
 pub data PartAt : Leaf → ℕ → Part → Type 0 where
   reserve-line : {q s : List ℕ} → PartAt (price q s) 1 (priced q)
+  ramp-reserve-line : {q s : List ℕ} {l : List RampPrices} → PartAt (ramp q s l) 1 (ramp-priced q)
+  up-line : {q s : List ℕ} {l : List RampPrices} (k : List RampPrices) (x : RampPrices) (m : List RampPrices) → l ≡ k ++ (x ∷ m)
+      → PartAt (ramp q s l) (length (leaf-lines (ramp q s k))) (with-steps q s k)
+  down-line : {q s : List ℕ} {l : List RampPrices} (k : List RampPrices) (x : RampPrices) (m : List RampPrices) → l ≡ k ++ (x ∷ m)
+      → PartAt (ramp q s l) (suc (length (leaf-lines (ramp q s k)))) (with-ups q s k (x .up))
 
 -- the first line of a node, with what is above it and its depth; or a later line of a leaf, with what is above it and the part before
 pub data LinePlace : Type 0 where

@@ -1,26 +1,27 @@
--- Document 01, Numbers that come from the text, and document 02, [1]: when a number refuses a line of a tree's text, whose first line is kind=tree.
+-- Document 01, Numbers that come from the text, and document 02, [1] and [6]: when a number refuses a line of a tree's text, whose first line is kind=tree.
 use mathlib.Core.Path.{_≡_}
 use mathlib.Core.Bool.{Bool}
-use mathlib.Core.List.{List, [], _∷_}
-use Prim.Native.Nat.{ℕ, suc, _-_, _≤_, _<_}
+use mathlib.Core.List.{List, [], _∷_, _++_}
+use Prim.Native.Nat.{ℕ, suc, pred, _-_, _≤_, _<_}
 use lib.ListN.{length}
 use Rattle.model.specs.Instance.{Instance}
 use Rattle.model.specs.Ranges.{GoodWriter}
 use Rattle.model.specs.Above.{free, Above, root, status, count}
-use Rattle.model.specs.Tree.{short, crowd, stuck, price, Tree, Narrows, GoodFork, GoodLeaf, LeafHolds, Limits, Multipliers}
+use Rattle.model.specs.Ramps.{RampPrices}
+use Rattle.model.specs.Tree.{Leaf, short, crowd, stuck, price, ramp, Tree, Narrows, GoodFork, ramped, GoodLeaf, LeafHolds, Limits, Multipliers, StepMultipliers}
 use Rattle.text.specs.Lines.{Line, ended, later, lines-of, end-tree}
 use Rattle.text.specs.Forms.{Form, form, plain}
 use Rattle.text.specs.Rendering.{plain-line}
 use Rattle.text.specs.Writer.{writer-form}
 use Rattle.text.specs.LineRefused.{Renders, Unfit, LineRefused}
-use Rattle.tree.specs.Rendering.{split-key, count-key, short-key, crowd-key, stuck-key, price-key, reserve-key, fork-line, lines-after}
-use Rattle.tree.specs.Places.{Part, priced, node-at, part-at, LineAt, HoldsAmong}
+use Rattle.tree.specs.Rendering.{split-key, count-key, short-key, crowd-key, stuck-key, price-key, reserve-key, rampprice-key, up-key, down-key, fork-line, lines-after}
+use Rattle.tree.specs.Places.{Part, priced, ramp-priced, with-steps, with-ups, node-at, part-at, LineAt, HoldsAmong}
 
 -- ---- document 01, Texts: the forms of a tree's lines of numbers
 
--- the six node lines
+-- the seven node lines
 pub data LineKind : Type 0 where
-  split-line count-line short-line crowd-line stuck-line price-line : LineKind
+  split-line count-line short-line crowd-line stuck-line price-line ramp-line : LineKind
 
 -- a unit and a period, each from 1 on; a period and a count from 0 to I - 1; or a multiplier for each period
 abbrev pub node-form : Instance → LineKind → Form
@@ -30,10 +31,14 @@ node-form P short-line = plain short-key 1 1 (P .periods)
 node-form P crowd-line = plain crowd-key 1 1 (P .periods)
 node-form P stuck-line = plain stuck-key 1 1 (length (P .units))
 node-form P price-line = plain price-key (P .periods) 0 1000000000
+node-form P ramp-line = plain rampprice-key (P .periods) 0 1000000000
 
--- the line of a leaf that is due after a part of it: a price leaf's reserve line
+-- the line of a leaf that is due after a part of it: the reserve line, or the up or the down line of a unit
 abbrev pub part-form : Instance → Part → Form
 part-form P (priced q) = plain reserve-key (P .periods) 0 1000000000
+part-form P (ramp-priced q) = plain reserve-key (P .periods) 0 1000000000
+part-form P (with-steps q s l) = plain up-key (pred (P .periods)) 0 1000000000
+part-form P (with-ups q s l x) = plain down-key (pred (P .periods)) 0 1000000000
 
 -- ---- what refuses a line
 
@@ -65,11 +70,19 @@ pub data NodeBreaks (P : Instance) (A : Above) (d : ℕ) (l : Line) : ℕ → Ty
   -- 37: a count below the lower one that stands, or not below the upper
   no-narrower : (t K : ℕ) → t < P .periods → K ≤ length (P .units) - 1 → d ≤ 63 → l ≡ ended (fork-line (count t K)) → (Narrows A t K → ⊥) → NodeBreaks P A d l 37
 
+-- the line l, due after a part of a leaf, ends the leaf: a price leaf's reserve line; a ramp leaf's, where no unit has lines of its own; the down line
+-- of the last unit
+pub data Ends (P : Instance) (l : Line) : Part → Leaf → Type 0 where
+  price-ends : (q s : List ℕ) → Multipliers P s → l ≡ ended (plain-line reserve-key s) → Ends P l (priced q) (price q s)
+  ramp-ends : (q s : List ℕ) → ramped P ≡ 0 → Multipliers P s → l ≡ ended (plain-line reserve-key s) → Ends P l (ramp-priced q) (ramp q s [])
+  steps-end : (q s : List ℕ) (k : List RampPrices) (x y : List ℕ) → ramped P ≡ suc (length k) → StepMultipliers P y → l ≡ ended (plain-line down-key y)
+      → Ends P l (with-ups q s k x) (ramp q s (k ++ (record { up = x; down = y } ∷ [])))
+
 -- n refuses the line l where a later line of a leaf is due, with A above the leaf, after a part of it
 pub data PartBreaks (P : Instance) (A : Above) (l : Line) : Part → ℕ → Type 0 where
   unfit-part : {n : ℕ} {p : Part} → Unfit (part-form P p) l n → PartBreaks P A l p n
   -- 35: the leaf that this line ends does not meet its rule
-  some-stuck : (q s : List ℕ) → Multipliers P s → l ≡ ended (plain-line reserve-key s) → (LeafHolds P A (price q s) → ⊥) → PartBreaks P A l (priced q) 35
+  some-stuck : {p : Part} (x : Leaf) → Ends P l p x → (LeafHolds P A x → ⊥) → PartBreaks P A l p 35
 
 module _ (P : Instance) where
   -- n refuses the line l where line k of the text is due

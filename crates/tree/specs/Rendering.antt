@@ -1,9 +1,10 @@
--- Document 01, Texts, and document 02, [1]: how a tree is written.
+-- Document 01, Texts, and document 02, [1] and [6]: how a tree is written.
 use mathlib.Core.Bool.{Bool, _||_}
 use mathlib.Core.List.{List, [], _∷_, _++_}
 use Prim.Native.Nat.{ℕ, suc}
 use Rattle.model.specs.Above.{Fork, status, count}
-use Rattle.model.specs.Tree.{Leaf, short, crowd, stuck, price, Tree, leaf, fork}
+use Rattle.model.specs.Ramps.{RampPrices}
+use Rattle.model.specs.Tree.{Leaf, short, crowd, stuck, price, ramp, Tree, leaf, fork}
 use Rattle.text.specs.Lines.{begins, kind-tree, end-tree}
 use Rattle.text.specs.Rendering.{plain-line, text-of}
 use Rattle.text.specs.Writer.{writer-key}
@@ -36,10 +37,27 @@ price-key = 112 ∷ 114 ∷ 105 ∷ 99 ∷ 101 ∷ 61 ∷ []
 abbrev pub reserve-key : List ℕ
 reserve-key = 114 ∷ 101 ∷ 115 ∷ 101 ∷ 114 ∷ 118 ∷ 101 ∷ 61 ∷ []
 
+-- rampprice=
+abbrev pub rampprice-key : List ℕ
+rampprice-key = 114 ∷ 97 ∷ 109 ∷ 112 ∷ 112 ∷ 114 ∷ 105 ∷ 99 ∷ 101 ∷ 61 ∷ []
+
+-- up=
+abbrev pub up-key : List ℕ
+up-key = 117 ∷ 112 ∷ 61 ∷ []
+
+-- down=
+abbrev pub down-key : List ℕ
+down-key = 100 ∷ 111 ∷ 119 ∷ 110 ∷ 61 ∷ []
+
 -- the line of a fork; in texts units and periods count from 1, and how many run is the number itself
 abbrev pub fork-line : Fork → List ℕ
 fork-line (status U t) = plain-line split-key (suc U ∷ suc t ∷ [])
 fork-line (count t K) = plain-line count-key (suc t ∷ K ∷ [])
+
+-- the lines of a ramp leaf's units, one after the other
+abbrev pub step-lines : List RampPrices → List (List ℕ)
+step-lines [] = []
+step-lines (x ∷ l) = plain-line up-key (x .up) ∷ plain-line down-key (x .down) ∷ step-lines l
 
 -- the lines of a leaf
 abbrev pub leaf-lines : Leaf → List (List ℕ)
@@ -47,6 +65,7 @@ leaf-lines (short t) = plain-line short-key (suc t ∷ []) ∷ []
 leaf-lines (crowd t) = plain-line crowd-key (suc t ∷ []) ∷ []
 leaf-lines (stuck U) = plain-line stuck-key (suc U ∷ []) ∷ []
 leaf-lines (price q s) = plain-line price-key q ∷ plain-line reserve-key s ∷ []
+leaf-lines (ramp q s l) = plain-line rampprice-key q ∷ plain-line reserve-key s ∷ step-lines l
 
 -- the lines of a tree, a fork's own before those of its trees
 unfoldable pub node-lines : Tree → List (List ℕ)

@@ -1,4 +1,4 @@
-// The leaves: short, crowd, stuck, and a price leaf's two lines.
+// The leaves: short, crowd, stuck, and a price leaf's two lines; a ramp leaf's are in ramp.rt.
 ghost use mathlib.Core.Path.{_≡_};
 ghost use lib.ListN.{length, take};
 ghost use Rattle.model.specs.Tree.{Multipliers};
@@ -12,6 +12,7 @@ ghost use Rattle.tree.specs.Places.{priced};
 ghost use Rattle.tree.specs.ReadAnswers.{leaf-read, part-read, Placed};
 use crate::naming::NamedLine;
 use crate::naming::read_named;
+use crate::ramp::read_ramp;
 use layout::periods_in;
 use layout::units_in;
 use least::stuck::is_unit_stuck;
@@ -61,6 +62,7 @@ pub enum LeafKind {
     Crowd,
     Stuck,
     Price,
+    Ramp,
 }
 
 // The short leaf whose line starts at `at` and has this number.
@@ -161,7 +163,7 @@ fn read_stuck(
 }
 
 // The price leaf with the multipliers q whose reserve line starts at `at` and has this number.
-fn read_reserve(
+pub fn read_reserve(
     numbers: &[u64],
     text: &[u8],
     at: usize,
@@ -244,5 +246,6 @@ pub fn read_leaf(
         LeafKind::Crowd => read_crowd(numbers, text, at, line, above, figures),
         LeafKind::Stuck => read_stuck(numbers, text, at, line, above, figures),
         LeafKind::Price => read_price(numbers, text, at, line, above, figures),
+        LeafKind::Ramp => read_ramp(numbers, text, at, line, above, figures),
     }
 }

@@ -20,6 +20,7 @@ mod forking;
 mod leaf;
 mod naming;
 mod node;
+mod ramp;
 mod splitting;
 
 // Where the second line starts: after kind=tree and its byte 10.

@@ -43,6 +43,9 @@ fn find_kind(text: &[u8], at: usize) -> NodeKind
     if text::starts(text, at, b"stuck=") {
         return NodeKind::Leaf(LeafKind::Stuck);
     }
+    if text::starts(text, at, b"rampprice=") {
+        return NodeKind::Leaf(LeafKind::Ramp);
+    }
     NodeKind::Leaf(LeafKind::Price)
 }
 

@@ -41,6 +41,25 @@ class Answers(unittest.TestCase):
         self.assertEqual(desk.report().bound, 100 * (60 + 100) + first + second)
         self.assertLess(desk.report().bound, 0)
 
+    def test_a_ramp_leaf(self) -> None:
+        desk = Docket()
+        desk.lodge(PROBLEM)
+        # unit 1 is off in period 1 and on in 2, with TD 2: refused at the last of two lines for each unit
+        splits = b"split=1,1\nsplit=1,2\nshort=2\n"
+        leaf = b"rampprice=10,14\nreserve=0,0\n" + b"up=0\ndown=0\n" * 2
+        answer = desk.lodge(b"kind=tree\nwriter=5\n" + splits + leaf + b"end=tree\n")
+        self.assertEqual(answer, Answer(Refused(35, 11, 0, 0), "answer=refused,35,11,0,0"))
+        # unit 1 is best at 80 in both periods, and unit 2 off in both
+        answer = desk.lodge(
+            b"kind=tree\nwriter=5\nrampprice=10,14\nreserve=0,2\nup=3\ndown=0\nup=1\ndown=2\nend=tree\n"
+        )
+        first = (100 + 10 * 80 - 10 * 80) + (100 + 10 * 80 - 14 * 80 - 2 * 80) + 3 * (80 - (80 + 30))
+        second = 1 * (0 - 50) + 2 * (0 - 50 - 0)
+        required = 10 * 60 + 14 * 100 + 2 * (100 + 10)
+        self.assertEqual(first + second + required, 1700)
+        self.assertEqual(answer, Answer(Held(Tree(1700, 0, 1)), "answer=held,1700,0,1"))
+        self.assertEqual((desk.report().bound, desk.report().bound_writer), (1700, 5))
+
     def test_never(self) -> None:
         desk = Docket()
         desk.lodge(large_problem())

@@ -118,4 +118,4 @@ class Dockets(unittest.TestCase):
 
     def test_the_number_of_the_rules(self) -> None:
         self.assertIsInstance(docket.rules(), int)
-        self.assertEqual(docket.rules(), 3)
+        self.assertEqual(docket.rules(), 4)

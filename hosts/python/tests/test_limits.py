@@ -14,8 +14,10 @@ def lodge():
     desk = docket.Docket()
     desk.lodge(large_problem())
     splits = "".join(f"split={d % 32 + 1},{d // 32 + 1}\\nshort=1\\n" for d in range(64))
-    leaf = "price=" + ",".join(["1"] * 48) + "\\nreserve=" + ",".join(["1"] * 48) + "\\n"
-    print(desk.lodge(f"kind=tree\\nwriter=1\\n{splits}{leaf}end=tree\\n".encode("ascii")).verdict)
+    prices = "price=" + ",".join(["1"] * 48) + "\\nreserve=" + ",".join(["1"] * 48) + "\\n"
+    steps = "up=" + ",".join(["0"] * 47) + "\\ndown=" + ",".join(["0"] * 47) + "\\n"
+    for leaf in (prices, "ramp" + prices + steps * 32):
+        print(desk.lodge(f"kind=tree\\nwriter=1\\n{splits}{leaf}end=tree\\n".encode("ascii")).verdict)
 
 threading.stack_size(2 * docket.STACK_BYTES)
 thread = threading.Thread(target=lodge)
@@ -68,7 +70,9 @@ class Limits(unittest.TestCase):
     def test_the_deepest_tree_on_the_least_stack(self) -> None:
         ran = run_python("-c", f"import sys; sys.path.append('hosts/python/tests')\n{DEEPEST}")
         self.assertEqual((ran.returncode, ran.stderr), (0, ""))
-        self.assertRegex(ran.stdout, r"^Held\(figures=Tree\(bound=-?[0-9]+, splits=64, leaves=65\)\)\n$")
+        # the ramp leaf, with no multiplier above 0 for a step, is the price leaf
+        tree = r"(Tree\(bound=-?[0-9]+, splits=64, leaves=65\))"
+        self.assertRegex(ran.stdout, rf"^Held\(figures={tree}\)\nPassed\(figures=\1\)\n$")
 
     def test_every_byte_alone_and_repeated(self) -> None:
         desk = Docket()

@@ -11,6 +11,12 @@ const DEARER: &[u8] = b"kind=schedule\nwriter=8\nrun=50,80\nrun=10,20\nend=sched
 const LOWER: &[u8] = b"kind=tree\nwriter=4\nprice=10,14\nreserve=0,2\nend=tree\n";
 const STEEP: &[u8] = b"kind=schedule\nwriter=8\nrun=49,80\nrun=11,20\nend=schedule\n";
 
+/// A ramp leaf for it; and one below splits that leave unit 1, whose TD is 2, no run: off in period 1 and on in 2.
+const RAMP: &[u8] =
+    b"kind=tree\nwriter=5\nrampprice=10,14\nreserve=0,2\nup=3\ndown=0\nup=1\ndown=2\nend=tree\n";
+const STUCK_RAMP: &[u8] =
+    b"kind=tree\nwriter=5\nsplit=1,1\nsplit=1,2\nshort=2\nrampprice=10,14\nreserve=0,0\nup=0\ndown=0\nup=0\ndown=0\nend=tree\n";
+
 /// Lodges a text for which the two implementations answer the same, and this.
 fn lodge(both: &mut Both, text: &[u8], line: &str) {
     match both.lodge(text) {
@@ -39,7 +45,7 @@ fn a_docket_begins_with_nothing() {
         let answer = docket.units_taken(1, None, &[]);
         assert_eq!(answer, UnitsTaken::NoProblem);
     }
-    assert_eq!(docket::rules(), 3);
+    assert_eq!(docket::rules(), 4);
 }
 
 #[test]
@@ -75,6 +81,18 @@ fn what_is_passed_or_refused_changes_nothing() {
     lodge(&mut both, b"", "answer=refused,12,1,0,0");
     assert_eq!(both.docket.report(), report);
     assert_eq!(both.docket.outputs(), outputs);
+}
+
+#[test]
+fn a_ramp_leaf_gives_a_bound_or_is_refused_at_its_last_line() {
+    let mut both = Both::after(&texts(&example())[..1]);
+    lodge(&mut both, STUCK_RAMP, "answer=refused,35,11,0,0");
+    // -370 and -150 for the units, and 10 * 60 + 14 * 100 + 2 * 110
+    lodge(&mut both, RAMP, "answer=held,1700,0,1");
+    let held = (None, None, Some(Bound::Number(1700)), Some(5));
+    assert_eq!(figures(&both.docket), held);
+    lodge(&mut both, LOWER, "answer=held,1940,0,1");
+    lodge(&mut both, RAMP, "answer=passed,1700,0,1");
 }
 
 #[test]

@@ -2,8 +2,13 @@
 mod common;
 
 use common::both::Both;
-use common::{example, texts};
+use common::{example, read, repository, texts};
 use docket::MOST_TEXT;
+
+/// Document 01's example, and the one with a ramp leaf.
+fn examples() -> [Vec<u8>; 2] {
+    [example(), read(&repository("examples/ramps.txt"))]
+}
 
 /// Dockets that hold nothing, a problem, and all that the example has.
 fn dockets(texts: &[&[u8]]) -> [Both; 3] {
@@ -42,16 +47,17 @@ fn runs_of_every_byte_as_long_as_a_text_may_be_and_longer() {
 
 #[test]
 fn texts_with_any_one_byte_changed() {
-    let example = example();
-    let texts = texts(&example);
-    for (k, text) in texts.iter().enumerate() {
-        let before = Both::after(&texts[..k]);
-        for at in 0..text.len() {
-            let mut changed = text.to_vec();
-            for byte in 0..=255 {
-                changed[at] = byte;
-                let what = || format!("text {}, byte {at} changed to {byte}", k + 1);
-                same_answer(&mut before.clone(), &changed, what);
+    for example in examples() {
+        let texts = texts(&example);
+        for (k, text) in texts.iter().enumerate() {
+            let before = Both::after(&texts[..k]);
+            for at in 0..text.len() {
+                let mut changed = text.to_vec();
+                for byte in 0..=255 {
+                    changed[at] = byte;
+                    let what = || format!("text {}, byte {at} changed to {byte}", k + 1);
+                    same_answer(&mut before.clone(), &changed, what);
+                }
             }
         }
     }
@@ -59,17 +65,18 @@ fn texts_with_any_one_byte_changed() {
 
 #[test]
 fn texts_cut_short_or_with_a_byte_more() {
-    let example = example();
-    let texts = texts(&example);
-    for (k, text) in texts.iter().enumerate() {
-        let before = Both::after(&texts[..k]);
-        for at in 0..=text.len() {
-            let what = |done: &str| format!("text {} {done} at byte {at}", k + 1);
-            same_answer(&mut before.clone(), &text[..at], || what("cut"));
-            for byte in [0, b'\n', b',', b'0', b'9', b'-', b'=', 255] {
-                let mut longer = text.to_vec();
-                longer.insert(at, byte);
-                same_answer(&mut before.clone(), &longer, || what("longer"));
+    for example in examples() {
+        let texts = texts(&example);
+        for (k, text) in texts.iter().enumerate() {
+            let before = Both::after(&texts[..k]);
+            for at in 0..=text.len() {
+                let what = |done: &str| format!("text {} {done} at byte {at}", k + 1);
+                same_answer(&mut before.clone(), &text[..at], || what("cut"));
+                for byte in [0, b'\n', b'\r', b' ', b',', b'0', b'9', b'-', b'=', 255] {
+                    let mut longer = text.to_vec();
+                    longer.insert(at, byte);
+                    same_answer(&mut before.clone(), &longer, || what("longer"));
+                }
             }
         }
     }

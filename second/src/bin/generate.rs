@@ -14,11 +14,29 @@ use second::{inputs, listing};
 const ENOUGH_INPUTS: u64 = 500;
 const LEAST_OF_EACH: u64 = 5;
 
-const REFUSALS: [&str; 25] = [
+const REFUSALS: [&str; 45] = [
     "12",
+    "12 at a rampprice line",
+    "12 at a ramp leaf's reserve line",
+    "12 at an up line",
+    "12 at a down line",
+    "12 with up and down exchanged",
+    "12 at a ramp of one period",
+    "12 where a ramp leaf breaks off",
+    "12 before 35",
     "13",
     "13 at a count",
+    "13 at a rampprice line",
+    "13 at a ramp leaf's reserve line",
+    "13 at an up line",
+    "13 at a down line",
+    "13 before 35",
     "14",
+    "14 at a rampprice line",
+    "14 at a ramp leaf's reserve line",
+    "14 at an up line",
+    "14 at a down line",
+    "14 before 35",
     "15",
     "21",
     "22",
@@ -34,6 +52,8 @@ const REFUSALS: [&str; 25] = [
     "33 with units on left out",
     "34",
     "35",
+    "35 at a last down line",
+    "35 at a ramp leaf's reserve line",
     "36",
     "36 by one",
     "37 too low",
@@ -42,7 +62,7 @@ const REFUSALS: [&str; 25] = [
     "42",
 ];
 
-const ACCEPTED: [&str; 11] = [
+const ACCEPTED: [&str; 23] = [
     "held problem",
     "held schedule",
     "held tree",
@@ -54,6 +74,18 @@ const ACCEPTED: [&str; 11] = [
     "short by a count",
     "crowd of too many on",
     "crowd of too few left",
+    "tree with a ramp leaf",
+    "ramp leaf under a split",
+    "ramp leaf under a count",
+    "ramp leaf of one period",
+    "ramp leaf of 48 periods",
+    "ramp leaf of 32 units",
+    "ramp leaf with all ramps 0",
+    "ramp leaf with a largest multiplier",
+    "ramp leaf above its price leaf",
+    "ramp leaf below its price leaf",
+    "bound of a ramp leaf beside a price leaf",
+    "bound of a price leaf beside a ramp leaf",
 ];
 
 /// How often each kind of answer came.

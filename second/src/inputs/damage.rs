@@ -104,8 +104,22 @@ fn change_lines(random: &mut Random, text: &str) -> Vec<u8> {
 
 fn other_key(random: &mut Random, line: &str) -> String {
     let keys = [
-        "kind", "end", "unit", "run", "split", "count", "short", "stuck", "crowd", "price",
-        "reserve", "Run", "",
+        "kind",
+        "end",
+        "unit",
+        "run",
+        "split",
+        "count",
+        "short",
+        "stuck",
+        "crowd",
+        "price",
+        "rampprice",
+        "reserve",
+        "up",
+        "down",
+        "Run",
+        "",
     ];
     let value = line.split_once('=').map_or("", |(_, value)| value);
     format!("{}={value}", random.pick(&keys))

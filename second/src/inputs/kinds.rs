@@ -1,9 +1,11 @@
 //! Which kinds of answers an input brings, so that they can be counted.
 
 use crate::above::Above;
-use crate::leaf::{short_holds, too_few_left, too_many_on};
+use crate::inputs::ramp_kinds::{leaf_kinds, Due, Refused, Valued};
+use crate::leaf::{ramp_value, short_holds, too_few_left, too_many_on, Pricing};
 use crate::listing::pieces;
 use crate::problem::Problem;
+use crate::ramp::{RampLeaf, RampPrices};
 use crate::text::Reader;
 
 /// The kinds of all answers to an input, in the order of its texts. An answer may be of several.
@@ -20,7 +22,7 @@ pub fn kinds(input: &[u8], output: &[u8]) -> Vec<String> {
             problem = read_problem(piece);
         }
         match words[0] {
-            "refused" => kinds.push(refusal_kind(problem.as_ref(), piece, &words)),
+            "refused" => push_refused(&mut kinds, problem.as_ref(), piece, &words),
             _ => push_accepted(&mut kinds, problem.as_ref(), piece, &words),
         }
     }
@@ -33,14 +35,22 @@ fn read_problem(text: &[u8]) -> Option<Problem> {
     Problem::read(&mut reader).ok()
 }
 
-/// The number of a refusal, and for some of them what is refused.
-fn refusal_kind(problem: Option<&Problem>, text: &[u8], words: &[&str]) -> String {
+fn push_refused(kinds: &mut Vec<String>, problem: Option<&Problem>, text: &[u8], words: &[&str]) {
     let place = Place {
         problem,
         text,
         line: words[2].parse().unwrap_or(0),
     };
-    let kind = match (words[1], words[4]) {
+    let ramp_kinds = place.ramp_kinds(words[1]);
+    let (kind, further) = ramp_kinds.unwrap_or((None, Vec::new()));
+    let kind = kind.unwrap_or_else(|| refusal_kind(&place, words).to_string());
+    kinds.push(format!("refused {kind}"));
+    kinds.extend(further.iter().map(|kind| format!("refused {kind}")));
+}
+
+/// The number of a refusal, and for some of them what is refused.
+fn refusal_kind<'a>(place: &Place, words: &[&'a str]) -> &'a str {
+    match (words[1], words[4]) {
         ("13", _) if place.is_at("count=") => "13 at a count",
         ("25", "1") => "25 in period 1",
         ("25", _) => "25 later",
@@ -52,8 +62,7 @@ fn refusal_kind(problem: Option<&Problem>, text: &[u8], words: &[&str]) -> Strin
         ("37", _) if place.is_too_low() => "37 too low",
         ("37", _) => "37 too high",
         (number, _) => number,
-    };
-    format!("refused {kind}")
+    }
 }
 
 /// What `short` would sum if, under an upper count, it took units fixed on first. It does not.
@@ -89,11 +98,37 @@ impl Place<'_> {
         self.line().starts_with(start)
     }
 
+    /// A way through the lines before this one, which is one of a tree.
+    fn walked(&self) -> Option<Walk<'_>> {
+        let mut walk = Walk::of(self.problem?, self.text, self.line - 1);
+        if walk.node().is_some() {
+            walk.due = Due::End;
+        }
+        Some(walk)
+    }
+
     /// What stands above the line, which is one of a tree, and the line's values.
     fn above(&self) -> Option<(Above, Vec<usize>)> {
-        let mut walk = Walk::of(self.problem?, self.text, self.line - 1);
-        walk.node();
-        Some((walk.above, values(&self.line())))
+        Some((self.walked()?.above, values(&self.line())))
+    }
+
+    /// The kind of a refusal at a line of a ramp leaf, and what else there is to say of a refusal that
+    /// has to do with one. `None` if the line is not one of a tree's nodes.
+    fn ramp_kinds(&self, number: &str) -> Option<(Option<String>, Vec<String>)> {
+        if !self.text.starts_with(b"kind=tree\n") || self.line < 3 {
+            return None;
+        }
+        let walk = self.walked()?;
+        let ended = self.text.iter().filter(|&&byte| byte == b'\n').count();
+        let refused = Refused {
+            number,
+            line: &self.line(),
+            is_whole: ended >= self.line,
+            due: walk.due,
+            problem: walk.problem,
+            above: &walk.above,
+        };
+        Some((refused.kind(), refused.further_kinds()))
     }
 
     /// For 33: whether an upper count leaves out some of the units that are not fixed off.
@@ -149,7 +184,12 @@ fn push_accepted(kinds: &mut Vec<String>, problem: Option<&Problem>, text: &[u8]
     }
     if let Some(problem) = problem {
         let mut walk = Walk::of(problem, text, usize::MAX);
+        if String::from_utf8_lossy(text).contains("rampprice=") {
+            walk.valued = Some(Valued::default());
+        }
         walk.node();
+        walk.seen
+            .extend(walk.valued.and_then(|valued| valued.bound_kind()));
         walk.seen.sort();
         walk.seen.dedup();
         kinds.extend(walk.seen.iter().map(|kind| kind.to_string()));
@@ -162,8 +202,12 @@ struct Walk<'a> {
     /// The lines that are left, the next one last.
     left: Vec<String>,
     above: Above,
-    /// What was met of count lines and of leaves that need them.
+    /// What is due where the lines come to their end.
+    due: Due,
+    /// What was met of count lines, of leaves that need them and of ramp leaves.
     seen: Vec<&'static str>,
+    /// The values of leaves, where they are asked for.
+    valued: Option<Valued>,
 }
 
 impl Walk<'_> {
@@ -177,23 +221,71 @@ impl Walk<'_> {
             problem,
             left,
             above: Above::root(problem),
+            due: Due::Node,
             seen: Vec::new(),
+            valued: None,
         }
+    }
+
+    /// The next line, which is this one of a leaf.
+    fn take(&mut self, due: Due) -> Option<String> {
+        self.due = due;
+        self.left.pop()
     }
 
     /// The next node with all that is under it. `None` once the lines have come to their end; what
     /// stands above the line after them is then in `above`.
     fn node(&mut self) -> Option<()> {
-        let line = self.left.pop()?;
+        let line = self.take(Due::Node)?;
         let key = line.split('=').next()?;
         match key {
             "split" => self.split(&values(&line)),
             "count" => self.count(&values(&line)),
             "short" => self.short(values(&line)[0] - 1),
             "crowd" => self.crowd(values(&line)[0] - 1),
-            "price" => self.left.pop().map(|_| ()),
+            "price" => self.price(&line),
+            "rampprice" => self.ramp(&line),
             _ => Some(()),
         }
+    }
+
+    fn price(&mut self, line: &str) -> Option<()> {
+        let (prices, reserves) = (numbers(line), numbers(&self.take(Due::PriceReserve)?));
+        if let Some(valued) = &mut self.valued {
+            let mut pricing = Pricing::of(self.problem);
+            let value = pricing.value(&self.above.fixed, &prices, &reserves);
+            valued.prices.extend(value);
+        }
+        Some(())
+    }
+
+    fn ramp(&mut self, line: &str) -> Option<()> {
+        let leaf = RampLeaf {
+            prices: numbers(line),
+            reserves: numbers(&self.take(Due::RampReserve)?),
+            ramps: self.ramps()?,
+        };
+        if let Some(valued) = &mut self.valued {
+            let value = ramp_value(self.problem, &self.above.fixed, &leaf)?;
+            valued.ramps.push(value);
+            let kinds = leaf_kinds(self.problem, &self.above, &leaf, value);
+            self.seen.extend(kinds);
+        }
+        Some(())
+    }
+
+    /// The up and down lines of a ramp leaf.
+    fn ramps(&mut self) -> Option<Vec<RampPrices>> {
+        let mut ramps = Vec::new();
+        for _ in &self.problem.units {
+            let (mut up, mut down) = (Vec::new(), Vec::new());
+            if self.problem.periods() > 1 {
+                up = numbers(&self.take(Due::Up)?);
+                down = numbers(&self.take(Due::Down)?);
+            }
+            ramps.push(RampPrices { up, down });
+        }
+        Some(ramps)
     }
 
     fn split(&mut self, values: &[usize]) -> Option<()> {
@@ -240,6 +332,10 @@ impl Walk<'_> {
 
 /// The values of a line that has been found right.
 fn values(line: &str) -> Vec<usize> {
+    numbers(line).iter().map(|&value| value as usize).collect()
+}
+
+fn numbers(line: &str) -> Vec<i64> {
     let joined = line.split_once('=').map_or("", |(_, joined)| joined);
     joined
         .split(',')

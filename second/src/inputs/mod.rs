@@ -3,11 +3,16 @@
 pub mod damage;
 pub mod kinds;
 pub mod problems;
+pub mod ramp_kinds;
+pub mod ramps;
 pub mod random;
 pub mod schedules;
 pub mod trees;
 
 use crate::listing::MOST_INPUT;
+use crate::problem::Problem;
+use crate::text::Reader;
+use crate::tree::read as read_tree;
 use problems::Planted;
 use random::Random;
 
@@ -16,6 +21,9 @@ pub fn input(seed: u64, index: u64) -> Vec<u8> {
     let mut random = Random::for_input(seed, index);
     if index % 50 == 7 {
         return deep_input(&mut random);
+    }
+    if index % 5 == 3 {
+        return ramp_input(&mut random, index);
     }
     match random.below(400) {
         0 => Vec::new(),
@@ -37,6 +45,49 @@ fn deep_input(random: &mut Random) -> Vec<u8> {
         push(&mut input, tree.as_bytes());
     }
     input
+}
+
+/// A problem and trees with ramp leaves, many of them damaged, and now and then another text. Some
+/// problems have one period, some the most periods, some the most units, and a few both of these.
+fn ramp_input(random: &mut Random, index: u64) -> Vec<u8> {
+    let few = random.between(1, 3) as usize;
+    let (periods, units) = match index % 250 {
+        33 => (48, 32),
+        83 | 133 => (48, few),
+        183 | 233 => (few, 32),
+        _ if index % 20 == 3 => (1, few),
+        _ => (random.pick(&[1, 2, 2, 3, 4, 6, 9]), few),
+    };
+    let planted = problems::planted(random, periods, units);
+    let problem_text = problems::text(&planted.problem);
+    let mut input = problem_text.clone().into_bytes();
+    for _ in 0..random.between(10, 16) {
+        let text = match random.chance(20) {
+            true => later_text(random, &planted, &problem_text),
+            false => ramp_tree(random, &planted),
+        };
+        push(&mut input, &text);
+    }
+    input
+}
+
+/// A tree with ramp leaves, as often as not damaged in one of them, which is the one that 35 would
+/// refuse if there is such a leaf.
+fn ramp_tree(random: &mut Random, planted: &Planted) -> Vec<u8> {
+    let writer = writer(random);
+    let text = trees::ramp_text(random, &planted.problem, writer);
+    match random.chance(50) {
+        true => ramps::damaged(random, &text, refused_line(&planted.problem, &text)),
+        false => text.into_bytes(),
+    }
+}
+
+/// The line at which a tree's text is refused, if it is.
+fn refused_line(problem: &Problem, text: &str) -> Option<usize> {
+    let mut reader = Reader::new(text.as_bytes());
+    reader.take().ok()?;
+    let refusal = read_tree(problem, &mut reader).err()?;
+    Some(refusal.line)
 }
 
 /// A usual input with a last piece that brings it to this length.

@@ -83,7 +83,7 @@ pub fn spoil(random: &mut Random, problem: &Problem, rows: &mut Rows) {
     let period = random.below(problem.periods());
     let generator = &problem.units[unit];
     let row = &mut rows[unit];
-    match random.below(17) {
+    match random.below(24) {
         0 => row[period] = generator.least_output - 1,
         1 => row[period] = (generator.most_output + 1).min(10_000),
         2 => row[period] = (row[period] - 1).max(0),
@@ -92,7 +92,7 @@ pub fn spoil(random: &mut Random, problem: &Problem, rows: &mut Rows) {
         5 => row[period] = generator.least_output,
         6..=7 => start_too_soon(random, generator, row),
         8 => row[period..].fill(0),
-        9..=12 => break_ramp(random, generator, row),
+        9..=15 => break_ramp(random, generator, row),
         _ => break_first_ramp(random, problem, rows),
     }
 }

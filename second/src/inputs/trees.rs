@@ -4,6 +4,7 @@
 use crate::above::Above;
 use crate::inputs::kinds::capacity_on_first;
 use crate::inputs::problems::joined;
+use crate::inputs::ramps;
 use crate::inputs::random::Random;
 use crate::leaf::{crowd_holds, open_capacity, short_holds, stuck_holds, Pricing};
 use crate::problem::Problem;
@@ -37,6 +38,8 @@ enum Fault {
     CountedLeaf,
     /// A `short` that would hold under an upper count if units fixed on came first.
     OnFirst,
+    /// A ramp leaf with a stuck unit.
+    StuckRamp,
 }
 
 impl Fault {
@@ -64,6 +67,10 @@ struct Plan {
     splits_left: usize,
     /// In a hundred split lines, how many are counts, as long as there are both.
     count_percent: usize,
+    /// In a hundred leaves with prices, how many are ramp leaves.
+    ramp_percent: usize,
+    /// How many ramp leaves may still come.
+    ramps_left: usize,
     fault: Fault,
 }
 
@@ -98,9 +105,37 @@ pub fn chain_text(
         growth: Growth::Chain,
         splits_left: splits,
         count_percent,
+        ramp_percent: random.pick(&[0, 5]),
+        ramps_left: most_ramps(problem),
         fault: Fault::None,
     };
     grown(random, problem, writer, plan)
+}
+
+/// The text of a tree in which ramp leaves take the place of most or all price leaves.
+pub fn ramp_text(random: &mut Random, problem: &Problem, writer: i64) -> String {
+    let fault = match random.chance(40) {
+        true => Fault::StuckRamp,
+        false => Fault::None,
+    };
+    let splits = match fault {
+        Fault::None => random.pick(&[0, 0, 1, 2, 3]),
+        _ => random.pick(&[2, 3, 4]),
+    };
+    let plan = Plan {
+        growth: Growth::Bushy,
+        splits_left: splits,
+        count_percent: random.pick(&[0, 0, 30, 50]),
+        ramp_percent: random.pick(&[50, 100]),
+        ramps_left: most_ramps(problem),
+        fault,
+    };
+    grown(random, problem, writer, plan)
+}
+
+/// How many ramp leaves a tree may have without growing too long.
+fn most_ramps(problem: &Problem) -> usize {
+    (600 / (problem.units.len() * problem.periods())).max(1)
 }
 
 fn any_plan(random: &mut Random, problem: &Problem) -> Plan {
@@ -130,20 +165,22 @@ fn any_plan(random: &mut Random, problem: &Problem) -> Plan {
         growth,
         splits_left,
         count_percent,
+        ramp_percent: random.pick(&[0, 0, 30, 100]),
+        ramps_left: most_ramps(problem),
         fault,
     }
 }
 
 /// None, more often than not.
 fn any_fault(random: &mut Random) -> Fault {
-    match random.below(46) {
+    match random.below(51) {
         0..=1 => Fault::Split,
-        2..=3 => Fault::LowCount,
-        4..=5 => Fault::HighCount,
-        6..=7 => Fault::WideCount,
-        8..=14 => Fault::Leaf,
-        15..=17 => Fault::CountedLeaf,
-        18..=22 => Fault::OnFirst,
+        2..=5 => Fault::LowCount,
+        6..=7 => Fault::HighCount,
+        8..=9 => Fault::WideCount,
+        10..=18 => Fault::Leaf,
+        19..=21 => Fault::CountedLeaf,
+        22..=27 => Fault::OnFirst,
         _ => Fault::None,
     }
 }
@@ -451,11 +488,12 @@ impl Grower<'_> {
         }
         let stuck = !self.stuck_units().is_empty();
         match self.holding_leaf() {
-            _ if stuck && self.plan.fault == Fault::Leaf && self.random.chance(30) => {
+            _ if stuck && self.plan.fault == Fault::StuckRamp => self.ramp_leaf(),
+            _ if stuck && self.plan.fault == Fault::Leaf && self.random.chance(50) => {
                 self.price_leaf()
             }
             Some(line) if stuck || self.random.chance(75) => self.lines.push(line),
-            _ => self.price_leaf(),
+            _ => self.valued_leaf(),
         }
     }
 
@@ -500,11 +538,35 @@ impl Grower<'_> {
             0 => self.lines.push(format!("short={period}")),
             1 => self.lines.push(format!("stuck={unit}")),
             2 => self.lines.push(format!("crowd={period}")),
-            _ => self.price_leaf(),
+            _ => self.valued_leaf(),
+        }
+    }
+
+    /// A price leaf or a ramp leaf.
+    fn valued_leaf(&mut self) {
+        if self.plan.ramps_left > 0 && self.random.chance(self.plan.ramp_percent) {
+            self.plan.ramps_left -= 1;
+            self.ramp_leaf();
+        } else {
+            self.price_leaf();
         }
     }
 
     fn price_leaf(&mut self) {
+        let (prices, reserves) = self.multipliers();
+        self.lines.push(format!("price={}", joined(&prices)));
+        self.lines.push(format!("reserve={}", joined(&reserves)));
+    }
+
+    fn ramp_leaf(&mut self) {
+        let (prices, reserves) = self.multipliers();
+        let fixed = &self.above.fixed;
+        let leaf = ramps::leaf(self.random, self.problem, fixed, prices, reserves);
+        self.lines.extend(ramps::lines(&leaf));
+    }
+
+    /// For each period a price and a reserve multiplier.
+    fn multipliers(&mut self) -> (Vec<i64>, Vec<i64>) {
         let style = self.random.below(14);
         let steady = self.price(style);
         let varied = self.random.chance(80);
@@ -517,8 +579,7 @@ impl Grower<'_> {
         if style > 6 {
             self.tune(&mut prices, &mut reserves);
         }
-        self.lines.push(format!("price={}", joined(&prices)));
-        self.lines.push(format!("reserve={}", joined(&reserves)));
+        (prices, reserves)
     }
 
     /// Tries other multipliers, one at a time, and keeps those that raise the leaf's value.

@@ -5,9 +5,10 @@ use mathlib.Core.List.{List}
 use Prim.Native.Nat.{ℕ, _≤_}
 use borrow.Author.Needs.{needs}
 use lib.ListN.{length, drop, replicate}
+use Rattle.model.specs.Instance.{_at_}
 use Rattle.walk.specs.Marks.{marks-of}
 use Rattle.walk.proofs.Fronts.{front-length}
-use Rattle.least.proofs.Costs.{on-front-fits, off-front-fits, on-front-long, off-front-long, front-good, front-walk}
+use Rattle.least.proofs.Costs.{on-front-fits, off-front-fits, on-front-long, off-front-long, front-good, front-walk, period-worth-fits, priced-costed, price-walk-is}
 use Rattle.least.proofs.unit.price_value.Statement.{statement}
 use Rattle.least.proofs.unit.price_value.Tie as tie
 
@@ -44,35 +45,39 @@ fill-costs-requires c κs =
 array-share-prefix-on : tie.Need-array-share-prefix-on
 array-share-prefix-on c =
     let fill = c .before .before in
-    on-front-fits (fill .fill-costs .ensures) (rest (fill .before .before .before .before .before .before))
+    on-front-fits (priced-costed (fill .fill-costs .ensures)) (rest (fill .before .before .before .before .before .before))
 
 slice-aggregate-walk-value : tie.Need-slice-aggregate-walk-value
 slice-aggregate-walk-value c =
     let fill = c .before .before .before in
-    on-front-long (fill .fill-costs .ensures) (rest (fill .before .before .before .before .before .before))
+    on-front-long (priced-costed (fill .fill-costs .ensures)) (rest (fill .before .before .before .before .before .before))
 
 array-share-prefix-off : tie.Need-array-share-prefix-off
 array-share-prefix-off c =
     let fill = c .before .before .before in
-    off-front-fits (fill .fill-costs .ensures) (rest (fill .before .before .before .before .before .before))
+    off-front-fits (priced-costed (fill .fill-costs .ensures)) (rest (fill .before .before .before .before .before .before))
 
 slice-aggregate-walk-value-2 : tie.Need-slice-aggregate-walk-value-2
 slice-aggregate-walk-value-2 c =
     let fill = c .before .before .before .before in
-    off-front-long (fill .fill-costs .ensures) (rest (fill .before .before .before .before .before .before))
+    off-front-long (priced-costed (fill .fill-costs .ensures)) (rest (fill .before .before .before .before .before .before))
 
 walk-value-requires : tie.Need-walk-value-requires
 walk-value-requires c κs =
     let fill = c .before .before .before .before in
-    let K = fill .fill-costs .ensures in
+    let K = priced-costed (fill .fill-costs .ensures) in
     let s = fill .before .before .before .before .before .before in
-    (s .pre .0, (front-good (s .pre .0) (s .pre .1 .0) K (rest s), s .pre .1 .1 ∙ on-front-long K (rest s)))
+    let a = s .args in
+    let P = s .pre .1 .0 in
+    (s .pre .0, (front-good K (rest s) (P .periods-in) (period-worth-fits (length (a .q .now)) (a .q .now) (a .s .now) P (a .g) (s .pre .0)), s .pre .1 .1 ∙ on-front-long K (rest s)))
 
 returns : tie.Need-returns
 returns c =
     let fill = c .before .before .before .before .before in
     let s = fill .before .before .before .before .before .before in
-    c .walk-value .ensures ∙ front-walk (s .pre .0) (s .pre .1 .0) (fill .fill-costs .ensures) (rest s) (marks-of (s .args .fixed .now))
+    let a = s .args in
+    c .walk-value .ensures ∙ front-walk (priced-costed (fill .fill-costs .ensures)) (rest s) (a .g) (marks-of (a .fixed .now))
+    ∙ price-walk-is (length (a .q .now)) (λ t. a .q .now at t) (λ t. a .s .now at t) (a .g) (marks-of (a .fixed .now))
 
 pub price-value-spec : {M : Type 1} → statement M
 price-value-spec =

@@ -37,6 +37,14 @@ read-price-requires c κs =
     let p = c .before .before .before .before .before .pre in
     (p .0, (p .1 .0, (p .1 .1 .0, p .1 .1 .1 ∙ ap leaf-kind (c .enum-told4 .given .1))))
 
+enum-told-5 : tie.Need-enum-told-5
+enum-told-5 c = search needs
+
+read-ramp-requires : tie.Need-read-ramp-requires
+read-ramp-requires c κs =
+    let p = c .before .before .before .before .before .pre in
+    (p .0, (p .1 .0, (p .1 .1 .0, p .1 .1 .1 ∙ ap leaf-kind (c .enum-told5 .given .1))))
+
 returns : tie.Need-returns
 returns c = c .read-short .ensures
 
@@ -48,6 +56,9 @@ returns-3 c = c .read-stuck .ensures
 
 returns-4 : tie.Need-returns-4
 returns-4 c = c .read-price .ensures
+
+returns-5 : tie.Need-returns-5
+returns-5 c = c .read-ramp .ensures
 
 pub read-leaf-spec : {M : Type 1} → statement M
 read-leaf-spec =
@@ -61,7 +72,10 @@ read-leaf-spec =
     read-stuck-requires
     enum-told-4
     read-price-requires
+    enum-told-5
+    read-ramp-requires
     returns
     returns-2
     returns-3
-    returns-4)
+    returns-4
+    returns-5)

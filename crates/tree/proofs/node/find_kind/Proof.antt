@@ -2,8 +2,8 @@
 use borrow.Author.Needs.{needs}
 use mathlib.Core.Path.{sym, _∙_}
 use mathlib.Core.Bool.{false}
-use Rattle.tree.specs.Rendering.{split-key, count-key, short-key, crowd-key, stuck-key}
-use Rattle.tree.proofs.Keys.{Begins, split-there, count-there, short-there, crowd-there, stuck-there, price-there}
+use Rattle.tree.specs.Rendering.{split-key, count-key, short-key, crowd-key, stuck-key, rampprice-key}
+use Rattle.tree.proofs.Keys.{Begins, split-there, count-there, short-there, crowd-there, stuck-there, ramp-there, price-there}
 use Rattle.tree.proofs.node.find_kind.Statement.{statement}
 use Rattle.tree.proofs.node.find_kind.Tie as tie
 
@@ -38,6 +38,12 @@ start5 c = start4 (c .before .before .before)
 
 not-stuck : (c : tie.Else5) → let a = start5 c .args in Begins (a .text .now) (a .at) stuck-key false
 not-stuck c = sym (c .before .starts5 .ensures) ∙ c .if5 .left
+
+abbrev start6 : tie.Else6 → tie.Start
+start6 c = start5 (c .before .before .before)
+
+not-ramp : (c : tie.Else6) → let a = start6 c .args in Begins (a .text .now) (a .at) rampprice-key false
+not-ramp c = sym (c .before .starts6 .ensures) ∙ c .if6 .left
 
 -- ---- the answers
 
@@ -106,14 +112,31 @@ returns-5 c =
     let a = start1 e1 .args in
     stuck-there (a .text .now) (a .at) (not-split e1) (not-count e2) (not-short e3) (not-crowd e4) (sym (c .before .starts5 .ensures) ∙ c .if5 .taken)
 
+slice-aggregate-starts-6 : tie.Need-slice-aggregate-starts-6
+slice-aggregate-starts-6 c = search needs
+
+starts-requires-6 : tie.Need-starts-requires-6
+starts-requires-6 c κs = search needs
+
 returns-6 : tie.Need-returns-6
 returns-6 c =
-    let e4 = c .before .before .before in
+    let e5 = c .before .before .before in
+    let e4 = e5 .before .before .before in
     let e3 = e4 .before .before .before in
     let e2 = e3 .before .before .before in
     let e1 = e2 .before .before .before in
     let a = start1 e1 .args in
-    price-there (a .text .now) (a .at) (not-split e1) (not-count e2) (not-short e3) (not-crowd e4) (not-stuck c)
+    ramp-there (a .text .now) (a .at) (not-split e1) (not-count e2) (not-short e3) (not-crowd e4) (not-stuck e5) (sym (c .before .starts6 .ensures) ∙ c .if6 .taken)
+
+returns-7 : tie.Need-returns-7
+returns-7 c =
+    let e5 = c .before .before .before in
+    let e4 = e5 .before .before .before in
+    let e3 = e4 .before .before .before in
+    let e2 = e3 .before .before .before in
+    let e1 = e2 .before .before .before in
+    let a = start1 e1 .args in
+    price-there (a .text .now) (a .at) (not-split e1) (not-count e2) (not-short e3) (not-crowd e4) (not-stuck e5) (not-ramp c)
 
 pub find-kind-spec : {M : Type 1} → statement M
 find-kind-spec =
@@ -134,4 +157,7 @@ find-kind-spec =
     slice-aggregate-starts-5
     starts-requires-5
     returns-5
-    returns-6)
+    slice-aggregate-starts-6
+    starts-requires-6
+    returns-6
+    returns-7)

@@ -1,0 +1,2 @@
+-- What a tree without ramp leaves reads.
+pub mod Loosened
