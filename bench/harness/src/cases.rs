@@ -116,11 +116,16 @@ fn left(limit: usize, problem: &str) -> usize {
     }
 }
 
-/// A tree that fills its room with price leaves of one digit: the most walks for a byte.
-fn prices(name: &'static str, limit: usize, times: Times, off: bool) -> Case {
+/// A tree that fills its room with such leaves, their multipliers of one digit, under units that were off before period 1.
+fn leaves(
+    name: &'static str,
+    limit: usize,
+    times: Times,
+    leaf: fn(&mut Random, u64, u64) -> String,
+) -> Case {
     let mut r = Random::new();
-    let problem = problem(&mut r, times, 100_000, 10_000, off);
-    let tree = largest_tree(ALONE, left(limit, &problem), || price_leaf(&mut r, 0, 9));
+    let problem = problem(&mut r, times, 100_000, 10_000, true);
+    let tree = largest_tree(ALONE, left(limit, &problem), || leaf(&mut r, 0, 9));
     Case {
         name,
         input: problem + &tree,
@@ -128,16 +133,13 @@ fn prices(name: &'static str, limit: usize, times: Times, off: bool) -> Case {
     }
 }
 
-/// A tree that fills its room with ramp leaves of one digit.
-fn ramps(name: &'static str, limit: usize, times: Times, off: bool) -> Case {
-    let mut r = Random::new();
-    let problem = problem(&mut r, times, 100_000, 10_000, off);
-    let tree = largest_tree(ALONE, left(limit, &problem), || ramp_leaf(&mut r, 0, 9));
-    Case {
-        name,
-        input: problem + &tree,
-        last: Last::TreeHeld,
-    }
+/// Price leaves: the most walks for a byte.
+fn prices(name: &'static str, limit: usize, times: Times) -> Case {
+    leaves(name, limit, times, price_leaf)
+}
+
+fn ramps(name: &'static str, limit: usize, times: Times) -> Case {
+    leaves(name, limit, times, ramp_leaf)
 }
 
 /// A tree that fills its room with leaves of one line; unit 1 is stuck where it is on in period 1 or 2.
@@ -211,9 +213,9 @@ pub fn all() -> Vec<Case> {
         peak("peak, 145 states", MOST, false),
         peak("peak, 145 states, off before", MOST, true),
         peak("peak, 98 states, TD 1", MOST_STARTS, true),
-        prices("65,536: price leaves", LISTING_LIMIT, MOST, true),
-        prices("65,536: the same, TD 1", LISTING_LIMIT, MOST_STARTS, true),
-        ramps("65,536: ramp leaves", LISTING_LIMIT, MOST, true),
+        prices("65,536: price leaves", LISTING_LIMIT, MOST),
+        prices("65,536: the same, TD 1", LISTING_LIMIT, MOST_STARTS),
+        ramps("65,536: ramp leaves", LISTING_LIMIT, MOST),
         lines("65,536: stuck leaves", LISTING_LIMIT, &STUCK),
         lines("65,536: short leaves", LISTING_LIMIT, &SHORT),
         lines(
@@ -229,9 +231,9 @@ pub fn all() -> Vec<Case> {
         lines("65,536: crowd leaves", LISTING_LIMIT, &CROWD),
         pieces("65,536: nothing but end="),
         schedules("nine schedules of 32 x 48", 9),
-        prices("1,048,576: price leaves", TEXT_LIMIT, MOST, true),
-        prices("1,048,576: the same, TD 1", TEXT_LIMIT, MOST_STARTS, true),
-        ramps("1,048,576: ramp leaves", TEXT_LIMIT, MOST, true),
+        prices("1,048,576: price leaves", TEXT_LIMIT, MOST),
+        prices("1,048,576: the same, TD 1", TEXT_LIMIT, MOST_STARTS),
+        ramps("1,048,576: ramp leaves", TEXT_LIMIT, MOST),
         lines("1,048,576: stuck leaves", TEXT_LIMIT, &STUCK),
         lines("1,048,576: short leaves", TEXT_LIMIT, &SHORT),
         lines(
@@ -247,7 +249,7 @@ pub fn all() -> Vec<Case> {
         lines("1,048,576: crowd leaves", TEXT_LIMIT, &CROWD),
         damaged(
             "1,048,576: TD 1, damaged end",
-            prices("", TEXT_LIMIT - 1, MOST_STARTS, true),
+            prices("", TEXT_LIMIT - 1, MOST_STARTS),
         ),
         numeral("1,048,576: one numeral"),
         schedules("ten schedules of 32 x 48", 10),

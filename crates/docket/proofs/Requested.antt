@@ -23,7 +23,7 @@ use Rattle.model.specs.Broken.{Of, OffRamp, Broken, Lower}
 use Rattle.model.specs.Above.{Above, root, count, side}
 use Rattle.model.specs.Largest.{total, falling, largest, LargestSum, FallingOrder}
 use Rattle.model.specs.Leaf.{usable, available, not-off, Crowded, those, any-stuck, value, units-least, requirement, leaf-value}
-use Rattle.model.specs.Ramps.{over-rise, over-fall, sumℤ, ramp-charge, ramp-value, Steps, ramp-leasts, ramp-leaf-value, RampPrices, ups, downs}
+use Rattle.model.specs.Ramps.{over-rise, over-fall, sumℤ, ramp-charge, ramp-value, Steps, ramp-leasts, ramp-leaf-value, RampPrices, ups, downs, Unpriced}
 use Rattle.model.specs.declared.figures.Bound.the-variants.{Never as never, Number as number}
 use Rattle.model.specs.Turns.{in-turn, took, Fewest}
 use Rattle.model.specs.Tree.{Leaf, short, crowd, stuck, price, ramp, Tree, leaf, fork, Narrows, GoodFork, GoodLeaf, HasPrices, LeafHolds, leaf-bound, Limits, bound, tree-figures}
@@ -39,7 +39,6 @@ use Rattle.model.proofs.Ignored as ignored
 use Rattle.model.proofs.EveryLeaf as each-leaf
 use Rattle.model.proofs.RampRules as ramp-rules
 use Rattle.model.proofs.RampLeaf as ramp-leaf
-use Rattle.model.proofs.RampLeaf.{Unpriced}
 use Rattle.model.proofs.Narrowing as narrowing
 use Rattle.model.proofs.Unread as unread
 use Rattle.walk.specs.Marks.{mark-of, marks-in}

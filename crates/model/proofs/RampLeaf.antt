@@ -17,7 +17,7 @@ use Rattle.model.specs.Cost.{row-cost, cost}
 use Rattle.model.specs.Above.{Mark, Marks, Above, rest}
 use Rattle.model.specs.Agreement.{Follows, Agrees}
 use Rattle.model.specs.Leaf.{rows-of, least, revenue, value, unit-least, units-least, requirement, leaf-value}
-use Rattle.model.specs.Ramps.{over-rise, over-fall, sumℤ, ramp-charge, ramp-value, ramp-least, Steps, rest-steps, ramp-leasts, ramp-leaf-value, RampPrices, ups, downs}
+use Rattle.model.specs.Ramps.{over-rise, over-fall, sumℤ, ramp-charge, ramp-value, ramp-least, Steps, rest-steps, ramp-leasts, ramp-leaf-value, RampPrices, ups, downs, Unpriced}
 use Rattle.model.specs.declared.figures.Bound.the-variants.{Number as number}
 use Rattle.model.specs.Tree.{price, ramp, StepMultipliers, GoodLeaf, leaf-bound}
 use Rattle.model.proofs.Integers.{up, down, le→nat, nat→le, +ℤ-nat, least-le}
@@ -108,10 +108,6 @@ pub ramp-one : (P : Instance) → P .periods ≡ 1 → (m : Marks) (q s : ℕ �
 ramp-one P one m q s x y = ramp-flat P m q s x y (λ u l. ((λ t i. absurd (omega arith)), (λ t i. absurd (omega arith))))
 
 -- ---- so of leaves
-
--- no multiplier of these units above 0
-abbrev pub Unpriced : List RampPrices → Type 0
-Unpriced l = All (λ x. All (λ v. v ≡ 0) (x .up) × All (λ v. v ≡ 0) (x .down)) l
 
 unpriced-at : (l : List RampPrices) → Unpriced l → (u t : ℕ) → (ups l u t ≡ 0) × (downs l u t ≡ 0)
 unpriced-at [] h u t = (refl, refl)

@@ -21,11 +21,11 @@ before x (suc t) = x t
 
 -- ---- one period on, with k steps
 
--- each unit of output costs b, and the two multipliers by which less of it is less above a limit
+-- each unit of output costs b, and the multipliers of the rise into the period and of the fall out of it, which more output makes larger
 abbrev pub dearer : ℕ → Generator → (ℕ → ℕ) → (ℕ → ℕ) → ℕ → ℕ
 dearer k g x y t = g .b + (before x t + after k y t)
 
--- each unit short of pU costs q, and the two multipliers by which more of it is less above a limit
+-- each unit short of pU costs q, and the multipliers of the rise out of the period and of the fall into it, which less output makes larger
 abbrev pub gainful : ℕ → (ℕ → ℕ) → (ℕ → ℕ) → (ℕ → ℕ) → ℕ → ℕ
 gainful k q x y t = q t + after k x t + before y t
 

@@ -1,5 +1,6 @@
 -- Document 02, [6]: the value of a leaf with prices on the ramps. Periods count from 0 here: number t of a unit's multipliers is that of the step from
 -- period t to period t + 1, so that the first belongs to the papers' period 2.
+use mathlib.Core.Path.{_≡_}
 use mathlib.Core.Bool.{not}
 use mathlib.Core.List.{List, [], _∷_, map}
 use Prim.Native.Nat.{ℕ, zero, suc, pred}
@@ -7,6 +8,7 @@ use lib.IntN.{ℤ, pos, _+ℤ_, _-ℤ_, _*ℤ_}
 use lib.ListN.{getD}
 use Rattle.model.specs.declared.generator.Generator.{Generator}
 use Rattle.model.specs.Instance.{Instance, _at_}
+use Rattle.model.specs.Ranges.{All}
 use Rattle.model.specs.Rules.{on, if-on}
 use Rattle.model.specs.Above.{Mark, Marks, rest}
 use Rattle.model.specs.Leaf.{rows-of, least, value, requirement}
@@ -73,3 +75,7 @@ ups l u t = getD l u unpriced .up at t
 
 abbrev pub downs : List RampPrices → Steps
 downs l u t = getD l u unpriced .down at t
+
+-- every one of them 0
+abbrev pub Unpriced : List RampPrices → Type 0
+Unpriced l = All (λ x. All (λ v. v ≡ 0) (x .up) × All (λ v. v ≡ 0) (x .down)) l
