@@ -30,12 +30,20 @@ pub fn overview() -> String {
     text
 }
 
+/// What a command is called with.
+pub fn synopsis(command: &Command) -> String {
+    let mut text = format!("docket {} {}", command.name, command.arguments);
+    for (option, value, _) in OPTIONS {
+        if command.options.contains(&option) {
+            text += &format!(" [{option}{value}]");
+        }
+    }
+    text
+}
+
 /// One command in full.
 pub fn command(command: &Command) -> String {
-    let mut text = format!(
-        "docket {} {}\n\n{}\n\n",
-        command.name, command.arguments, command.long
-    );
+    let mut text = format!("{}\n\n{}\n\n", synopsis(command), command.long);
     for (option, value, does) in OPTIONS {
         if option == "--help" || command.options.contains(&option) {
             let option = format!("{option}{value}");

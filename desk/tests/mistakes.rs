@@ -1,6 +1,9 @@
 //! Usual mistakes in texts: what the docket answers, and what is said of it. Numbers, lines, marks and phrases are written by
 //! hand.
 
+mod common;
+
+use common::{escaped, repository, run};
 use desk::words::{self, Plant, Reason};
 use docket::{Docket, Refusal, Verdict, MOST_TEXT};
 use std::path::Path;
@@ -226,6 +229,78 @@ fn usual_mistakes_are_named() {
         assert!(reason.words.len() <= 177, "{}", reason.words);
     }
     assert!(MISTAKES.len() >= 48);
+}
+
+/// What `check` prints of the last text of an input: the line with its answer, and those under it.
+fn printed(words: &[&str], input: &[u8]) -> Vec<String> {
+    let ran = run(words, input);
+    assert_eq!(ran.status, 1, "{}", ran.notes());
+    let answers = ran.out().split("kind=report\n").next();
+    let lines: Vec<&str> = answers.unwrap_or_default().lines().collect();
+    let last = lines.iter().rposition(|line| !line.starts_with("    "));
+    lines[last.expect("an answer")..]
+        .iter()
+        .map(|line| line.to_string())
+        .collect()
+}
+
+/// The bytes above the mark in what is printed, as they are printed.
+fn above_mark(lines: &[String]) -> &str {
+    let is_mark = |line: &String| line.ends_with('^') && line.trim_matches([' ', '^']).is_empty();
+    let at = lines.iter().position(is_mark).expect("a mark");
+    let (mark, quote) = (&lines[at], &lines[at - 1]);
+    let from = mark.find('^').expect("a mark");
+    quote.get(from..mark.len()).unwrap_or_default()
+}
+
+#[test]
+fn check_names_the_line_of_the_file_the_value_and_the_reason_of_usual_mistakes() {
+    let mut named = 0;
+    for &(text, old, new, number, line, bytes, phrase) in MISTAKES {
+        let changed = match old {
+            "\n" => text.replace(old, new),
+            _ => text.replacen(old, new, 1),
+        };
+        if texts(changed.as_bytes()) != [changed.as_bytes()] {
+            continue;
+        }
+        let before = if text == PROBLEM { "" } else { PROBLEM };
+        let lines = printed(&["check", "-"], [before, &changed].concat().as_bytes());
+        if line > 0 {
+            let line = before.lines().count() as u64 + line;
+            assert!(
+                lines[0].starts_with(&format!("-:{line}: answer=refused,{number},")),
+                "{lines:?}"
+            );
+        }
+        assert!(lines[1].contains(phrase), "{lines:?}");
+        assert_eq!(above_mark(&lines), escaped(bytes.as_bytes()), "{lines:?}");
+        named += 1;
+    }
+    assert!(named >= 48, "{named}");
+}
+
+#[test]
+fn check_names_the_line_of_the_file_the_value_and_the_reason_of_each_example() {
+    for &(name, line, bytes, phrase) in EXAMPLES {
+        let path = repository(&format!("examples/refusals/{name}.txt"));
+        let input = std::fs::read(&path).expect("a file");
+        let all = texts(&input);
+        let before: usize = all[..all.len() - 1].iter().map(|text| text.len()).sum();
+        let before = input[..before]
+            .iter()
+            .filter(|&&byte| byte == b'\n')
+            .count() as u64;
+        let path = path.to_str().expect("a name");
+        let lines = printed(&["check", path], b"");
+        let place = format!("{path}:{}: answer=refused,", before + line.max(1));
+        assert!(lines[0].starts_with(&place), "{lines:?}");
+        assert!(lines[1].starts_with(&format!("    {phrase}")), "{lines:?}");
+        match line {
+            0 => assert_eq!(lines.len(), 2, "{lines:?}"),
+            _ => assert_eq!(above_mark(&lines), bytes, "{lines:?}"),
+        }
+    }
 }
 
 #[test]

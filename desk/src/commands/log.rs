@@ -10,7 +10,7 @@ use std::os::unix::ffi::OsStrExt;
 
 pub const LOG: Command = Command {
     name: "log",
-    arguments: "J [--writer W] [--since T]",
+    arguments: "J",
     short: "a line for each text: number, time, kind, writer, bytes, answer",
     long: "Prints a line for each text of the journal: its number, the time (UTC), its kind, its writer, its bytes, and the\n\
            answer that it got. Kind is the word on line 1, or ?; writer is the number on line 2, or -; an answer that was\n\

@@ -144,7 +144,7 @@ fn ask(command: &Command, words: &[OsString], call: &mut Call) -> Result<Status,
         return Ok(Status::Accepted);
     }
     if !command.words.contains(&call.options.words.len()) {
-        let use_it = format!("use: docket {} {}", command.name, command.arguments);
+        let use_it = format!("use: {}", help::synopsis(command));
         return Err(Trouble::usage(use_it));
     }
     (command.run)(call)
