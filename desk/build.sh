@@ -7,7 +7,9 @@ archive=target/staticlib/libdocket_host.a
 file=${1:-target/bin/docket}
 if [ ! -f "$archive" ] || [ -n "$(find crates crates.txt -newer "$archive" -print -quit)" ]; then
   rm -f "$archive"
-  rt staticlib docket_host
+  log=$(mktemp)
+  trap 'rm -f "$log"' EXIT
+  rt staticlib docket_host >"$log" || { cat "$log"; exit 1; }
 fi
 cargo build --offline --release --quiet --manifest-path desk/Cargo.toml
 mkdir -p "$(dirname "$file")"

@@ -1,8 +1,10 @@
 //! The words of a command line.
 
 use crate::clock;
+use crate::printed::shown;
 use crate::trouble::Trouble;
 use std::ffi::{OsStr, OsString};
+use std::os::unix::ffi::OsStrExt;
 use std::time::Duration;
 
 /// What a command line asks for.
@@ -29,6 +31,10 @@ impl Options {
         let mut rest = words.iter();
         let mut open = true;
         while let Some(word) = rest.next() {
+            let bytes = word.as_bytes();
+            if open && bytes.starts_with(b"-") && word.to_str().is_none() {
+                return Err(Trouble::usage(format!("no option {} here", shown(bytes))));
+            }
             let text = word.to_str().unwrap_or_default();
             match text {
                 "--" if open => open = false,
@@ -39,7 +45,7 @@ impl Options {
                         None => (text, None),
                     };
                     if !allowed.contains(&name) {
-                        let name = crate::printed::shown(name.as_bytes());
+                        let name = shown(name.as_bytes());
                         let why =
                             format!("no option {name} here; before a file of that name write --");
                         return Err(Trouble::usage(why));
@@ -74,10 +80,11 @@ impl Options {
                 self.take_writer(value),
                 "a writer from 1 to 65,535, as --writer 7",
             ),
-            _ => (
+            "--since" => (
                 self.take_since(value),
                 "a day or a time in UTC, as --since 2026-11-17 or --since 2026-11-17T18:00:00Z",
             ),
+            _ => (None, "nothing that is known"),
         };
         taken.ok_or_else(|| Trouble::usage(format!("{name} wants {due}")))
     }

@@ -38,16 +38,15 @@ impl Progress {
 
     /// So many texts and bytes were read.
     pub fn show(&mut self, texts: u64, bytes: u64) {
-        let now = match self.next {
-            Some(next) => (Instant::now(), next),
-            None => return,
+        let (now, Some(next)) = (Instant::now(), self.next) else {
+            return;
         };
-        if now.0 < now.1 {
+        if now < next {
             return;
         }
         let share = bytes * 100 / self.total.max(1);
         self.print(&format!("{}: {texts} texts read, {share} %", self.name));
-        (self.next, self.shown) = (Some(now.0 + EVERY), true);
+        (self.next, self.shown) = (Some(now + EVERY), true);
     }
 
     fn print(&self, words: &str) {

@@ -162,7 +162,7 @@ impl Trouble {
     fn of_journal(&self, f: &mut fmt::Formatter) -> fmt::Result {
         match self {
             Trouble::Busy(name) => write!(f, "{}: another process has it open for writing; wait for it, or say how many seconds: --wait 60", shown(name)),
-            Trouble::NoJournal(name) => write!(f, "{}: not a journal, by its first line; the journal is named first, then the files", shown(name)),
+            Trouble::NoJournal(name) => write!(f, "{}: not a journal, by its first line; docket lodge makes one of a file that is empty or not there; it is named first, then the files", shown(name)),
             Trouble::Format(name, format) => write!(f, "{}: a journal of format {format}, and this program reads format {}: use the program that wrote it", shown(name), crate::journal::FORMAT),
             Trouble::Rules(name, rules) => write!(
                 f,
@@ -179,13 +179,13 @@ impl Trouble {
             ),
             Trouble::Answer { name, text, recorded, again } => write!(
                 f,
-                "{}: text {text} was answered {}, and judged again it gets {again}: this program is not the one that wrote it; use that one",
+                "{}: text {text} was answered {}, and judged again it gets {again}: another program wrote it, or a hand; use that program, or a copy kept elsewhere",
                 shown(name),
                 shown(recorded.as_bytes())
             ),
             Trouble::Unrecorded(name, text, error) => write!(
                 f,
-                "{}: text {text} is lodged and answered, but the answer could not be recorded: {error}; make room: the next lodging records it",
+                "{}: text {text} is lodged and answered, but the answer could not be recorded: {error}; the next lodging records it",
                 shown(name)
             ),
             Trouble::NoCheck(name) => write!(
@@ -193,7 +193,7 @@ impl Trouble {
                 "{}: no record has the check that was noted: a text, a time or an answer before it was changed, or some are missing",
                 shown(name)
             ),
-            _ => Ok(()),
+            other => write!(f, "{other:?}"),
         }
     }
 }
@@ -219,7 +219,10 @@ fn advice(doing: Doing, kind: io::ErrorKind) -> &'static str {
         }
         (Doing::Make, io::ErrorKind::AlreadyExists) => "; name a file that is not there yet",
         (Doing::Lock, _) => "; keep it on a disk of this machine",
-        (Doing::Write, _) => "; the last text was not lodged: lodge it again when there is room",
+        (Doing::Write, io::ErrorKind::StorageFull | io::ErrorKind::QuotaExceeded) => {
+            "; the last text was not lodged: lodge it again when there is room"
+        }
+        (Doing::Write, _) => "; the last text was not lodged: lodge it again when that is mended",
         (Doing::Undo, _) => {
             "; whether the last text is in it is not sure: look after the disk, then see docket log"
         }

@@ -115,6 +115,47 @@ fn a_text_that_was_taken_for_a_part_of_another_is_named() {
 }
 
 #[test]
+fn lines_between_texts_are_not_taken_for_a_bad_end() {
+    let blank = PROBLEM.to_string() + "\n" + &schedule(8, 60);
+    let ran = run(&["check", "-"], blank.as_bytes());
+    let said = ran
+        .lines()
+        .into_iter()
+        .find(|line| line.contains("begins another text"));
+    assert!(said
+        .expect("a line")
+        .ends_with(": the lines before it begin no text"));
+}
+
+#[test]
+fn options_that_are_no_text_are_not_taken_for_names() {
+    use std::os::unix::ffi::OsStringExt;
+    let folder = folder("options");
+    let word = |bytes: &[u8]| std::ffi::OsString::from_vec(bytes.to_vec());
+    let journal = folder.join("j");
+    let words = [
+        word(b"lodge"),
+        word(b"--wait=\xff"),
+        journal.clone().into_os_string(),
+        word(b"-"),
+    ];
+    let ran = run(&words, PROBLEM.as_bytes());
+    assert!(ran.trouble().contains("no option --wait=\\xff here"));
+    assert_eq!(fs::read_dir(&folder).expect("a folder").count(), 0);
+    for words in [["help", "nosuch"], ["--help", "nosuch"]] {
+        assert!(run(&words, b"").trouble().contains("no command nosuch"));
+    }
+    run(
+        &["lodge", journal.to_str().expect("a name"), "-"],
+        PROBLEM.as_bytes(),
+    )
+    .sound(0);
+    for number in ["+1", "0", "-1", "1 ", "x", ""] {
+        on("text", &journal, &["--", number]).trouble();
+    }
+}
+
+#[test]
 fn help_of_a_command_is_had_three_ways() {
     let wanted = run(&["lodge", "--help"], b"").sound(0);
     for words in [["help", "lodge"], ["--help", "lodge"], ["lodge", "-h"]] {

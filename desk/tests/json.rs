@@ -547,7 +547,7 @@ fn assert_salvaged(journal: &str, verified: &Json, bytes: &[u8]) {
     ) {
         (Json::Null, "0") => "nothing is damaged".to_string(),
         (Json::Null, torn) => format!("the last {torn} bytes "),
-        (damaged, _) => format!("damaged at byte {}, ", damaged.get("at").word("")),
+        (damaged, _) => format!("damaged at byte {}: ", damaged.get("at").word("")),
     };
     assert!(text(&plain.notes).contains(&left), "{plain:?}");
     let objects = objects(&["salvage", journal, &two], b"", 0);

@@ -5,7 +5,7 @@ use crate::out::Out;
 use crate::pieces::Piece;
 use crate::printed::{json, object, or_null, quoted, shown};
 use crate::trouble::Trouble;
-use crate::words::{another, kind, writer, Reason};
+use crate::words::{another, begins, kind, writer, Reason};
 use docket::{Answer, Bound, Figures, Report, Verdict};
 
 /// A text that was judged.
@@ -62,9 +62,15 @@ impl Judged<'_> {
             }
         }
         match self.another() {
-            Some(line) => out.line(&format!(
-                "    line {line} begins another text, which was taken for a part of this one: the line end=.. before it is missing or not as it should be"
-            )),
+            Some(line) => {
+                let why = match begins(self.text()) {
+                    true => "the line end=.. before it is missing or not as it should be",
+                    false => "the lines before it begin no text",
+                };
+                out.line(&format!(
+                    "    line {line} begins another text, which was taken for a part of this one: {why}"
+                ))
+            }
             None => Ok(()),
         }
     }

@@ -188,11 +188,13 @@ fn judge_one(
         answer: &answer,
         reason: place.bench().reason(text, &answer),
     };
-    let last = format!("{}:{}", shown(name), piece.line);
-    call.out.lodged = place.texts().map(|texts| {
-        let texts = count(texts, "text");
-        format!("the journal has {texts} now, up to that of {last}")
-    });
+    if let Some(number) = number {
+        let (texts, name) = (count(number, "text"), shown(name));
+        call.out.lodged = Some(format!(
+            "the journal has {texts} now, up to that of {name}:{}",
+            piece.line
+        ));
+    }
     match call.options.json {
         true => judged.print_json(&mut call.out)?,
         false => judged.print(&mut call.out, place.texts().is_some())?,

@@ -116,10 +116,11 @@ fn is_wanted(call: &Call, logged: &Logged) -> bool {
 
 fn text(call: &mut Call) -> Result<Status, Trouble> {
     let word = call.word(1).to_str().unwrap_or_default();
+    let digits = word.bytes().all(|byte| byte.is_ascii_digit());
     let wanted: u64 = word
         .parse()
         .ok()
-        .filter(|&number| number > 0)
+        .filter(|&number| digits && number > 0)
         .ok_or_else(|| Trouble::usage("N is the number of a text, from 1"))?;
     let mut reading = read(call.journal())?;
     loop {

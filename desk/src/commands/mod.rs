@@ -118,10 +118,7 @@ fn obey(words: &[OsString], call: &mut Call) -> Result<Status, Trouble> {
     let named = |name: Option<&str>| COMMANDS.iter().find(|command| Some(command.name) == name);
     match name {
         Some("--help" | "-h" | "help") => {
-            let asked = named(words.get(1).and_then(|word| word.to_str()));
-            let text = asked.map_or_else(help::overview, |command| help::command(command));
-            call.out.bytes(text.as_bytes())?;
-            return Ok(Status::Accepted);
+            return explain(words.get(1), call);
         }
         Some("--version") => {
             call.out.bytes(help::version().as_bytes())?;
@@ -134,6 +131,19 @@ fn obey(words: &[OsString], call: &mut Call) -> Result<Status, Trouble> {
     };
     let done = ask(command, &words[1..], call);
     done.map_err(|trouble| trouble.of_command(command.name))
+}
+
+/// Prints all commands in short, or the one that is named in full.
+fn explain(asked: Option<&OsString>, call: &mut Call) -> Result<Status, Trouble> {
+    let text = match asked {
+        None => help::overview(),
+        Some(word) => {
+            let command = COMMANDS.iter().find(|command| word == command.name);
+            help::command(command.ok_or_else(|| Trouble::usage(unknown(word)))?)
+        }
+    };
+    call.out.bytes(text.as_bytes())?;
+    Ok(Status::Accepted)
 }
 
 /// Runs a command with the words after its name.

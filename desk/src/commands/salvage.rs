@@ -46,6 +46,12 @@ fn salvage(call: &mut Call) -> Result<Status, Trouble> {
     }
     call.out.flush()?;
     match sound.trouble {
+        Some(Trouble::Damaged { at, why, .. }) => {
+            let old = shown(call.word(0).as_bytes());
+            call.note(&format!(
+                "{old}: damaged at byte {at}: {why}; nothing from there on was copied"
+            ));
+        }
         Some(trouble) => call.note(&trouble.to_string()),
         None if sound.torn > 0 => return log::end(call, sound.torn),
         None => {
@@ -62,19 +68,29 @@ fn make(from: &Path, bytes: u64, new: &Path) -> Result<(), Trouble> {
     if fs::symlink_metadata(new).is_ok() {
         return Err(trouble(io::ErrorKind::AlreadyExists.into()));
     }
-    let mut name = new.as_os_str().to_owned();
-    name.push(".part");
-    let part = Path::new(&name);
+    let mut longer = new.as_os_str().to_owned();
+    longer.push(".part");
+    let part = Path::new(&longer);
     let mut disk = OnDisk::make(part)?;
     let copied = copy(from, bytes, &mut disk, part)
         .and_then(|()| same(&disk, part, bytes))
-        .and_then(|()| fs::rename(part, new).map_err(trouble))
+        .and_then(|()| name(part, new).map_err(trouble))
         .and_then(|()| disk.sync_name().map_err(trouble));
     if copied.is_err() {
         // a part of a copy is of no use
         let _ = fs::remove_file(part);
     }
     copied
+}
+
+/// Gives a file another name, which no file has.
+fn name(part: &Path, new: &Path) -> io::Result<()> {
+    match fs::hard_link(part, new) {
+        Ok(()) => fs::remove_file(part),
+        Err(error) if error.kind() == io::ErrorKind::AlreadyExists => Err(error),
+        // not every file system has two names for a file
+        Err(_) => fs::rename(part, new),
+    }
 }
 
 /// Writes the first bytes of a journal, so many of them, to a file, on disk.

@@ -39,6 +39,7 @@ impl OnDisk {
     /// Opens a journal's file for writing, or makes it, and locks it; waits so long for whoever has the lock.
     pub fn open(path: &Path, wait: Duration) -> Result<OnDisk, Trouble> {
         let trouble = |error| Trouble::file(path, Doing::Change, error);
+        let until = Instant::now().checked_add(wait);
         if path.as_os_str().as_bytes() == b"-" {
             let why = "a journal is a file; - is standard input";
             return Err(Trouble::usage(why));
@@ -47,8 +48,8 @@ impl OnDisk {
         options.read(true).append(true).create(true);
         for _ in 0..TRIES {
             regular(path, true)?;
-            let disk = OnDisk::of(path, options.open(path)).map_err(trouble)?;
-            lock(path, &disk.file, wait)?;
+            let disk = OnDisk::of(path, &options).map_err(trouble)?;
+            lock(path, &disk.file, until)?;
             // whoever had the lock may have put another file in its place
             if disk.has_name().map_err(trouble)? {
                 return Ok(disk);
@@ -62,16 +63,20 @@ impl OnDisk {
     /// Makes a journal's file, which must not be there.
     pub fn make(path: &Path) -> Result<OnDisk, Trouble> {
         let mut options = OpenOptions::new();
-        let file = options.read(true).append(true).create_new(true).open(path);
-        let disk =
-            OnDisk::of(path, file).map_err(|error| Trouble::file(path, Doing::Make, error))?;
-        lock(path, &disk.file, Duration::ZERO)?;
+        options.read(true).append(true).create_new(true);
+        let disk = OnDisk::of(path, &options);
+        let disk = disk.map_err(|error| Trouble::file(path, Doing::Make, error))?;
+        lock(path, &disk.file, Some(Instant::now()))?;
         Ok(disk)
     }
 
-    /// A file that was opened by a path, with the folder that its own name stands in.
-    fn of(path: &Path, file: io::Result<File>) -> io::Result<OnDisk> {
-        let file = file?;
+    /// Opens a file, with the folder that its own name stands in. It is not made where the folder cannot be opened.
+    fn of(path: &Path, options: &OpenOptions) -> io::Result<OnDisk> {
+        let parent = path
+            .parent()
+            .filter(|parent| !parent.as_os_str().is_empty());
+        File::open(parent.unwrap_or(Path::new(".")))?;
+        let file = options.open(path)?;
         // behind a link the name is in another folder
         let real = fs::canonicalize(path)?;
         let folder = File::open(real.parent().unwrap_or(Path::new("/")))?;
@@ -147,16 +152,16 @@ fn regular(path: &Path, may_miss: bool) -> Result<(), Trouble> {
     }
 }
 
-fn lock(path: &Path, file: &File, wait: Duration) -> Result<(), Trouble> {
-    let began = Instant::now();
+/// Locks a file; waits for whoever has the lock until a time, or for ever.
+fn lock(path: &Path, file: &File, until: Option<Instant>) -> Result<(), Trouble> {
     loop {
         match file.try_lock() {
             Ok(()) => return Ok(()),
             Err(TryLockError::Error(error)) => return Err(Trouble::file(path, Doing::Lock, error)),
-            Err(TryLockError::WouldBlock) if began.elapsed() >= wait => {
+            Err(TryLockError::WouldBlock) if until.is_some_and(|until| Instant::now() >= until) => {
                 return Err(Trouble::Busy(name(path)))
             }
-            Err(TryLockError::WouldBlock) => sleep(Duration::from_millis(20).min(wait)),
+            Err(TryLockError::WouldBlock) => sleep(Duration::from_millis(20)),
         }
     }
 }

@@ -3,7 +3,7 @@
 use super::called::{brief, called, due_count};
 use super::due::Walk;
 use super::table::{self, Count, Key};
-use super::{lines, Fault};
+use super::{lines, ranged, Fault};
 use std::ops::Range;
 
 /// How many values the line has, how many are due, and which are missing or too many.
@@ -13,7 +13,7 @@ pub fn fault(line: &[u8], walk: &Walk) -> Option<Fault> {
     let given = lines::values(line).count();
     let (place, which) = match given < due {
         true => (line.len()..line.len(), missing(walk, key, given, due)),
-        false => too_many(line, given, due)?,
+        false => too_many(line, given, due, walk)?,
     };
     let have = match given {
         1 => "1 value stands here".to_string(),
@@ -58,10 +58,11 @@ fn missing(walk: &Walk, key: &Key, given: usize, due: usize) -> String {
 }
 
 /// The values behind the last that is due.
-fn too_many(line: &[u8], given: usize, due: usize) -> Option<(Range<usize>, String)> {
+fn too_many(line: &[u8], given: usize, due: usize, walk: &Walk) -> Option<(Range<usize>, String)> {
     let first = lines::values(line).nth(due)?;
     let place = first.start..line.len();
-    if let (1, Some(number)) = (due, parted(line)) {
+    let one = parted(line).filter(|number| ranged::within(line, number, walk));
+    if let (1, Some(number)) = (due, one) {
         return Some((place, format!("write {number}, with no comma inside it")));
     }
     let which = match given - due {

@@ -215,6 +215,11 @@ impl Walk {
         }
     }
 
+    /// The key of the node that was read last.
+    pub fn node(&self) -> Option<&'static str> {
+        self.node.map(|(node, _)| node)
+    }
+
     /// The keys one of which the due line has.
     pub fn keys(&self) -> Vec<&'static str> {
         match self.due() {

@@ -3,7 +3,7 @@
 use super::called::brief;
 use super::due::{either, Due, Walk};
 use super::lines::{behind_key, key_of, line_at};
-use super::table::{self, Key, Often, Role, FIRST, LAST};
+use super::table::{self, Count, Key, Often, Role, FIRST, LAST};
 
 /// The keys of the lines before and after a line.
 pub struct Around<'a> {
@@ -37,7 +37,7 @@ impl<'a> Around<'a> {
             };
         }
         if let Due::First = walk.due() {
-            return format!("{stands}: did the {LAST}= line of the text before come too early?");
+            return format!("{stands}: did an {LAST}= line before it come too early?");
         }
         if key == FIRST.as_bytes() {
             return format!("{stands}: another text begins before this one has ended");
@@ -62,13 +62,23 @@ impl<'a> Around<'a> {
         next.pass();
         let comes = next.keys().iter().any(|word| word.as_bytes() == key);
         let follows = self.after == Some(due.word.as_bytes());
+        let missing = format!("{}= is missing before it", due.word);
         match (self.before == Some(key), comes, follows) {
-            (true, false, _) | (true, _, true) => Some(" a second time".into()),
+            (true, false, _) => Some(" a second time".into()),
+            (true, true, true) => Some(format!(" a second time, or {missing}")),
+            (false, true, true) if in_turn(due) => {
+                Some(format!(": {missing}, or the two lines are exchanged"))
+            }
             (false, true, true) => Some(": the two lines are exchanged".into()),
-            (_, true, false) => Some(format!(": {}= is missing before it", due.word)),
+            (_, true, false) => Some(format!(": {missing}")),
             (false, false, _) => None,
         }
     }
+}
+
+/// Whether lines of this key and another take turns, unit by unit: their neighbours do not tell which of them is missing.
+fn in_turn(key: &Key) -> bool {
+    matches!(key.role, Role::Behind(_, Often::EachUnit(_)))
 }
 
 /// What is said of a line that stands once too often.
@@ -105,6 +115,15 @@ fn elsewhere(key: &[u8], walk: &Walk) -> Option<String> {
             Some(format!(": it is a line of {}", either(&of)))
         }
         Role::Node(..) if matches!(walk.due(), Due::End) => Some(": the tree is whole".into()),
+        Role::Behind(nodes, _) if walk.node().is_some_and(|node| nodes.contains(&node)) => {
+            let row = table::find(key)?;
+            match walk.periods {
+                Some(1) if row.count == Count::LaterPeriods => {
+                    Some(": with one period there is no such line".into())
+                }
+                _ => Some(twice(row, walk)),
+            }
+        }
         Role::Behind(nodes, _) if matches!(walk.due(), Due::Node | Due::End) => {
             let nodes: Vec<String> = nodes.iter().map(|node| format!("{node}=")).collect();
             Some(format!(": it belongs behind {}", either(&nodes)))

@@ -173,6 +173,12 @@ fn output(text: &[u8], refusal: Refusal, held: Option<Plant>) -> Option<Found> {
     None
 }
 
+/// Whether a text begins with a first line, of whatever kind.
+pub fn begins(text: &[u8]) -> bool {
+    let first = lines::lines(text).next();
+    first.is_some_and(|line| lines::key_of(line.bytes) == Some(table::FIRST.as_bytes()))
+}
+
 /// The line of a text, counted from 1, on which another text begins within it.
 pub fn another(text: &[u8]) -> Option<u64> {
     let begins = |line: &[u8]| lines::key_of(line) == Some(table::FIRST.as_bytes());

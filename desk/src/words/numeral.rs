@@ -52,6 +52,15 @@ impl Given<'_> {
         Fault::new(self.place.clone(), words)
     }
 
+    /// The digits behind the value that look like more of its thousands: values of three digits that begin with 0.
+    fn groups(&self) -> Vec<u8> {
+        let rest = self.line.get(self.place.end + 1..).unwrap_or_default();
+        let values = rest.split(|&byte| byte == b',');
+        let groups =
+            values.take_while(|value| value.len() == 3 && all_digits(value) && value[0] == b'0');
+        groups.flatten().copied().collect()
+    }
+
     /// A fault of some bytes of the value.
     fn within(&self, place: Range<usize>, words: String) -> Fault {
         let from = self.place.start;
@@ -76,47 +85,75 @@ fn empty(given: &Given, value: &[u8]) -> Option<Fault> {
 
 fn strange(given: &Given, value: &[u8]) -> Option<Fault> {
     let (place, what) = chars::strange(value)?;
+    if value[place.clone()] == *b"\t" {
+        return None;
+    }
     let remedy = chars::remedy(&value[place.clone()]);
     let words = format!("{what} stands in {}: {remedy}", given.name);
     Some(given.within(place, words))
 }
 
+/// A space or a tab.
+fn is_space(byte: &u8) -> bool {
+    b" \t".contains(byte)
+}
+
 fn spaced(given: &Given, value: &[u8]) -> Option<Fault> {
-    let at = value.iter().position(|&byte| byte == b' ')?;
-    let length = value[at..].iter().take_while(|&&byte| byte == b' ').count();
-    let place = at..at + length;
-    let name = &given.name;
+    let at = value.iter().position(is_space)?;
+    let length = value[at..].iter().take_while(|byte| is_space(byte)).count();
+    let (place, name) = (at..at + length, &given.name);
+    let what = match value[at] {
+        b' ' => "a space",
+        _ => "a tab (byte 9)",
+    };
     let words = if at == 0 {
-        format!("a space stands before {name}: take it out")
+        format!("{what} stands before {name}: take it out")
     } else if place.end == value.len() {
-        format!("a space stands behind {name}: take it out")
+        format!("{what} stands behind {name}: take it out")
     } else {
-        format!("a space stands inside {name}: {}", parted(value))
+        format!("{what} stands inside {name}: {}", parted(value))
     };
     Some(given.within(place, words))
 }
 
 /// What is to be written for a value with spaces inside: they part thousands, or values.
 fn parted(value: &[u8]) -> String {
-    let mut parts = value
-        .split(|&byte| byte == b' ')
-        .filter(|part| !part.is_empty());
-    let joined: Vec<u8> = value.iter().copied().filter(|&byte| byte != b' ').collect();
+    let mut parts = value.split(is_space).filter(|part| !part.is_empty());
+    let joined: Vec<u8> = value
+        .iter()
+        .copied()
+        .filter(|byte| !is_space(byte))
+        .collect();
     let first = parts.next().unwrap_or_default();
+    let groups = first.len() <= 3 && !first.starts_with(b"0") && parts.all(|part| part.len() == 3);
     if !all_digits(&joined) {
         "take it out".into()
-    } else if first.len() <= 3 && parts.all(|part| part.len() == 3) && joined.len() <= 10 {
+    } else if groups && joined.len() <= 10 {
         format!("write {}, or commas between values", brief(&joined))
     } else {
         "write commas between values".into()
     }
 }
 
+/// The digits as they are to be written, without leading zeros.
+fn plain(digits: &[u8]) -> String {
+    let kept = digits.iter().position(|&digit| digit != b'0');
+    brief(&digits[kept.unwrap_or(digits.len().saturating_sub(1))..])
+}
+
+/// That a minus stands where none may.
+fn no_minus() -> String {
+    format!(
+        "only {} may carry a minus",
+        table::with_minus().join(" and ")
+    )
+}
+
 fn signed(given: &Given, value: &[u8]) -> Option<Fault> {
     let digits = match value {
         [b'+' | b'-'] => return Some(given.reads(value, "a sign with no number behind it")),
         [b'+', digits @ ..] if all_digits(digits) => {
-            return Some(given.reads(value, &format!("no plus; write {}", brief(digits))));
+            return Some(given.reads(value, &format!("no plus; write {}", plain(digits))));
         }
         [b'-', digits @ ..] => digits,
         _ => return None,
@@ -128,10 +165,7 @@ fn signed(given: &Given, value: &[u8]) -> Option<Fault> {
     } else if given.minus {
         return None;
     } else {
-        format!(
-            "only {} may carry a minus",
-            table::with_minus().join(" and ")
-        )
+        no_minus()
     };
     Some(given.reads(value, &what))
 }
@@ -144,14 +178,12 @@ fn zeros(given: &Given, value: &[u8]) -> Option<Fault> {
     if !all_digits(digits) {
         return None;
     }
-    let kept = digits.iter().position(|&digit| digit != b'0');
-    let plain = brief(&digits[kept.unwrap_or(digits.len() - 1)..]);
-    let mut what = format!("no leading zeros; write {minus}{plain}");
-    if let (3, Some(before)) = (digits.len(), &given.before) {
+    let mut what = format!("no leading zeros; write {minus}{}", plain(digits));
+    if let (3, "", Some(before)) = (digits.len(), minus, &given.before) {
         let before = &given.line[before.clone()];
         if all_digits(before) && before.len() <= 3 && before[0] != b'0' {
-            let (thousands, rest) = (brief(before), brief(digits));
-            what.push_str(&format!(", or {thousands}{rest} if one number is meant"));
+            let number = [before, digits, &given.groups()].concat();
+            what.push_str(&format!(", or {} if one number is meant", brief(&number)));
         }
     }
     Some(given.reads(value, &what))
@@ -160,7 +192,7 @@ fn zeros(given: &Given, value: &[u8]) -> Option<Fault> {
 /// Signs that stand inside or round numbers elsewhere.
 fn separated(given: &Given, value: &[u8]) -> Option<Fault> {
     let digits: Vec<u8> = value.iter().copied().filter(u8::is_ascii_digit).collect();
-    let written = brief(&digits);
+    let written = plain(&digits);
     let sign_at = value
         .iter()
         .position(|byte| b"_'\"`()[]{}<>;|/:&=".contains(byte))?;
@@ -194,6 +226,12 @@ fn other(given: &Given, value: &[u8]) -> Fault {
         _ => value,
     };
     let points = value.iter().filter(|&&byte| byte == b'.').count();
+    let number = unsigned
+        .first()
+        .is_some_and(|byte| byte.is_ascii_digit() || *byte == b'.');
+    if value.starts_with(b"-") && number && !given.minus {
+        return given.reads(value, &no_minus());
+    }
     let what = if unsigned.starts_with(b"0x") || unsigned.starts_with(b"0X") {
         "write it in decimal"
     } else if exponent(unsigned) {
@@ -214,22 +252,27 @@ fn other(given: &Given, value: &[u8]) -> Fault {
 
 /// What is said of a number with a point.
 fn pointed(given: &Given, value: &[u8]) -> String {
-    let at = value
-        .iter()
-        .position(|&byte| byte == b'.')
-        .unwrap_or(value.len());
-    let (whole, part) = (&value[..at], value.get(at + 1..).unwrap_or_default());
+    let (minus, unsigned) = match value {
+        [b'-', unsigned @ ..] => ("-", unsigned),
+        [b'+', unsigned @ ..] => ("", unsigned),
+        _ => ("", value),
+    };
+    let at = unsigned.iter().position(|&byte| byte == b'.');
+    let (whole, part) = unsigned.split_at(at.unwrap_or(unsigned.len()));
+    let part = part.get(1..).unwrap_or_default();
+    let zeros = all_digits(whole) && part.iter().all(|&digit| digit == b'0');
+    let groups = all_digits(whole) && whole.len() <= 3 && whole[0] != b'0' && part.len() == 3;
     let thousands = format!(
-        "{} if the point parts thousands",
+        "{minus}{} if the point parts thousands",
         brief(&[whole, part].concat())
     );
-    let zeros = all_digits(whole) && part.iter().all(|&digit| digit == b'0');
-    let what = match (zeros, part.len() == 3) {
-        (true, true) => format!("write {}, or {thousands}", brief(whole)),
-        (true, false) => format!("write {}", brief(whole)),
-        (false, true) => format!("write {thousands}"),
-        (false, false) if given.fraction.is_empty() => return "whole numbers only".into(),
-        (false, false) => given.fraction.into(),
+    let what = match (zeros, groups, given.fraction) {
+        (true, true, _) => format!("write {minus}{}, or {thousands}", plain(whole)),
+        (true, false, _) => format!("write {minus}{}", plain(whole)),
+        (false, true, "") => format!("write {thousands}"),
+        (false, true, fraction) => format!("{fraction}, or write {thousands}"),
+        (false, false, "") => return "whole numbers only".into(),
+        (false, false, fraction) => fraction.into(),
     };
     format!("whole numbers only; {what}")
 }

@@ -25,6 +25,17 @@ pub fn fault(line: &[u8], walk: &Walk) -> Option<Fault> {
     None
 }
 
+/// Whether a number is in the range of a line's first value.
+pub fn within(line: &[u8], number: &str, walk: &Walk) -> bool {
+    let key = lines::key_of(line).and_then(table::find);
+    let value = key.and_then(|key| key.values.first());
+    let most = value.and_then(|value| most(value, walk));
+    match (value, most, lines::number(number.as_bytes())) {
+        (Some(value), Some(most), Some(number)) => (value.least..=most).contains(&number),
+        _ => false,
+    }
+}
+
 /// The upper end of a value's range.
 fn most(value: &Value, walk: &Walk) -> Option<i64> {
     let most = match value.most {

@@ -97,7 +97,7 @@ const fn up_to(name: &'static str, least: i64, most: Most) -> Value {
 /// A cost.
 const fn cost(name: &'static str, most: i64) -> Value {
     Value {
-        fraction: "choose a smaller unit of money (README, 'The scale of costs'), or round",
+        fraction: "choose a smaller unit of money (README, 'The scale of costs')",
         ..v(name, 0, most)
     }
 }
@@ -105,7 +105,7 @@ const fn cost(name: &'static str, most: i64) -> Value {
 /// An output or a load.
 const fn power(name: &'static str, least: i64, most: i64) -> Value {
     Value {
-        fraction: "take tenths throughout (README, 'The scale of costs'), or round",
+        fraction: "take tenths throughout (README, 'The scale of costs')",
         ..v(name, least, most)
     }
 }
@@ -258,7 +258,7 @@ const fn why(number: u64, shows: Shows, words: &'static str) -> Why {
 /// The numbers of refusals.
 #[rustfmt::skip]
 pub const WHYS: &[Why] = &[
-    why(11, Shows::Nothing, "the text has more than 1,048,576 bytes; make it shorter, or lodge a tree with fewer leaves"),
+    why(11, Shows::Nothing, "the text has more than 1,048,576 bytes; make it shorter; all up to the next line that begins end= is passed over with it"),
     why(12, Shows::NotDue, "another line is due here; see README, 'Texts'"),
     why(13, Shows::Range, "a value is out of its range; see README, 'Texts'"),
     why(14, Shows::Count, "the line has too few or too many values; see README, 'Texts'"),
@@ -273,7 +273,7 @@ pub const WHYS: &[Why] = &[
     why(33, Shows::Values, "short does not hold: the units that may be on reach demand plus spare; split further, or write another leaf"),
     why(34, Shows::Values, "stuck does not hold: the unit has a permitted run under the splits above; split further, or write another leaf"),
     why(35, Shows::Values, "a unit has no permitted run under the splits above; write stuck=U in this leaf's place"),
-    why(36, Shows::Values, "crowd does not hold: the counts above agree with the statuses fixed in this period; write another leaf"),
+    why(36, Shows::Values, "crowd does not hold: no count stands above, or those above agree with the statuses fixed in this period; write another leaf"),
     why(37, Shows::Values, "K must not be below the period's lower count, and must be below its upper count, as the counts above set them"),
     why(41, Shows::Nothing, "a problem is held already; lodge another one in a docket of its own"),
     why(42, Shows::Nothing, "no problem is held yet; lodge the problem first"),

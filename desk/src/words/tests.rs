@@ -183,7 +183,7 @@ fn each_refusal_of_the_corpus_has_a_reason_of_its_own() {
                 assert!(!reason.words.contains("see README"), "{reason:?}");
                 assert!(reason.mark.is_some(), "{reason:?}");
             }
-            assert!(reason.words.len() <= 177, "{reason:?}");
+            assert!(reason.words.len() <= 200, "{reason:?}");
         });
     }
 }
