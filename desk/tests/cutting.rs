@@ -181,11 +181,7 @@ fn a_text_of_1048576_bytes_is_judged_and_one_of_1048577_is_11_and_kept_nowhere()
         let journal = journal.to_str().expect("a name");
         let ran = run(&["lodge", journal, "-"], &input);
         assert_eq!(ran.status, 1);
-        let answers: Vec<&str> = ran
-            .lines()
-            .into_iter()
-            .filter(|l| l.contains(": answer="))
-            .collect();
+        let answers: Vec<&str> = ran.answers();
         let wanted = [
             format!("{} -:1: answer=held", numbers[0]),
             format!("{} -:8: answer=refused,{refused},", numbers[1]),
@@ -267,11 +263,7 @@ fn no_text_spans_two_files_and_small_files_are_what_they_are() {
     fs::write(&empty, "").expect("a file");
     fs::write(&end, "end=\n").expect("a file");
     let ran = run(&["check", &open, &empty, &next, &end], b"");
-    let answers: Vec<&str> = ran
-        .lines()
-        .into_iter()
-        .filter(|l| l.contains(": answer="))
-        .collect();
+    let answers: Vec<&str> = ran.answers();
     let wanted = [
         format!("{open}:1: answer=held"),
         format!("{open}:11: answer=refused,12,4,0,0"),

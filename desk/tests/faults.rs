@@ -298,18 +298,20 @@ fn calls() -> Vec<usize> {
     disk.state().asked
 }
 
+/// A disk that has no room left from a byte of a call on, and what a process told that lodged the texts there.
+fn without_room(at: usize, how: usize, then: Then) -> (Platter, Told) {
+    let disk = Platter::default();
+    let at = Some(at);
+    disk.plan(Plan { at, how, then });
+    let told = process(&disk, &texts());
+    (disk, told)
+}
+
 #[test]
 fn a_full_disk_at_every_byte_leaves_whole_records_and_no_text_is_half_lodged() {
     for (at, &length) in calls().iter().enumerate() {
         for how in 0..length {
-            let disk = Platter::default();
-            let then = Then::Work;
-            disk.plan(Plan {
-                at: Some(at),
-                how,
-                then,
-            });
-            let told = process(&disk, &texts());
+            let (disk, told) = without_room(at, how, Then::Work);
             let trouble = told.trouble.expect("no room").to_string();
             assert!(trouble.contains("No space left on device"), "{trouble}");
             let seen = disk.state().seen;
@@ -328,14 +330,7 @@ fn a_full_disk_at_every_byte_leaves_whole_records_and_no_text_is_half_lodged() {
 fn a_full_disk_that_cannot_be_cut_leaves_a_torn_end_that_is_cut_later() {
     for (at, &length) in calls().iter().enumerate() {
         for how in 0..length {
-            let disk = Platter::default();
-            let then = Then::NoCut;
-            disk.plan(Plan {
-                at: Some(at),
-                how,
-                then,
-            });
-            let told = process(&disk, &texts());
+            let (disk, told) = without_room(at, how, Then::NoCut);
             let trouble = told.trouble.expect("no room").to_string();
             let lodged = trouble.contains("is lodged and answered, but the answer");
             assert!(lodged || trouble.contains("is not sure"), "{trouble}");

@@ -2,7 +2,9 @@
 
 mod common;
 
-use common::journals::{answers, contents, is_untouched, on, on_with, put, texts, Scribe, SECONDS};
+use common::journals::{
+    answers, contents, is_untouched, on, on_with, put, texts, Scribe, READERS, SECONDS,
+};
 use common::memory::Memory;
 use common::{counted, folder, Ran};
 use desk::journal::{Journal, Mended, Reading, Step};
@@ -217,15 +219,7 @@ fn readers_of_every_cut_read_what_is_whole_and_touch_nothing() {
 
 /// A file without a whole first line has nothing to read.
 fn check_no_journal(path: &Path) {
-    let more: [(&str, &[&str]); 6] = [
-        ("log", &[]),
-        ("text", &["1"]),
-        ("verify", &[]),
-        ("report", &[]),
-        ("show", &[]),
-        ("try", &["-"]),
-    ];
-    for (command, more) in more {
+    for (command, more) in READERS {
         let ran = on_with(command, path, more, MORE);
         assert_eq!((ran.status, ran.out()), (2, ""), "{command}");
         assert!(ran.notes().contains("not a journal"), "{}", ran.notes());

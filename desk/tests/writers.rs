@@ -3,7 +3,9 @@
 mod common;
 
 use common::folder;
-use common::journals::{contents, is_untouched, on, on_with, put, texts, Random, Scribe, SECONDS};
+use common::journals::{
+    contents, is_untouched, on, on_with, put, texts, Random, Scribe, READERS, SECONDS,
+};
 use desk::journal::{Journal, OnDisk};
 use desk::progress::Progress;
 use std::fs::{self, File};
@@ -15,16 +17,6 @@ use std::sync::atomic::{AtomicBool, Ordering};
 use std::sync::Arc;
 use std::thread::{sleep, spawn};
 use std::time::{Duration, Instant};
-
-/// The commands that only read, with the words behind the journal.
-const READERS: [(&str, &[&str]); 6] = [
-    ("log", &[]),
-    ("text", &["1"]),
-    ("verify", &[]),
-    ("report", &[]),
-    ("show", &[]),
-    ("try", &["-"]),
-];
 
 fn open(path: &Path) -> Journal<OnDisk> {
     let disk = OnDisk::open(path, Duration::ZERO).expect("a file");

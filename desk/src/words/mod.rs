@@ -175,18 +175,20 @@ fn output(text: &[u8], refusal: Refusal, held: Option<Plant>) -> Option<Found> {
 
 /// Whether a text begins with a first line, of whatever kind.
 pub fn begins(text: &[u8]) -> bool {
-    let first = lines::lines(text).next();
-    first.is_some_and(|line| lines::key_of(line.bytes) == Some(table::FIRST.as_bytes()))
+    lines::lines(text)
+        .next()
+        .is_some_and(|line| is_first(line.bytes))
+}
+
+fn is_first(line: &[u8]) -> bool {
+    lines::key_of(line) == Some(table::FIRST.as_bytes())
 }
 
 /// The line of a text, counted from 1, on which another text begins within it.
 pub fn another(text: &[u8]) -> Option<u64> {
-    let begins = |line: &[u8]| lines::key_of(line) == Some(table::FIRST.as_bytes());
-    let later = lines::lines(text).zip(1..).skip(1);
-    later
-        .filter(|(line, _)| begins(line.bytes))
-        .map(|(_, number)| number)
-        .next()
+    let mut later = lines::lines(text).zip(1..).skip(1);
+    let found = later.find(|(line, _)| is_first(line.bytes));
+    found.map(|(_, number)| number)
 }
 
 /// The kind of a text as the log shows it: the word behind `kind=` on line 1 if it is 1 to 16 small letters.

@@ -10,6 +10,16 @@ use std::os::unix::ffi::{OsStrExt, OsStringExt};
 use std::path::Path;
 use std::time::{Duration, SystemTime};
 
+/// The commands that only read, with the words behind the journal.
+pub const READERS: [(&str, &[&str]); 6] = [
+    ("log", &[]),
+    ("text", &["1"]),
+    ("verify", &[]),
+    ("report", &[]),
+    ("show", &[]),
+    ("try", &["-"]),
+];
+
 /// When the texts of these journals were lodged.
 pub const SECONDS: u64 = 1_795_000_000;
 

@@ -47,6 +47,13 @@ impl Ran {
         text(&self.out).lines().collect()
     }
 
+    /// The lines that carry an answer.
+    pub fn answers(&self) -> Vec<&str> {
+        let mut lines = self.lines();
+        lines.retain(|line| line.contains(": answer="));
+        lines
+    }
+
     /// What went wrong: the status is 2, and standard error has one line of printable ASCII, which is given back.
     pub fn trouble(&self) -> &str {
         assert_eq!(self.status, 2, "{self:?}");
