@@ -25,6 +25,6 @@ as_written() {
 check 'desk/build.sh' desk/build.sh
 rust desk
 as_written 'Judge a file' 1
-as_written 'Keep a docket open' 5
+as_written 'Keep a docket open' 6
 say 'done'
 total

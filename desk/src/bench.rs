@@ -1,7 +1,8 @@
 //! A docket, and what is known of its problem: what texts are judged by.
 
+use crate::leaves::PriceLeaf;
 use crate::words::{reason, Plant, Reason};
-use docket::{Answer, Docket, Figures, Report, Verdict};
+use docket::{Answer, CheapestRuns, Docket, Figures, Report, Verdict};
 
 /// A docket with the size of its problem.
 #[derive(Clone, Default)]
@@ -37,13 +38,37 @@ impl Bench {
     pub fn schedule(&self) -> Option<String> {
         let writer = self.report().cost_writer()?;
         let outputs = self.docket.outputs();
-        let mut text = format!("kind=schedule\nwriter={writer}\n");
-        for row in outputs.chunks(self.plant?.periods.max(1)) {
-            let values: Vec<String> = row.iter().map(u16::to_string).collect();
-            text += &format!("run={}\n", values.join(","));
-        }
-        Some(text + "end=schedule\n")
+        let rows = outputs.chunks(self.plant?.periods.max(1));
+        Some(schedule(writer, &runs(rows)))
     }
+
+    /// The size of the problem that is held.
+    pub fn plant(&self) -> Option<Plant> {
+        self.plant
+    }
+
+    /// The cheapest runs at a price leaf.
+    pub fn cheapest_runs(&self, leaf: &PriceLeaf) -> CheapestRuns {
+        self.docket
+            .cheapest_runs(&leaf.prices, &leaf.reserves, &leaf.fixed)
+    }
+}
+
+/// The text of a schedule, with the lines of its runs.
+pub fn schedule(writer: u16, runs: &str) -> String {
+    format!("kind=schedule\nwriter={writer}\n{runs}end=schedule\n")
+}
+
+/// The lines of a schedule's runs, one for each unit's outputs.
+pub fn runs<N: ToString>(rows: impl Iterator<Item = impl AsRef<[N]>>) -> String {
+    rows.map(|row| format!("run={}\n", commas(row.as_ref())))
+        .collect()
+}
+
+/// Numbers with commas between them, as texts have them.
+pub fn commas<N: ToString>(numbers: &[N]) -> String {
+    let numbers: Vec<String> = numbers.iter().map(N::to_string).collect();
+    numbers.join(",")
 }
 
 /// What stands behind `answer=` in the line of an answer.

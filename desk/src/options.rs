@@ -1,5 +1,6 @@
 //! The words of a command line.
 
+use crate::asked::Asked;
 use crate::clock;
 use crate::printed::shown;
 use crate::trouble::Trouble;
@@ -22,6 +23,8 @@ pub struct Options {
     pub writer: Option<u16>,
     /// `--since T`
     pub since: Option<u64>,
+    /// Those of a draft.
+    pub asked: Asked,
 }
 
 impl Options {
@@ -74,6 +77,9 @@ impl Options {
         }
         let value = value.or_else(|| rest.next().cloned());
         let value = value.as_deref().and_then(OsStr::to_str).unwrap_or_default();
+        if let Some(taken) = self.asked.take(name, value) {
+            return taken;
+        }
         let (taken, due) = match name {
             "--wait" => (self.take_wait(value), "a number of seconds, as --wait 10"),
             "--writer" => (
@@ -104,4 +110,11 @@ impl Options {
         self.since = Some(clock::seconds(value)?);
         Some(())
     }
+}
+
+/// A number from 1 on, in decimal.
+pub fn from_1(word: &str) -> Option<u64> {
+    let digits = word.bytes().all(|byte| byte.is_ascii_digit());
+    let number = word.parse().ok();
+    number.filter(|&number| digits && number > 0)
 }

@@ -116,6 +116,12 @@ pub fn object(fields: &[(&str, String)]) -> String {
     format!("{{{}}}", fields.join(","))
 }
 
+/// A list of JSON with these values, which are JSON.
+pub fn list(values: impl IntoIterator<Item = impl ToString>) -> String {
+    let values: Vec<String> = values.into_iter().map(|value| value.to_string()).collect();
+    format!("[{}]", values.join(","))
+}
+
 /// The value, or `null` where there is none.
 pub fn or_null(value: Option<impl ToString>) -> String {
     value.map_or("null".into(), |value| value.to_string())

@@ -1,5 +1,6 @@
 //! What went wrong, in one line: what, where, and what to do.
 
+use crate::leaves::Leaves;
 use crate::printed::{count, shown};
 use std::fmt;
 use std::io;
@@ -84,6 +85,21 @@ pub enum Trouble {
     NoText(Vec<u8>, u64, u64),
     /// No schedule is held.
     NoSchedule(Vec<u8>),
+    /// No problem is held.
+    NoProblem(Vec<u8>),
+    /// A text, by its number, that is no accepted tree, and what it is.
+    NoTree(Vec<u8>, u64, String),
+    /// A price leaf that a tree has not.
+    NoLeaf {
+        /// The journal's name.
+        name: Vec<u8>,
+        /// The number of the tree's text.
+        text: u64,
+        /// The number of the leaf.
+        leaf: u64,
+        /// The leaves that the tree has.
+        leaves: Leaves,
+    },
     /// Standard output takes no more; what the journal has now, if the command lodges.
     Output(io::Error, Option<String>),
 }
@@ -152,6 +168,27 @@ impl fmt::Display for Trouble {
                 "{}: no schedule is held: none that was lodged was accepted; docket log lists them",
                 shown(name)
             ),
+            Trouble::NoProblem(name) => write!(
+                f,
+                "{}: no problem is held: none that was lodged was accepted; docket log lists them",
+                shown(name)
+            ),
+            Trouble::NoTree(name, text, what) => write!(
+                f,
+                "{}: text {text} is no accepted tree: {what}; docket log lists them",
+                shown(name)
+            ),
+            Trouble::NoLeaf {
+                name,
+                text,
+                leaf,
+                leaves,
+            } => write!(
+                f,
+                "{}: text {text} has no price leaf{}",
+                shown(name),
+                behind(*leaf, *leaves)
+            ),
             _ => self.of_journal(f),
         }
     }
@@ -195,6 +232,21 @@ impl Trouble {
             ),
             other => write!(f, "{other:?}"),
         }
+    }
+}
+
+/// What is said behind `no price leaf`, of the leaf that is asked for and of those that the tree has.
+fn behind(leaf: u64, leaves: Leaves) -> String {
+    let of = |number: u64, what: &str| match number {
+        1 => format!("1 {what} leaf"),
+        _ => format!("{number} {what} leaves"),
+    };
+    let (price, ramp) = (of(leaves.price, "price"), of(leaves.ramp, "ramp"));
+    match (leaves.price, leaves.ramp) {
+        (0, 0) => String::new(),
+        (0, _) => format!(": it has {ramp}, and a ramp leaf gives no run"),
+        (_, 0) => format!(" {leaf}: it has {price}"),
+        _ => format!(" {leaf}: it has {price} and {ramp}, and a ramp leaf gives no run"),
     }
 }
 

@@ -364,6 +364,8 @@ fn check_judged(path: &Path, sentence: &str) {
         ("try", &["-"]),
         ("report", &[]),
         ("show", &[]),
+        ("draft", &["--price", "10,14"]),
+        ("draft", &["--tree", "3"]),
     ];
     for (command, more) in commands {
         let ran = on_with(command, path, more, MORE);

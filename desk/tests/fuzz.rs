@@ -16,7 +16,7 @@ use std::path::{Path, PathBuf};
 use std::time::Duration;
 
 /// The commands that only read, with the words behind the journal.
-const READERS: [(&str, &[&str]); 13] = [
+const READERS: [(&str, &[&str]); 15] = [
     ("verify", &[]),
     ("verify", &["--json"]),
     ("log", &[]),
@@ -28,6 +28,8 @@ const READERS: [(&str, &[&str]); 13] = [
     ("report", &["--json"]),
     ("show", &[]),
     ("show", &["--json"]),
+    ("draft", &["--price", "10,14"]),
+    ("draft", &["--tree", "3", "--json"]),
     ("try", &["-"]),
     ("try", &["-", "--json"]),
 ];
@@ -383,6 +385,7 @@ fn words_that_are_no_command_are_printed_as_plain_ascii() {
         b"verify",
         b"salvage",
         b"show",
+        b"draft",
         b"\x1b",
     ] {
         for word in odd {

@@ -87,6 +87,11 @@ fn readings(journal: &Path) -> Vec<Vec<OsString>> {
         .collect();
     all.push(words(&[OsStr::new("text"), j, OsStr::new("1")]));
     all.push(words(&[OsStr::new("try"), j, OsStr::new("-")]));
+    for more in [&["--price", "10"][..], &["--tree", "3"]] {
+        let mut draft = words(&[OsStr::new("draft"), j]);
+        draft.extend(more.iter().map(OsString::from));
+        all.push(draft);
+    }
     let new = journal.with_extension("new");
     all.push(words(&[OsStr::new("salvage"), j, new.as_os_str()]));
     all
@@ -540,7 +545,7 @@ fn file_names_are_printed_without_what_a_terminal_obeys() {
 }
 
 /// Words that no command takes; J is a journal that is there, NEW a file that is not.
-const WRONG: [&[&str]; 43] = [
+const WRONG: [&[&str]; 48] = [
     &[],
     &[""],
     &["-"],
@@ -558,6 +563,11 @@ const WRONG: [&[&str]; 43] = [
     &["report", "J", "J"],
     &["show"],
     &["show", "J", "1"],
+    &["draft"],
+    &["draft", "J"],
+    &["draft", "J", "J", "--price", "10"],
+    &["draft", "J", "--price"],
+    &["draft", "J", "--tree", "9"],
     &["log"],
     &["log", "J", "7"],
     &["text", "J"],
@@ -673,7 +683,7 @@ fn every_help_has_an_example_and_needs_nothing_else() {
     let overview = ran(&["--help"], b"").sound(0);
     assert!(text(&overview.out).contains("\nExample: docket "));
     for name in [
-        "check", "lodge", "try", "report", "show", "log", "text", "verify", "salvage",
+        "check", "lodge", "try", "report", "show", "draft", "log", "text", "verify", "salvage",
     ] {
         assert!(text(&overview.out).contains(&format!("docket {name} ")));
         for words in [

@@ -268,6 +268,8 @@ fn check_judges(path: &Path, count: usize) {
     if count >= 2 {
         assert_eq!(show.out, texts()[1]);
     }
+    let drafted = on("draft", path, &["--price", "10,14"]);
+    assert_eq!(drafted.status, if count >= 1 { 0 } else { 2 });
     let tried = on_with("try", path, &["-"], MORE);
     let answer = docket.lodge(MORE);
     assert!(tried.out().contains(answer.line()), "{}", tried.out());

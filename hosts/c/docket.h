@@ -4,21 +4,22 @@
  *
  * A docket that stays open is two stretches of memory that the caller owns: `numbers`, of docket_numbers() numbers of 64 bits,
  * and `rows`, of docket_rows() numbers of 16 bits. docket_fresh makes a docket of them, docket_lodge lodges a text in it,
- * docket_report and docket_outputs tell what it holds, and docket_units_taken how many units `short` takes in a period of its
- * problem. A copy of both stretches is a docket of its own. No call ends a docket: its memory is the caller's.
+ * docket_report and docket_outputs tell what it holds, docket_units_taken how many units `short` takes in a period of its
+ * problem, and docket_cheapest_runs the runs behind a price leaf's value. A copy of both stretches is a docket of its own. No
+ * call ends a docket: its memory is the caller's.
  *
  * What every call here does, for every input, is proved: crates/docket_host/proofs/HostPromises.antt, Contracts.antt.
  *
  * What the caller owes, of every call:
  * - No pointer is null, also where no bytes or numbers are lent; each points to as many as its length says.
- * - The stretches lent to one call do not overlap. `numbers`, `values` and `taken` are aligned for uint64_t, `rows` and `outputs`
- *   for uint16_t.
+ * - The stretches lent to one call do not overlap. `numbers`, `values`, `taken`, `q`, `s`, `runs` and `shortfalls` are aligned
+ *   for uint64_t, `value` for int64_t, `rows` and `outputs` for uint16_t.
  * - Nobody writes meanwhile to what a call reads, or touches what it writes. So threads may call at once, each with a docket of
- *   its own, and may at once ask one docket for reports, outputs and units taken, each with a buffer of its own.
+ *   its own, and may at once ask one docket for reports, outputs, units taken and runs, each with buffers of its own.
  * - DOCKET_STACK_BYTES of stack are free.
  *
- * Nothing is allocated, nothing is kept between calls, no file is touched, and every call returns. A text and the statuses of a
- * question are only read, and are the caller's again when the call returns. */
+ * Nothing is allocated, nothing is kept between calls, no file is touched, and every call returns. A text, and the multipliers
+ * and statuses of a question, are only read, and are the caller's again when the call returns. */
 #ifndef DOCKET_H
 #define DOCKET_H
 
@@ -33,14 +34,16 @@ extern "C" {
  * what is asked for, in a state that docket_fresh began and that these calls alone wrote, gets neither. */
 
 /* Too little room: fewer numbers, rows, bytes or values are lent than the call asks for. This is looked at first, whatever the
- * state is; but how much room a report needs is asked of a docket, and how many statuses a question has is part of it. */
+ * state is; but how much room a report needs is asked of a docket, and how many statuses a question has is part of it, as is
+ * all that docket_cheapest_runs is lent besides the state. */
 #define DOCKET_TOO_SMALL SIZE_MAX
 
 /* No docket: what is lent as its state was never begun, is that of another layout, or was changed so that its problem or its
  * figures are out of range. Begin it anew and lodge the texts again, changed where docket_rules has gone up (docs/changes). */
 #define DOCKET_NO_DOCKET (SIZE_MAX - 1)
 
-/* ---- what to lend; more may be lent. What a call does not name as written stays as it was, within the asked-for part too */
+/* ---- what to lend; more may be lent. What a call does not name as written stays as it was, within the asked-for part too.
+ * What docket_cheapest_runs is lent besides the state is asked for to the number. */
 
 /* for the line of an answer: docket_lodge asks for so many bytes, whatever the answer */
 #define DOCKET_LINE_BYTES ((size_t)128)
@@ -160,6 +163,33 @@ enum docket_taken {
  * two of `taken` is as it was in any case. The state is only read. */
 size_t docket_units_taken(const uint64_t *numbers, size_t numbers_length, const uint16_t *rows, size_t rows_length, size_t period,
                           size_t most, const uint8_t *fixed, size_t fixed_length, uint64_t *taken, size_t taken_length);
+
+/* What docket_cheapest_runs returns where there is a docket: `runs`, `shortfalls` and `value` are written; the docket knows no
+ * problem; the question does not fit the problem; or, above DOCKET_RUNS_STUCK, a unit is stuck. */
+enum docket_runs_answer { DOCKET_RUNS_FOUND = 0, DOCKET_RUNS_NO_PROBLEM = 1, DOCKET_RUNS_UNFIT = 2, DOCKET_RUNS_STUCK = 100 };
+
+/* Finds the runs behind the value of a price leaf, and how far they fall short of the demand.
+ *
+ * The leaf has a price multiplier in `q` and a reserve multiplier in `s` for each of the T periods of the problem, each from 0 to
+ * 1,000,000,000, and in `fixed` the statuses that the splits above it fix, as docket_units_taken has them. A unit's run is T
+ * outputs, each 0 for off or from pL to pU, that keep the up and down times and agree with what is fixed. What it is worth is its
+ * cost less q * p + s * pU for each period on with output p. The cheapest run counts; of equal ones the one that is off where
+ * another is on, in the first period in which they differ in this, and then the one with the smallest outputs. The leaf's value
+ * is what these runs are worth and, over the periods, q * D + s * (D + R). They keep no ramps, and together they need not reach
+ * D or D + R: they are a draft of a schedule.
+ *
+ * The lengths are asked for to the number: T for `q`, `s` and `shortfalls`, units times T for `fixed` and `runs`, 1 for `value`.
+ *
+ * Returned: DOCKET_RUNS_FOUND, and all three are written: to runs[u * T + t] the output of unit u in period t, both counted from
+ * 0; to shortfalls[t] how far the outputs in period t together fall short of D, 0 where they do not; to value[0] the leaf's
+ * value. Or, with all three as they were and in this order: DOCKET_TOO_SMALL, where the state is too short; DOCKET_NO_DOCKET;
+ * DOCKET_RUNS_NO_PROBLEM; DOCKET_RUNS_UNFIT, where a length is another one, a multiplier is above 1,000,000,000 or a byte of
+ * `fixed` above 2; DOCKET_RUNS_STUCK + u, where unit u, counted from 1, is the lowest to which what is fixed leaves no run. The
+ * state is only read. */
+size_t docket_cheapest_runs(const uint64_t *numbers, size_t numbers_length, const uint16_t *rows, size_t rows_length,
+                            const uint64_t *q, size_t q_length, const uint64_t *s, size_t s_length, const uint8_t *fixed,
+                            size_t fixed_length, uint64_t *runs, size_t runs_length, uint64_t *shortfalls,
+                            size_t shortfalls_length, int64_t *value, size_t value_length);
 
 /* ---- a whole listing at once */
 

@@ -34,6 +34,22 @@ static const struct told {
                     {1, 2, {1, 0, 0, 0}, {1, 1}}, {1, 2, {0, 0, 0, 0}, {0, 1}}, {1, 2, {2, 2, 2, 2}, {0, 1}}};
 #define EXAMPLE_TOLD (sizeof example_told / sizeof *example_told)
 
+/* price leaves under the example's problem, and their runs; the last two leave unit 1, whose TD is 2, no run: off in period 1 and
+ * on in 2. In the fourth unit 1 is worth 300 - 200 - 240 and 900 - 1120, and unit 2, with its start, 60 + 180 - 100 - 150. */
+static const struct priced {
+    uint64_t q[2], s[2];
+    uint8_t fixed[4];
+    size_t answer;
+    uint64_t runs[4], shortfalls[2];
+    int64_t value;
+} example_priced[] = {{{10, 14}, {0, 0}, {0, 0, 0, 0}, DOCKET_RUNS_FOUND, {20, 80, 0, 0}, {40, 20}, 1880},
+                      {{10, 14}, {0, 0}, {0, 0, 0, 2}, DOCKET_RUNS_FOUND, {20, 80, 0, 10}, {40, 10}, 1980},
+                      {{12, 18}, {0, 0}, {0, 0, 0, 0}, DOCKET_RUNS_FOUND, {80, 80, 0, 50}, {0, 0}, 1820},
+                      {{10, 14}, {3, 0}, {0, 0, 0, 0}, DOCKET_RUNS_FOUND, {20, 80, 10, 0}, {30, 20}, 1840},
+                      {{10, 14}, {0, 0}, {1, 2, 0, 0}, DOCKET_RUNS_STUCK + 1, {0}, {0}, 0},
+                      {{0, 0}, {9, 9}, {1, 2, 2, 1}, DOCKET_RUNS_STUCK + 1, {0}, {0}, 0}};
+#define EXAMPLE_PRICED (sizeof example_priced / sizeof *example_priced)
+
 /* The number at the place, which moves behind it; 0 where no digit stands there. */
 static inline uint64_t read_number(const char **place) {
     uint64_t number = 0;
@@ -196,6 +212,34 @@ static inline int answers_example(const struct docket *d, size_t wanted) {
     return good;
 }
 
+/* Whether the docket returns this to a price leaf under the example's problem; or, where this is that runs are found, what is due
+ * to the leaf. Nothing is written unless runs are found. */
+static inline int answers_priced(const struct docket *d, const struct priced *priced, size_t wanted) {
+    uint64_t runs[4], shortfalls[2];
+    int64_t value;
+    memset(runs, PAINT, sizeof runs);
+    memset(shortfalls, PAINT, sizeof shortfalls);
+    memset(&value, PAINT, sizeof value);
+    size_t due = wanted == DOCKET_RUNS_FOUND ? priced->answer : wanted;
+    size_t answer = docket_cheapest_runs(d->numbers, d->numbers_length, d->rows, d->rows_length, priced->q, 2, priced->s, 2,
+                                         priced->fixed, 4, runs, 4, shortfalls, 2, &value, 1);
+    if (due != DOCKET_RUNS_FOUND) {
+        return answer == due && painted(runs, sizeof runs) && painted(shortfalls, sizeof shortfalls) &&
+               painted(&value, sizeof value);
+    }
+    return answer == due && memcmp(runs, priced->runs, sizeof runs) == 0 &&
+           memcmp(shortfalls, priced->shortfalls, sizeof shortfalls) == 0 && value == priced->value;
+}
+
+/* Whether it does so to each of them. */
+static inline int prices_example(const struct docket *d, size_t wanted) {
+    int good = 1;
+    for (size_t k = 0; k < EXAMPLE_PRICED; k++) {
+        good = answers_priced(d, &example_priced[k], wanted) && good;
+    }
+    return good;
+}
+
 /* Whether the example's texts, lodged in a docket that holds nothing, are held. */
 static inline int lodges_example(struct docket *d) {
     return lodges(d, PROBLEM, PROBLEM_HELD) && lodges(d, SCHEDULE, SCHEDULE_HELD) && lodges(d, TREE, TREE_HELD);
@@ -203,7 +247,8 @@ static inline int lodges_example(struct docket *d) {
 
 /* Whether the docket holds what the example's texts gave it. */
 static inline int holds_example(const struct docket *d) {
-    return reports(d, ALL_HELD) && gives(d, example_outputs, 4) && answers_example(d, DOCKET_TAKEN_TOLD);
+    return reports(d, ALL_HELD) && gives(d, example_outputs, 4) && answers_example(d, DOCKET_TAKEN_TOLD) &&
+           prices_example(d, DOCKET_RUNS_FOUND);
 }
 
 /* Whether the texts of the input, lodged in turn in the docket, begun anew, give the answers of its listing, then the report. */

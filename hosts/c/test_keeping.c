@@ -10,17 +10,19 @@ static void test_sizes(void) {
 static void test_example(void) {
     struct docket d = fresh_docket();
     count(reports(&d, NONE_HELD) && gives(&d, example_outputs, 0), "a fresh docket holds nothing");
-    count(answers_example(&d, DOCKET_TAKEN_NO_PROBLEM), "and knows no problem");
+    count(answers_example(&d, DOCKET_TAKEN_NO_PROBLEM) && prices_example(&d, DOCKET_RUNS_NO_PROBLEM), "and knows no problem");
     count(lodges(&d, SCHEDULE, "answer=refused,42,0,0,0\n"), "no problem is held yet");
     count(lodges(&d, PROBLEM, PROBLEM_HELD), "the problem");
     count(reports(&d, NONE_HELD) && gives(&d, example_outputs, 0), "no outputs before a schedule");
     count(answers_example(&d, DOCKET_TAKEN_TOLD), "units taken as soon as there is a problem");
+    count(prices_example(&d, DOCKET_RUNS_FOUND), "and runs");
     count(lodges(&d, "", "answer=refused,12,1,0,0\n"), "a text of no bytes");
     count(lodges(&d, PROBLEM, "answer=refused,41,0,0,0\n"), "a second problem");
     count(lodges(&d, TREE, TREE_HELD) && gives(&d, example_outputs, 0), "no outputs after a tree");
     count(lodges(&d, SCHEDULE, SCHEDULE_HELD) && gives(&d, example_outputs, 4), "the outputs of the schedule");
     count(reports(&d, ALL_HELD), "the report");
     count(answers_example(&d, DOCKET_TAKEN_TOLD), "the units taken do not depend on what is held");
+    count(prices_example(&d, DOCKET_RUNS_FOUND), "nor do the runs");
     count(lodges(&d, SCHEDULE, "answer=passed,1980\n"), "the schedule again");
     count(lodges(&d, DEARER, "answer=passed,2060\n") && gives(&d, example_outputs, 4),
           "the outputs after a schedule that is passed");
@@ -65,13 +67,14 @@ static void test_fresh(void) {
         memset(d.rows, byte, d.rows_length * sizeof *d.rows);
         good = good && docket_fresh(d.numbers, d.numbers_length, d.rows, d.rows_length) == 0 && reports(&d, NONE_HELD);
         good = good && gives(&d, example_outputs, 0) && lodges(&d, SCHEDULE, "answer=refused,42,0,0,0\n");
-        good = good && answers_example(&d, DOCKET_TAKEN_NO_PROBLEM);
+        good = good && answers_example(&d, DOCKET_TAKEN_NO_PROBLEM) && prices_example(&d, DOCKET_RUNS_NO_PROBLEM);
         good = good && lodges(&d, PROBLEM, PROBLEM_HELD) && reports(&d, NONE_HELD) && gives(&d, example_outputs, 0);
         good = good && lodges(&d, SCHEDULE, SCHEDULE_HELD) && lodges(&d, TREE, TREE_HELD) && reports(&d, ALL_HELD);
     }
     count(good, "a docket begun over any byte holds nothing");
     good = docket_fresh(d.numbers, d.numbers_length, d.rows, d.rows_length) == 0 && reports(&d, NONE_HELD) &&
-           gives(&d, example_outputs, 0) && answers_example(&d, DOCKET_TAKEN_NO_PROBLEM);
+           gives(&d, example_outputs, 0) && answers_example(&d, DOCKET_TAKEN_NO_PROBLEM) &&
+           prices_example(&d, DOCKET_RUNS_NO_PROBLEM);
     good = good && lodges(&d, PROBLEM, PROBLEM_HELD) && lodges(&d, DEARER, DEARER_HELD);
     count(good, "and so does one begun over a docket");
 }

@@ -1,11 +1,13 @@
 /* Tests of the open docket: ./test_open FILE.. lodges the texts of each FILE.txt in turn, the memory lent between pages that may
  * not be touched, on a stack that shows how far it was used, and compares with FILE.out; after each text it asks how many units
- * are taken. An input that is too long for a listing is left out. SEED repeats the questions of a printed seed. The last line is
- * 'N passed, M failed'. */
+ * are taken, and for the runs of price leaves. An input that is too long for a listing is left out. SEED repeats the questions of
+ * a printed seed. The last line is 'N passed, M failed'. */
+#include "test_drafts.h"
 #include "test_questions.h"
 
-/* how many questions are asked after each text */
+/* how many questions about units taken, and about price leaves, are asked after each text */
 #define QUESTIONS 4
+#define LEAVES 3
 
 /* A stretch of memory that is lent: how many bytes the call asks for, how many are lent, and how many there are up to a page that
  * may not be touched. */
@@ -23,6 +25,7 @@ enum part { NUMBERS, ROWS, LINE, VALUES, BUFFER, OUTPUTS, TAKEN, PARTS };
 struct lent {
     struct stretch parts[PARTS];
     uint8_t *texts; /* as many bytes as a listing takes, between such pages */
+    struct leaf_room leaf;
     enum lending how;
 };
 
@@ -31,6 +34,7 @@ struct held {
     uint16_t all[DOCKET_OUTPUTS];
     size_t count;
     struct capacities known;
+    struct plant plant;
 };
 
 /* An input whose texts are lodged, and whether all is as it must be. */
@@ -50,7 +54,7 @@ static struct stretch stretch(enum lending how, size_t asked, size_t more) {
 }
 
 static struct lent lend(enum lending how) {
-    struct lent lent = {.texts = pages(pages_for(DOCKET_MOST_INPUT)), .how = how};
+    struct lent lent = {.texts = pages(pages_for(DOCKET_MOST_INPUT)), .leaf = room_for_leaf(how == FROM), .how = how};
     lent.parts[NUMBERS] = stretch(how, docket_numbers() * sizeof(uint64_t), 7 * sizeof(uint64_t));
     lent.parts[ROWS] = stretch(how, docket_rows() * sizeof(uint16_t), 9 * sizeof(uint16_t));
     lent.parts[LINE] = stretch(how, DOCKET_LINE_BYTES, 72);
@@ -117,6 +121,18 @@ static int answers_questions(const struct lent *lent, const struct capacities *k
     return good && same_docket(&d, before);
 }
 
+/* Whether price leaves are answered as they must be, and the docket stays. */
+static int answers_leaves(const struct lent *lent, const struct plant *known, const struct docket *before) {
+    static struct leaf leaf;
+    struct docket d = docket(lent);
+    int good = 1;
+    for (int k = 0; k < LEAVES; k++) {
+        make_leaf(known, &leaf);
+        good = drafts_rightly(&d, known, &leaf, &lent->leaf) && good;
+    }
+    return good && same_docket(&d, before);
+}
+
 /* Whether the report, asked for at the last place where it fits, is the one given, and no other byte of the buffer is written. */
 static int gives_report(const struct lent *lent, const uint8_t *wanted, size_t length) {
     struct docket d = docket(lent);
@@ -156,9 +172,11 @@ static int lodge_text(struct job *job, const uint8_t *text, size_t length, size_
         read_outputs(text, length, held);
     } else if (wanted[DOCKET_FIGURE] == DOCKET_NOTHING) {
         held->known = read_capacities(text, length);
+        read_plant(text, length, &held->plant);
     }
     copy_docket(&before, &d);
     good = good && gives_outputs(job->lent, held) && answers_questions(job->lent, &held->known, &before);
+    good = good && answers_leaves(job->lent, &held->plant, &before);
     return good && rest_is_left(job->lent);
 }
 
@@ -216,6 +234,7 @@ int main(int argc, char **argv) {
         most = used > most ? used : most;
     }
     count_answers(20);
+    count_drafts(5);
     size_t own = run_painted(nothing, NULL);
     printf("stack used by the calls: at most %zu bytes, %zu of them the thread's own, by %s\n", most, own, deepest);
     count(most > 0 && most <= DOCKET_STACK_BYTES, "the stack named in docket.h");

@@ -42,6 +42,18 @@ static size_t call_units_taken(void) {
                               slice(TAKEN), lent[TAKEN]);
 }
 
+/* The same of runs. Of what is lent besides the state too little is not looked for: it does not fit, as too much does not. */
+static size_t call_cheapest_runs(void) {
+    static const uint64_t q[2], s[2];
+    static const uint8_t fixed[4];
+    static uint64_t runs[4], shortfalls[2];
+    static int64_t value[1];
+    static size_t length;
+    length = length % 3 + 1;
+    return docket_cheapest_runs(slice(NUMBERS), lent[NUMBERS], slice(ROWS), lent[ROWS], q, 2, s, 2, fixed, length + 1, runs, 4,
+                                shortfalls, 2, value, 1);
+}
+
 /* The calls, and which slices each is lent. */
 static const struct call {
     const char *name;
@@ -51,7 +63,8 @@ static const struct call {
              {"docket_lodge", call_lodge, {1, 1, 1, 1, 0, 0, 0}},
              {"docket_report", call_report, {1, 1, 0, 0, 1, 0, 0}},
              {"docket_outputs", call_outputs, {1, 1, 0, 0, 0, 1, 0}},
-             {"docket_units_taken", call_units_taken, {1, 1, 0, 0, 0, 0, 1}}};
+             {"docket_units_taken", call_units_taken, {1, 1, 0, 0, 0, 0, 1}},
+             {"docket_cheapest_runs", call_cheapest_runs, {1, 1, 0, 0, 0, 0, 0}}};
 
 /* What a slice holds before each call: as much of the state as is lent of it; paint in the others. */
 static const void *content(enum slice s) {

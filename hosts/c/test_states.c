@@ -2,9 +2,13 @@
  * call. SEED repeats the changes of a printed seed. The last line is 'N passed, M failed'. */
 #include "test_calls.h"
 #include "test_changes.h"
+#include "test_drafts.h"
 #include "test_questions.h"
 
 #define STATES 100000
+
+/* of how many states that are sound one is asked for runs, which take longer */
+#define UNTIL_RUNS 4
 
 enum kind { MARK_CHANGED, PROBLEM_OUT_OF_RANGE, FIGURE_TOO_LARGE, HELD_WITHOUT_PROBLEM, STILL_SOUND, KINDS };
 
@@ -136,6 +140,41 @@ static int answers_question(int sound) {
     return did_nothing(take_units(&changed, q.period, q.most, last, q.length, w.taken));
 }
 
+/* The problem of a sound state; none where it is not known. */
+static struct plant known_plant(const uint64_t *numbers) {
+    struct plant known = {0};
+    if (numbers[AT_KNOWN]) {
+        known.periods = numbers[AT_PERIODS];
+        known.units = numbers[AT_COUNT];
+    }
+    for (size_t t = 0; t < known.periods; t++) {
+        known.demand[t] = (int64_t)numbers[AT_DEMAND + t];
+        known.spare[t] = (int64_t)numbers[AT_SPARE + t];
+    }
+    for (size_t u = 0; u < known.units; u++) {
+        int64_t n[UNIT_NUMBERS];
+        memcpy(n, numbers + AT_UNITS + u * UNIT_NUMBERS, sizeof n);
+        known.all[u] = (struct unit){n[A], n[B], n[C], n[PL], n[PU], n[TU], n[TD], n[ON] ? n[SINCE] : -n[SINCE], n[HSC], n[CSC],
+                                     n[TCOLD], n[DC]};
+    }
+    return known;
+}
+
+/* Asks the changed state for the runs of a price leaf; whether that is answered as it must be. */
+static int answers_price_leaf(int sound) {
+    static struct leaf leaf;
+    static struct leaf_room room;
+    static const struct draft none = {.answer = DOCKET_NO_DOCKET};
+    if (sound && between(1, UNTIL_RUNS) > 1) {
+        return 1;
+    }
+    room = room.starts[0] == NULL ? room_for_leaf(0) : room;
+    struct plant known = sound ? known_plant(before.numbers) : (struct plant){0};
+    make_leaf(&known, &leaf);
+    int good = sound ? drafts_rightly(&changed, &known, &leaf, &room) : answers_leaf(&changed, &leaf, &room, &none);
+    return good && same_docket(&changed, &before);
+}
+
 /* Lodges a text in the changed state, which is then laid out again; whether that is answered as it must be. */
 static int lodges_rightly(const uint8_t *text, size_t length, int sound) {
     size_t answer = lodge(&changed, text, length, w.line, w.values);
@@ -160,7 +199,7 @@ static int ask_all(const struct input *input, int sound) {
     good = good && (sound || did_nothing(bytes));
     size_t held = copy_outputs(&changed, w.outputs);
     good = good && (sound ? tells(bytes, held) : did_nothing(held));
-    return answers_question(sound) && answers_question(sound) && good;
+    return answers_question(sound) && answers_question(sound) && answers_price_leaf(sound) && good;
 }
 
 int main(int argc, char **argv) {
@@ -188,6 +227,7 @@ int main(int argc, char **argv) {
         count(made[kind] >= STATES / 10, "fewer than a tenth: %s", kind_names[kind]);
     }
     count_answers(STATES / 200);
+    count_drafts(STATES / 2000);
     for (size_t k = 0; k < inputs_count; k++) {
         free_input(&inputs[k]);
     }

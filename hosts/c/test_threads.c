@@ -6,6 +6,9 @@
 #define THREADS 8
 #define TIMES 50000
 
+/* how often a thread asks until it asks for runs, which take longer */
+#define UNTIL_RUNS 20
+
 /* where the threads wait for one another before they begin */
 static pthread_barrier_t begin;
 
@@ -35,6 +38,10 @@ static void *ask(void *given) {
     for (size_t k = 0; k < w->count; k++) {
         const struct told *told = &example_told[(w->first + k) % EXAMPLE_TOLD];
         int good = reports(&w->d, w->report) && gives(&w->d, w->outputs, 4) && answers_told(&w->d, told, DOCKET_TAKEN_TOLD);
+        if (k % UNTIL_RUNS == 0) {
+            const struct priced *priced = &example_priced[(w->first + k / UNTIL_RUNS) % EXAMPLE_PRICED];
+            good = answers_priced(&w->d, priced, DOCKET_RUNS_FOUND) && good;
+        }
         w->wrong += !good;
     }
     return NULL;

@@ -69,7 +69,7 @@ fn check_periods(
 }
 
 /// A unit is on exactly when it puts something out.
-fn is_on(output: i64) -> bool {
+pub fn is_on(output: i64) -> bool {
     output > 0
 }
 
@@ -97,7 +97,7 @@ fn falls_short_of_spare(problem: &Problem, rows: &[Vec<i64>], period: usize) -> 
 }
 
 /// (5) to (10): the status of this period is a change that comes too soon.
-fn breaks_up_or_down_time(unit: &Generator, row: &[i64], period: usize) -> bool {
+pub fn breaks_up_or_down_time(unit: &Generator, row: &[i64], period: usize) -> bool {
     let (on, spent) = stretch_before(unit, row, period);
     is_on(row[period]) != on && !unit.may_leave(on, spent)
 }
@@ -141,7 +141,7 @@ pub fn cost(problem: &Problem, rows: &[Vec<i64>]) -> i64 {
 }
 
 /// (1) for one unit: its periods on, its starts and its stops.
-fn row_cost(unit: &Generator, row: &[i64]) -> i64 {
+pub fn row_cost(unit: &Generator, row: &[i64]) -> i64 {
     let mut cost = 0;
     for (period, &output) in row.iter().enumerate() {
         let (on, spent) = stretch_before(unit, row, period);

@@ -13,7 +13,8 @@ use crate::text::{Line, Reader};
 
 /// A split or count at a larger depth is refused by 32. The root has depth 0.
 const DEEPEST_SPLIT: usize = 63;
-const MOST_MULTIPLIER: i64 = 1_000_000_000;
+/// The largest multiplier; the smallest is 0.
+pub const MOST_MULTIPLIER: i64 = 1_000_000_000;
 
 /// What a tree shows: that no schedule costs less than a number, or that there is none at all.
 /// `Never` comes last and so lies above every number.

@@ -14,10 +14,12 @@ use Rattle.docket.specs.Docket.{fresh-docket}
 use Rattle.docket.specs.Lodging.{lodge-of}
 use Rattle.docket.specs.Report.{report-of, buffer-of}
 use Rattle.docket.specs.Taking.{taken-of}
+use Rattle.docket.specs.Drafting.{runs-of}
 use Rattle.docket.proofs.Docket.fresh as fresh
 use Rattle.docket.proofs.Docket.lodge as lodge
 use Rattle.docket.proofs.Docket.report as report
 use Rattle.docket.proofs.Docket.units_taken as units-taken
+use Rattle.docket.proofs.Docket.cheapest_runs as cheapest-runs
 
 module _ {M : Type 1} (𝓤 : URA M) (H : Heap 𝓤) (A : Atoms 𝓤) (m : Memory → SProp 𝓤) (run : Routine → Fun 𝓤) where
   -- fresh(): a docket that holds nothing
@@ -52,3 +54,14 @@ module _ {M : Type 1} (𝓤 : URA M) (H : Heap 𝓤) (A : Atoms 𝓤) (m : Memor
         ensures = λ g r e. fact 𝓤 (r ≡ taken-of (a .0) (a .1 .0) (a .1 .1 .0) (now (a .1 .1 .1 .0)));
       })
   units-taken-says = refl
+
+  -- cheapest_runs(docket, q, s, fixed, rows, short): what is told of the runs of a price leaf, and the two slices
+  pub cheapest-runs-says : cheapest-runs.spec 𝓤 H A m run
+      ≡ closing 𝓤 H A cheapest-runs.ended (λ κs a. record {
+        ghost = Unit {0};
+        requires = λ g. emp 𝓤;
+        ensures = λ g r e.
+            let told = runs-of (a .0) (now (a .1 .0)) (now (a .1 .1 .0)) (now (a .1 .1 .1 .0)) (now (a .1 .1 .1 .1 .0)) (now (a .1 .1 .1 .1 .1 .0)) in
+            sep 𝓤 (fact 𝓤 (r ≡ told .answer)) (sep 𝓤 (fact 𝓤 (now (e .1 .1 .1 .1 .0) ≡ told .rows)) (fact 𝓤 (now (e .1 .1 .1 .1 .1 .0) ≡ told .short)));
+      })
+  cheapest-runs-says = refl

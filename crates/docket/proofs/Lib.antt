@@ -26,7 +26,9 @@ pub mod Promises
 pub mod CountLines
 pub mod RampLines
 pub mod Questions
+pub mod RunsAsked
 pub mod UnitsTold
+pub mod RunsTold
 pub mod Midnight
 pub mod Requested
 pub mod Interleaved

@@ -22,14 +22,14 @@ use Rattle.model.proofs.Tests.{T-true, true-T}
 use Rattle.model.proofs.RangeTests.{and-is, between-is, leb-is, eqb-is, every-is}
 use Rattle.model.proofs.Extents.{SameMarks, usable-ext}
 use Rattle.model.proofs.Turns.{in-turn-total}
-use Rattle.walk.specs.Marks.{mark-of, marks-in, most-of, most-in, above-of, upper-begin}
+use Rattle.walk.specs.Marks.{is-status, mark-of, marks-in, most-of, most-in, above-of, upper-begin}
 use Rattle.walk.proofs.AboveMarks.{marks-same, most-here, statuses-fit}
 --
 use Rattle.docket.specs.declared.Docket.{Docket}
 use Rattle.docket.specs.declared.taking.TakenAnswer.the-variants.{NoProblem}
 use Rattle.docket.specs.Lodging.{trusted}
 use Rattle.leaves.specs.LeafLeasts.{taken-in}
-use Rattle.docket.specs.Taking.{is-status, fits-in, fits, FitQuestion, asked, taken-under, taken-of}
+use Rattle.docket.specs.Taking.{fits-in, fits, FitQuestion, asked, taken-under, taken-of}
 use Rattle.docket.proofs.HoldingAnswers.{knows-sound, itself}
 
 -- ---- the test of a question

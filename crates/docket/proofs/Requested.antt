@@ -6,7 +6,7 @@ use mathlib.Core.Bool.{Bool, true, false, not}
 use mathlib.Core.List.{List, [], _∷_, _++_, map}
 use mathlib.Core.Logic.{_↔_}
 use mathlib.Core.Option.{Option, none, some}
-use Prim.Native.Nat.{ℕ, suc, pred, _+_, _-_, _≤_, _<_, min}
+use Prim.Native.Nat.{ℕ, suc, pred, _+_, _*_, _-_, _≤_, _<_, min}
 use native.Mathlib.Omega.{arith}
 use lib.Dec.{T, lit<, lit≤}
 use lib.IntN.{pos, _+ℤ_, _-ℤ_, _*ℤ_}
@@ -15,19 +15,22 @@ use lib.Signed.{_≤ℤ_}
 use Rattle.decimal.specs.Decimal.{digits, digits-by}
 use Rattle.model.specs.declared.generator.Generator.{Generator}
 use Rattle.model.specs.Instance.{Instance, Schedule, _at_, Each}
-use Rattle.model.specs.Ranges.{All, InRange, Ordered, WellFormed}
-use Rattle.model.specs.Rules.{on, if-on, FirstRamp, MeetsPrinted, Meets}
+use Rattle.model.specs.Ranges.{All, InRange, Ordered, GoodUnit, WellFormed}
+use Rattle.model.specs.Rules.{on, if-on, output, FirstRamp, MeetsPrinted, Meets}
 use Rattle.model.specs.Cost.{cost}
 use Rattle.model.specs.Breach.{Breach}
 use Rattle.model.specs.Broken.{Of, OffRamp, Broken, Lower}
-use Rattle.model.specs.Above.{Above, root, count, side}
+use Rattle.model.specs.Above.{Mark, Above, root, count, side}
 use Rattle.model.specs.Largest.{total, falling, largest, LargestSum, FallingOrder}
-use Rattle.model.specs.Leaf.{usable, available, not-off, Crowded, those, any-stuck, value, units-least, requirement, leaf-value}
+use Rattle.model.specs.Leaf.{usable, available, not-off, Crowded, those, is-stuck, any-stuck, value, units-least, requirement, leaf-value}
+use Rattle.model.specs.Walk.{cap}
+use Rattle.model.specs.Runs.{least-row, Attains, Precedes, ByOutputs, ByStatuses, least-rows, shortfall}
+use Rattle.model.specs.RunWalk.{first-run, walked-row}
 use Rattle.model.specs.Ramps.{over-rise, over-fall, sumℤ, ramp-charge, ramp-value, Steps, ramp-leasts, ramp-leaf-value, RampPrices, ups, downs, Unpriced}
 use Rattle.model.specs.declared.figures.Bound.the-variants.{Never as never, Number as number}
 use Rattle.model.specs.Turns.{in-turn, took, Fewest}
-use Rattle.model.specs.Tree.{Leaf, short, crowd, stuck, price, ramp, Tree, leaf, fork, Narrows, GoodFork, GoodLeaf, HasPrices, LeafHolds, leaf-bound, Limits, bound, tree-figures}
-use Rattle.model.specs.Agreement.{running, Agrees, LeafOf, leaf-at, OneLeaf}
+use Rattle.model.specs.Tree.{Leaf, short, crowd, stuck, price, ramp, Tree, leaf, fork, Narrows, GoodFork, GoodLeaf, HasPrices, LeafHolds, leaf-bound, Limits, Holds, bound, tree-figures}
+use Rattle.model.specs.Agreement.{running, Agrees, LeafOf, above, leaf-at, OneLeaf}
 use Rattle.model.specs.Possible.{Possible, possible, NodeOf, above-node, counts-above}
 use Rattle.model.specs.Unread.{AlikeButMidnight}
 use Rattle.model.proofs.Sides as sides
@@ -40,6 +43,9 @@ use Rattle.model.proofs.EveryLeaf as each-leaf
 use Rattle.model.proofs.RampRules as ramp-rules
 use Rattle.model.proofs.RampLeaf as ramp-leaf
 use Rattle.model.proofs.Narrowing as narrowing
+use Rattle.model.proofs.FirstRuns as first-runs
+use Rattle.model.proofs.LeastRows as rows
+use Rattle.model.proofs.LeafRuns as leaf-runs
 use Rattle.model.proofs.Unread as unread
 use Rattle.walk.specs.Marks.{mark-of, marks-in}
 use Rattle.text.specs.Lines.{Line, ended, later, lines-of, kind-tree, end-problem}
@@ -57,6 +63,8 @@ use Rattle.tree.specs.WellFormed as tree-lines
 use Rattle.tree.proofs.SplitCounts.{split-lines}
 use Rattle.answer.specs.StatedAnswers.{AnswerValues, refused, Carries}
 use Rattle.leaves.specs.declared.short.Taken.{Taken}
+use Rattle.runs.specs.declared.drafting.RunsAnswer.the-variants as runs
+use Rattle.runs.specs.Drafts.{Drafted, draft-under}
 use Rattle.docket.specs.declared.Docket.{Docket}
 use Rattle.docket.specs.declared.taking.TakenAnswer.{TakenAnswer}
 use Rattle.docket.specs.declared.taking.TakenAnswer.the-variants.{NoProblem, Unfit, Taken as taken}
@@ -69,12 +77,14 @@ use Rattle.docket.specs.Promised.{after, answer, given, ScheduleText, Lo
 use Rattle.docket.specs.Specimens.{problem-of, listed-problem, tree-text, count-twice, specimens, Answered}
 use Rattle.docket.specs.Docket.{sound}
 use Rattle.docket.specs.Taking.{FitQuestion, asked, taken-under, taken-of}
-use Rattle.docket.specs.Requested.{NodeLineDue, PartLineDue, TakenThere, Told, AsAsked, Midnight, in-period-1, UnitLineDue}
+use Rattle.docket.specs.Drafting.{runs-of}
+use Rattle.docket.specs.Requested.{NodeLineDue, PartLineDue, TakenThere, Told, AsAsked, Midnight, in-period-1, UnitLineDue, DraftTold, status-bytes}
 use Rattle.docket.proofs.SpecimenTexts.{is-listed-problem}
 use Rattle.docket.proofs.SpecimenList.{specimens-answered}
 use Rattle.docket.proofs.CountLines as count-lines
 use Rattle.docket.proofs.RampLines as ramp-texts
 use Rattle.docket.proofs.UnitsTold as telling
+use Rattle.docket.proofs.RunsTold as drafting
 use Rattle.docket.proofs.Midnight as midnight
 use Rattle.docket.proofs.Promises as promises
 
@@ -253,6 +263,50 @@ ramp-holds P A q s l = refl
 pub ramps-unread : (P : Instance) (A B : Above) → A .marks ≡ B .marks → (q s : List ℕ) (l : List RampPrices) → leaf-bound P A (ramp q s l) ≡ leaf-bound P B (ramp q s l)
 ramps-unread = ignored.ramps-ignore
 
+-- ---- [7] The run behind a minimum
+
+module _ (n : ℕ) (q s : ℕ → ℕ) (g : Generator) (good : GoodUnit g) (m : ℕ → Mark) (free : T (not (is-stuck n g m))) where
+  -- The single-unit minimum gives a run that attains it: n outputs that obey (4) and (5) to (10) and agree with the marks, and whose value is the minimum
+  pub run-attains : Attains n q s g m (least-row n q s g m)
+  run-attains = rows.least-row-attains n q s g good m free
+
+  -- Among equals it is off rather than on in the first period that differs, and then has the smallest output; no other run is and has
+  pub run-precedes : (r : List ℕ) → Attains n q s g m r → Precedes (least-row n q s g m) r × (Precedes r (least-row n q s g m) → r ≡ least-row n q s g m)
+  run-precedes r a = (rows.least-row-precedes n q s g good m free r a, rows.only-precedes n q s g good m free r a)
+
+  -- It is the same run whether outputs are compared period by period, off being 0, or the statuses of all periods first and the outputs after
+  pub run-by-outputs : (r : List ℕ) → Attains n q s g m r → ByOutputs (least-row n q s g m) r × (ByOutputs r (least-row n q s g m) → r ≡ least-row n q s g m)
+  run-by-outputs r a = (rows.least-row-outputs n q s g good m free r a, rows.only-outputs n q s g good m free r a)
+
+  pub run-by-statuses : (r : List ℕ) → Attains n q s g m r → ByStatuses (least-row n q s g m) r × (ByStatuses r (least-row n q s g m) → r ≡ least-row n q s g m)
+  run-by-statuses r a = (rows.least-row-statuses n q s g good m free r a, rows.only-statuses n q s g good m free r a)
+
+  -- It is the run that the code follows: forward from the state before period 1, off where the value of that is no larger, else on at the best output; and
+  -- counts of periods beyond TU on and TD + Tcold + 1 off make no difference to it
+  pub run-walked : (least-row n q s g m ≡ walked-row n q s g m)
+      × ((w : ℕ → Bool → ℕ) (b : Bool) (k : ℕ) → first-run n g m w b (min k (cap g b)) ≡ first-run n g m w b k)
+  run-walked = (rows.least-row-walk n q s g good m free, first-runs.first-run-cap g n m)
+
+-- A price leaf gives, for each period, how far the runs fall short of D: with it they give D, and it is 0 where they give as much or more
+pub falls-short : (P : Instance) (rs : Schedule) (t : ℕ)
+    → (output P rs t < P .demand at t → output P rs t + shortfall P rs t ≡ P .demand at t) × (P .demand at t ≤ output P rs t → shortfall P rs t ≡ 0)
+falls-short = leaf-runs.shortfall-is
+
+-- What a docket tells who asks is, of every value of it, what `DraftTold` says (docket/specs/Requested.antt) under the problem by which it judges, with what the slices
+-- that are lent then hold; and one answer alone is that. A question has a price leaf's multipliers: of a ramp leaf none can be asked, and none is told
+pub draft-anywhere : (q s fixed rows short : List ℕ) (d : Docket) → Long d → (o : Option Instance) → JudgesBy d o → DraftTold q s fixed rows short o (runs-of d q s fixed rows short)
+draft-anywhere = drafting.told-anywhere
+
+pub draft-one : (q s fixed rows short : List ℕ) (o : Option Instance) (x y : Drafted) → DraftTold q s fixed rows short o x → DraftTold q s fixed rows short o y → x ≡ y
+draft-one = drafting.told-one
+
+-- Of every price leaf of an accepted tree, with the statuses that are fixed above it, the answer is its value, which is its part in the tree's bound
+pub leaf-gives : (P : Instance) → WellFormed P → (t : Tree) → Limits P root 0 t → Holds P root t → (i : LeafOf t) (q s : List ℕ) → leaf-at t i ≡ price q s
+    → (rows short : List ℕ) → length rows ≡ length (P .units) * P .periods → length short ≡ P .periods
+    → (draft-under P q s (status-bytes (length (P .units)) (P .periods) (above root t i .marks)) rows short .answer ≡ runs.Found (leaf-value P (above root t i .marks) (λ t. q at t) (λ t. s at t)))
+    × (leaf-bound P (above root t i) (leaf-at t i) ≡ number (leaf-value P (above root t i .marks) (λ t. q at t) (λ t. s at t)))
+leaf-gives = drafting.leaf-gives
+
 -- For every list of texts, lodged in turn in a fresh docket: vs is what they are, `given vs` the problem that they gave, `answer texts text` the answer to
 -- one text more
 module _ (texts : List (List ℕ)) (vs : List Verdict) (are : Are none texts vs) where
@@ -308,6 +362,11 @@ module _ (texts : List (List ℕ)) (vs : List Verdict) (are : Are none texts vs)
 
   pub units-told : (period most : ℕ) (fixed : List ℕ) → Told period most fixed (given vs) (taken-of (after texts) period most fixed)
   units-told = telling.told-after texts vs are
+
+  -- ---- [7] again: asked of the docket after the texts
+
+  pub draft-told : (q s fixed rows short : List ℕ) → DraftTold q s fixed rows short (given vs) (runs-of (after texts) q s fixed rows short)
+  draft-told q s f r g = drafting.told-after q s f r g texts vs are
 
   -- ---- [3] Yesterday's last output
 

@@ -5,6 +5,7 @@ pub mod Lodging
 pub mod Report
 pub mod Taking
 pub mod TakingExamples
+pub mod Drafting
 pub mod Texts
 pub mod ReportDue
 pub mod Demand3

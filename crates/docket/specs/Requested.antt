@@ -1,21 +1,27 @@
 -- The words of the page of what document 02 asks beyond demands 1 to 3.
 use mathlib.Core.Path.{_≡_}
-use mathlib.Core.Bool.{true, not}
-use mathlib.Core.List.{List, _∷_, _++_}
+use mathlib.Core.Bool.{true, false, not}
+use mathlib.Core.List.{List, [], _∷_, _++_, map, flatten}
 use mathlib.Core.Logic.{_↔_}
 use mathlib.Core.Option.{Option, none, some}
-use Prim.Native.Nat.{ℕ, suc, _+_, _*_, _-_, _<_}
+use Prim.Native.Nat.{ℕ, zero, suc, _+_, _*_, _-_, _<_}
 use lib.Dec.{T}
-use lib.ListN.{length}
+use lib.IntN.{pos, _+ℤ_}
+use lib.ListN.{length, getD}
 use Rattle.model.specs.declared.generator.Generator.{Generator}
-use Rattle.model.specs.Instance.{Instance, _at_}
+use Rattle.model.specs.Instance.{Instance, Schedule, _at_}
 use Rattle.model.specs.Ranges.{Between}
+use Rattle.model.specs.Held.{blank-generator}
 use Rattle.model.specs.Breach.{Breach}
-use Rattle.model.specs.Above.{Above, root}
-use Rattle.model.specs.Leaf.{available}
+use Rattle.model.specs.Above.{Mark, free, fixed, Marks, rest, Above, root}
+use Rattle.model.specs.Leaf.{range, available, stuck-at, requirement, leaf-value}
+use Rattle.model.specs.Runs.{Attains, Precedes, rows-value, shortfalls}
 use Rattle.model.specs.Turns.{in-turn, Fewest}
 use Rattle.walk.specs.Marks.{mark-of, most-of}
 use Rattle.leaves.specs.declared.short.Taken.{Taken}
+use Rattle.runs.specs.declared.drafting.RunsAnswer.the-variants as runs
+use Rattle.runs.specs.Drafts as drafts
+use Rattle.runs.specs.Drafts.{Drafted, unwritten, marks-asked}
 use Rattle.text.specs.Lines.{Line, later, lines-of, kind-problem, kind-tree}
 use Rattle.text.specs.LineRefused.{Beginning}
 use Rattle.problem.specs.Units.{unit-form}
@@ -100,3 +106,43 @@ pub record PartLineDue (P : Instance) (text : List ℕ) (before : List Line) (x 
   pub nodes-before : ℕ
   pub after-writer : length before ≡ suc nodes-before
   pub place : LineAt root 0 (some-tree .tree) nodes-before (part-at A p)
+
+-- ---- [7] The run behind a minimum
+
+-- unit u, counted from 0, is stuck, and none before it
+pub record FirstStuck (P : Instance) (m : Marks) (u : ℕ) : Type 0 where
+  pub inside : u < length (P .units)
+  pub stuck : T (stuck-at (P .periods) (P .units) m u)
+  pub before : (v : ℕ) → v < u → T (stuck-at (P .periods) (P .units) m v) → ⊥
+
+-- a unit's run: one of the rows over which its least value is taken, it has that value, and it precedes every other that has it
+pub record FirstRun (n : ℕ) (q s : ℕ → ℕ) (g : Generator) (m : ℕ → Mark) (r : List ℕ) : Type 0 where
+  pub attains : Attains n q s g m r
+  pub precedes : (r′ : List ℕ) → Attains n q s g m r′ → Precedes r r′
+
+-- the runs of a price leaf, one for each unit; their values and what the periods require are the leaf's value
+pub record LeafRuns (P : Instance) (m : Marks) (q s : ℕ → ℕ) (runs : Schedule) : Type 0 where
+  pub long : length runs ≡ length (P .units)
+  pub each : (u : ℕ) → u < length (P .units) → FirstRun (P .periods) q s (getD (P .units) u blank-generator) (m u) (getD runs u [])
+  pub value : rows-value (P .periods) q s (P .units) runs +ℤ pos (requirement P q s) ≡ leaf-value P m q s
+
+-- what is told where this problem, or none, is the one judged by, and what the slices for the runs and the shortfalls then hold: that there is none; that the question does
+-- not fit it; the first stuck unit, from 1; or the leaf's value, its runs one after the other, and for each period how far they fall short of D. In all but the last the slices
+-- are as they were
+pub data DraftTold (q s fixed rows short : List ℕ) : Option Instance → Drafted → Type 0 where
+  no-problem : DraftTold q s fixed rows short none (unwritten rows short runs.NoProblem)
+  unfit : {P : Instance} → (drafts.FitQuestion P q s fixed rows short → ⊥) → DraftTold q s fixed rows short (some P) (unwritten rows short runs.Unfit)
+  stuck : {P : Instance} {u : ℕ} → drafts.FitQuestion P q s fixed rows short → FirstStuck P (marks-asked P fixed) u → DraftTold q s fixed rows short (some P) (unwritten rows short (runs.Stuck (suc u)))
+  found : {P : Instance} {rs : Schedule} → drafts.FitQuestion P q s fixed rows short → LeafRuns P (marks-asked P fixed) (λ t. q at t) (λ t. s at t) rs
+      → DraftTold q s fixed rows short (some P) (record { answer = runs.Found (leaf-value P (marks-asked P fixed) (λ t. q at t) (λ t. s at t)); rows = flatten rs; short = shortfalls P rs })
+
+-- a status as a byte: 0 free, 1 fixed off, 2 fixed on
+abbrev pub status-byte : Mark → ℕ
+status-byte free = 0
+status-byte (fixed false) = 1
+status-byte (fixed true) = 2
+
+-- the statuses of I units in T periods, unit u's from u·T on
+abbrev pub status-bytes : ℕ → ℕ → Marks → List ℕ
+status-bytes zero T m = []
+status-bytes (suc I) T m = map (λ t. status-byte (m 0 t)) (range 0 T) ++ status-bytes I T (rest m)

@@ -10,16 +10,12 @@ use Rattle.model.specs.Instance.{Instance}
 use Rattle.model.specs.Ranges.{Between, All, every, between}
 use Rattle.model.specs.Held.{view}
 use Rattle.model.specs.Above.{Above, put}
-use Rattle.walk.specs.Marks.{most-of, marks-in}
+use Rattle.walk.specs.Marks.{is-status, most-of, marks-in}
 use Rattle.leaves.specs.LeafLeasts.{taken-in}
 use Rattle.docket.specs.declared.Docket.{Docket}
 use Rattle.docket.specs.declared.taking.TakenAnswer.{TakenAnswer}
 use Rattle.docket.specs.declared.taking.TakenAnswer.the-variants as answer
 use Rattle.docket.specs.Lodging.{trusted}
-
--- a status: 0 free, 1 fixed off, 2 fixed on
-abbrev pub is-status : ℕ → Bool
-is-status b = leb b 2
 
 -- the question fits I units in T periods: a period from 1 to T; no upper count, or one below I, by a number that is 0 for none and else one more; I·T statuses
 abbrev pub fits-in : ℕ → ℕ → ℕ → ℕ → List ℕ → Bool

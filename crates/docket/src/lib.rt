@@ -1,9 +1,10 @@
-// The docket: what it holds, what lodging a text answers, its report, and what it tells of the units that `short` takes.
+// The docket: what it holds, what lodging a text answers, its report, and what it tells of the units that `short` takes and of the runs behind a price leaf's value.
 ghost use mathlib.Core.Path.{_≡_};
 ghost use Rattle.docket.specs.Docket.{fresh-docket};
 ghost use Rattle.docket.specs.Lodging.{lodge-of};
 ghost use Rattle.docket.specs.Report.{report-of, buffer-of};
 ghost use Rattle.docket.specs.Taking.{taken-of};
+ghost use Rattle.docket.specs.Drafting.{runs-of};
 use crate::admission::Admission;
 use crate::held::Held;
 use crate::held::HeldBound;
@@ -12,6 +13,8 @@ use crate::taking::TakenAnswer;
 use answer::Answer;
 use model::arrays::Problem;
 use report::ReportAnswer;
+use runs::drafting::RunsAnswer;
+use runs::drafting::answer_runs;
 
 pub mod admission;
 mod figures;
@@ -101,5 +104,26 @@ impl Docket {
             return taking::answer_taken(problem, period, most, fixed);
         }
         TakenAnswer::NoProblem
+    }
+
+    // The value of a price leaf with these multipliers under these statuses, with the units' runs in `rows`, unit u's from u times the periods on, and in `short` how far
+    // they fall short of the demand of each period; or why there is none, and both are as they were. A docket that is not sound knows no problem.
+    pub fn cheapest_runs(
+        self,
+        q: &[u64],
+        s: &[u64],
+        fixed: &[u8],
+        rows: &mut [u64],
+        short: &mut [u64],
+    ) -> RunsAnswer
+        ensures answer { λ r. ⌜ r ≡ runs-of self (now (q .entry)) (now (s .entry)) (now (fixed .entry)) (now (rows .entry)) (now (short .entry)) .answer ⌝ }
+        ensures rows { λ _. ⌜ now (rows .exit) ≡ runs-of self (now (q .entry)) (now (s .entry)) (now (fixed .entry)) (now (rows .entry)) (now (short .entry)) .rows ⌝ }
+        ensures short { λ _. ⌜ now (short .exit) ≡ runs-of self (now (q .entry)) (now (s .entry)) (now (fixed .entry)) (now (rows .entry)) (now (short .entry)) .short ⌝ }
+    {
+        if sound::knows(self) {
+            let problem = self.problem;
+            return answer_runs(problem, q, s, fixed, rows, short);
+        }
+        RunsAnswer::NoProblem
     }
 }

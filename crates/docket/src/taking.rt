@@ -4,12 +4,12 @@ ghost use mathlib.Core.Bool.{true};
 ghost use mathlib.Core.List.{_++_};
 ghost use Prim.Native.Nat.{_-_, _≤_};
 ghost use lib.ListN.{length, drop};
-ghost use Rattle.model.specs.Ranges.{every};
 ghost use Rattle.model.specs.Held.{view, Valid};
 ghost use Rattle.leaves.specs.LeafLeasts.{taken-in};
-ghost use Rattle.docket.specs.Taking.{is-status, fits-in, fits, asked, taken-under};
+ghost use Rattle.docket.specs.Taking.{fits-in, fits, asked, taken-under};
 use layout::ranking::lay_out_ranked;
 use leaves::counts::UPPER;
+use leaves::marks::are_statuses;
 use leaves::short::Taken;
 use leaves::short::sum_until;
 use model::arrays::Problem;
@@ -19,20 +19,6 @@ pub enum TakenAnswer {
     NoProblem,
     Unfit,
     Taken(Taken),
-}
-
-// Whether every byte is a status.
-fn are_statuses(fixed: &[u8]) -> bool
-    ensures { λ r. ⌜ r ≡ every is-status (now (fixed .entry)) ⌝ }
-{
-    let mut i = 0;
-    while i < fixed.len() {
-        if 2 < fixed[i] {
-            return false;
-        }
-        i += 1;
-    }
-    true
 }
 
 // Whether the question fits so many units in so many periods.

@@ -13,7 +13,7 @@ use ghost.Atoms.{Atoms}
 use Rattle.list.specs.Listing.{listed-of, output-of}
 use Rattle.docket_host.specs.HostAnswer.{host-answer}
 use Rattle.state.specs.Layout.{numbers-count, rows-count}
-use Rattle.docket_host.specs.Calls.{rules, fresh-answer, fresh-numbers, fresh-rows, lodge-answer, lodge-numbers, lodge-rows, lodge-line, lodge-values, report-answer, report-bytes, outputs-answer, outputs-rows, taken-answer, taken-numbers}
+use Rattle.docket_host.specs.Calls.{rules, fresh-answer, fresh-numbers, fresh-rows, lodge-answer, lodge-numbers, lodge-rows, lodge-line, lodge-values, report-answer, report-bytes, outputs-answer, outputs-rows, taken-answer, taken-numbers, runs-answer, runs-rows, runs-short, runs-value}
 use Rattle.docket_host.proofs.docket_rules as rules-asked
 use Rattle.docket_host.proofs.docket_numbers as numbers-asked
 use Rattle.docket_host.proofs.docket_rows as rows-asked
@@ -22,6 +22,7 @@ use Rattle.docket_host.proofs.docket_lodge as lodge
 use Rattle.docket_host.proofs.docket_report as report
 use Rattle.docket_host.proofs.docket_outputs as outputs
 use Rattle.docket_host.proofs.docket_units_taken as units-taken
+use Rattle.docket_host.proofs.docket_cheapest_runs as cheapest-runs
 use Rattle.docket_host.proofs.docket_listing as listing
 
 module _ {M : Type 1} (𝓤 : URA M) (H : Heap 𝓤) (A : Atoms 𝓤) (m : Memory → SProp 𝓤) (run : Routine → Fun 𝓤) where
@@ -90,6 +91,27 @@ module _ {M : Type 1} (𝓤 : URA M) (H : Heap 𝓤) (A : Atoms 𝓤) (m : Memor
             (fact 𝓤 (now (e .1 .1 .1 .1 .1 .0) ≡ taken-numbers (now (a .0)) (now (a .1 .0)) (a .1 .1 .0) (a .1 .1 .1 .0) (now (a .1 .1 .1 .1 .0)) (now (a .1 .1 .1 .1 .1 .0))));
       })
   units-taken-says = refl
+
+  -- docket_cheapest_runs(numbers, rows, q, s, fixed, runs, short, value)
+  pub cheapest-runs-says : cheapest-runs.spec 𝓤 H A m run
+      ≡ closing 𝓤 H A cheapest-runs.ended (λ κs a. record {
+        ghost = Unit {0};
+        requires = λ g. emp 𝓤;
+        ensures = λ g r e.
+            let v = now (a .0) in
+            let w = now (a .1 .0) in
+            let q = now (a .1 .1 .0) in
+            let s = now (a .1 .1 .1 .0) in
+            let fixed = now (a .1 .1 .1 .1 .0) in
+            let runs = now (a .1 .1 .1 .1 .1 .0) in
+            let short = now (a .1 .1 .1 .1 .1 .1 .0) in
+            let value = now (a .1 .1 .1 .1 .1 .1 .1 .0) in
+            sep 𝓤 (fact 𝓤 (r ≡ runs-answer v w q s fixed runs short value))
+            (sep 𝓤 (fact 𝓤 (now (e .1 .1 .1 .1 .1 .0) ≡ runs-rows v w q s fixed runs short value))
+            (sep 𝓤 (fact 𝓤 (now (e .1 .1 .1 .1 .1 .1 .0) ≡ runs-short v w q s fixed runs short value))
+            (fact 𝓤 (now (e .1 .1 .1 .1 .1 .1 .1 .0) ≡ runs-value v w q s fixed runs short value))));
+      })
+  cheapest-runs-says = refl
 
   -- docket_listing(input, output)
   pub listing-says : listing.spec 𝓤 H A m run

@@ -2,12 +2,14 @@
 use mathlib.Core.Path.{_≡_, refl}
 use mathlib.Core.Bool.{true, false}
 use Prim.Native.Nat.{_-_, _^_}
+use lib.IntN.{pos, negℤ}
 use lib.ListN.{replicate}
 use Rattle.docket_host.specs.HostAnswer.{too-little-room}
 use Rattle.state.specs.Layout.{numbers-count, rows-count}
 use mathlib.Core.List.{[], _∷_}
 use Rattle.docket.specs.declared.taking.TakenAnswer.the-variants.{NoProblem, Unfit, Taken}
-use Rattle.docket_host.specs.Calls.{rules, no-docket, lodge-room, outputs-room, taken-room, taken-number, taken-written}
+use Rattle.runs.specs.declared.drafting.RunsAnswer.the-variants as runs
+use Rattle.docket_host.specs.Calls.{rules, no-docket, lodge-room, outputs-room, taken-room, taken-number, taken-written, runs-number, value-told}
 
 lodge-enough : lodge-room (replicate 618 0) (replicate 1536 0) (replicate 128 0) (replicate 16 0) ≡ true
 lodge-enough = refl
@@ -48,3 +50,10 @@ the-answers = (refl, (refl, refl))
 the-places : (taken-written (Taken (record { short = true; units = 5 })) (7 ∷ 7 ∷ 7 ∷ []) ≡ 1 ∷ 5 ∷ 7 ∷ [])
     × (taken-written (Taken (record { short = false; units = 5 })) (7 ∷ 7 ∷ 7 ∷ []) ≡ 0 ∷ 5 ∷ 7 ∷ [])
 the-places = (refl, refl)
+
+-- the numbers of enum docket_runs_answer, and the value that is told
+the-runs : (runs-number runs.NoProblem ≡ 1) × ((runs-number runs.Unfit ≡ 2) × ((runs-number (runs.Stuck 1) ≡ 101) × ((runs-number (runs.Stuck 32) ≡ 132) × (runs-number (runs.Found (negℤ (pos 5))) ≡ 0))))
+the-runs = (refl, (refl, (refl, (refl, refl))))
+
+the-value : (value-told (runs.Found (negℤ (pos 5))) (pos 7 ∷ []) ≡ negℤ (pos 5) ∷ []) × (value-told (runs.Stuck 1) (pos 7 ∷ []) ≡ pos 7 ∷ [])
+the-value = (refl, refl)

@@ -2,12 +2,13 @@
 -- state after `docket_fresh` on any two slices that are long enough and then calls of `docket_lodge`, each with a text and with a line and values that
 -- are lent for its answer; `after texts` and `answer texts text` are the docket and the answer of the page of promises
 -- (crates/docket/proofs/Promises.antt), so that all of that page holds of them.
-use mathlib.Core.Path.{_≡_}
-use mathlib.Core.Bool.{true, false}
+use mathlib.Core.Path.{_≡_, refl}
+use mathlib.Core.Bool.{true, false, cond}
 use mathlib.Core.List.{List, [], flatten}
 use mathlib.Core.Logic.{_↔_, _⊎_}
 use mathlib.Core.Option.{none, some}
 use Prim.Native.Nat.{ℕ, _+_, _≤_, _<_}
+use lib.IntN.{ℤ}
 use lib.ListN.{length, take, drop}
 use Rattle.model.specs.Instance.{Instance, _at_}
 use Rattle.model.specs.Best.{FirstLeast}
@@ -27,6 +28,8 @@ use Rattle.docket.specs.Demand3.{Unheld}
 use Rattle.docket.specs.ReportDue.{ReportDue}
 use Rattle.docket.specs.Promised.{after, answer, given}
 use Rattle.docket.specs.Taking.{taken-of}
+use Rattle.runs.specs.declared.drafting.RunsAnswer.the-variants as runs
+use Rattle.docket.specs.Drafting.{runs-of}
 use Rattle.docket.proofs.Promises as promised
 use Rattle.state.specs.Layout.{numbers-count, rows-count, layout-mark, docket-in}
 use Rattle.state.specs.Kept.{long, holds, kept-numbers, kept-rows, State, docket-kept, HoldsDocket, outputs-of}
@@ -36,9 +39,11 @@ use Rattle.state.proofs.Again as again
 use Rattle.state.proofs.ReachedFits as reached
 use Rattle.state.proofs.Outputs as held
 use Rattle.docket_host.specs.HostAnswer.{too-little-room, host-answer}
-use Rattle.docket_host.specs.Calls.{no-docket, lends, lodge-room, fresh-answer, fresh-numbers, fresh-rows, lodge-answer, lodge-numbers, lodge-rows, lodge-line, lodge-values, report-answer, report-bytes, outputs-room, outputs-answer, outputs-rows, taken-room, taken-number, taken-written, taken-answer, taken-numbers}
+use Rattle.docket_host.specs.Calls.{no-docket, lends, lodge-room, fresh-answer, fresh-numbers, fresh-rows, lodge-answer, lodge-numbers, lodge-rows, lodge-line, lodge-values, report-answer, report-bytes, outputs-room, outputs-answer, outputs-rows, taken-room, taken-number, taken-written, taken-answer, taken-numbers, runs-number, value-told, runs-answer}
 use Rattle.docket_host.specs.Lending.{Lending, heard, fresh-state, after-calls, HostReport}
 use Rattle.docket_host.proofs.Calls as call
+use Rattle.docket_host.proofs.RunsCalls as runs-call
+use Rattle.docket_host.proofs.RunsCalls.{Tells}
 use Rattle.docket_host.proofs.Hosted as hosted
 use Rattle.docket_host.proofs.AfterCalls as state
 use Rattle.docket_host.proofs.HostAnswers as host
@@ -58,6 +63,8 @@ use Rattle.docket_host.proofs.docket_outputs.Statement as outputs
 use Rattle.docket_host.proofs.docket_outputs.Met as outputs-met
 use Rattle.docket_host.proofs.docket_units_taken.Statement as units-taken
 use Rattle.docket_host.proofs.docket_units_taken.Met as units-taken-met
+use Rattle.docket_host.proofs.docket_cheapest_runs.Statement as cheapest-runs
+use Rattle.docket_host.proofs.docket_cheapest_runs.Met as cheapest-runs-met
 use Rattle.docket_host.proofs.docket_listing.Statement as listing
 use Rattle.docket_host.proofs.docket_listing.Met as listing-met
 
@@ -65,8 +72,8 @@ use Rattle.docket_host.proofs.docket_listing.Met as listing-met
 -- back (Contracts.antt), so that the definitions named below (specs/Calls.antt) are what the calls do
 
 pub calls-end : {M : Type 1} → rules.statement M × numbers-asked.statement M × rows-asked.statement M × fresh.statement M × lodge.statement M × report.statement M
-    × outputs.statement M × units-taken.statement M × listing.statement M
-calls-end = (rules-met.met, numbers-met.met, rows-met.met, fresh-met.met, lodge-met.met, report-met.met, outputs-met.met, units-taken-met.met, listing-met.met)
+    × outputs.statement M × units-taken.statement M × cheapest-runs.statement M × listing.statement M
+calls-end = (rules-met.met, numbers-met.met, rows-met.met, fresh-met.met, lodge-met.met, report-met.met, outputs-met.met, units-taken-met.met, cheapest-runs-met.met, listing-met.met)
 
 -- ---- What is asked for. A state has room exactly in as many numbers and rows as the calls say, and slices with room hold a docket exactly where they begin
 -- with the mark and the docket that they are read as is sound
@@ -116,6 +123,14 @@ pub taken-none : (v w : List ℕ) (period most : ℕ) (fixed o : List ℕ) → t
     → (no-docket ≡ taken-answer v w period most fixed o) × (o ≡ taken-numbers v w period most fixed o)
 taken-none = call.taken-none
 
+-- `Tells` (proofs/RunsCalls.antt) says of a number and of three lists that they are what `docket_cheapest_runs` answers and what its three slices then hold
+
+pub runs-short : (v w q s fixed rows short : List ℕ) (value : List ℤ) → long v w ≡ false → Tells v w q s fixed rows short value too-little-room rows short value
+runs-short = runs-call.runs-small
+
+pub runs-none : (v w q s fixed rows short : List ℕ) (value : List ℤ) → long v w ≡ true → holds v w ≡ false → Tells v w q s fixed rows short value no-docket rows short value
+runs-none = runs-call.runs-empty
+
 -- Of slices that hold a docket, whoever wrote them: no length of a line and no count of outputs is one of the two numbers
 
 pub length-apart : (v w text line values : List ℕ) → lodge-room v w line values ≡ true → holds v w ≡ true → lodge-answer v w text line values < no-docket
@@ -132,6 +147,23 @@ taken-any = call.taken-by
 
 pub taken-apart : (v w : List ℕ) (period most : ℕ) (fixed o : List ℕ) → taken-room v w o ≡ true → holds v w ≡ true → taken-answer v w period most fixed o ≤ 2
 taken-apart = call.taken-apart
+
+-- The same of the runs of a price leaf (`draft-anywhere` there), where the slice for the value is of length 1; where it is not, the question is unfit, or there is no problem.
+-- What is told is 0, 1, 2 or 101 to 132
+pub runs-any : (v w q s fixed rows short : List ℕ) (value : List ℤ) → long v w ≡ true → holds v w ≡ true → length value ≡ 1
+    → let told = runs-of (docket-in v w) q s fixed rows short in
+    Tells v w q s fixed rows short value (runs-number (told .answer)) (told .rows) (told .short) (value-told (told .answer) value)
+runs-any v w q s fixed rows short value e i one =
+    let told = runs-of (docket-in v w) q s fixed rows short in
+    runs-call.runs-done v w q s fixed rows short value e i one (docket-in v w) refl (told .answer) refl (told .rows) refl (told .short) refl (runs-number (told .answer)) refl
+    (value-told (told .answer) value) refl
+
+pub runs-other : (v w q s fixed rows short : List ℕ) (value : List ℤ) → long v w ≡ true → holds v w ≡ true → (length value ≡ 1 → ⊥)
+    → Tells v w q s fixed rows short value (runs-number (cond (docket-in v w .known) runs.Unfit runs.NoProblem)) rows short value
+runs-other v w q s fixed rows short value e i other = runs-call.runs-other v w q s fixed rows short value e i other (docket-in v w) refl (docket-in v w .known) refl
+
+pub runs-apart : (v w q s fixed rows short : List ℕ) (value : List ℤ) → long v w ≡ true → holds v w ≡ true → runs-answer v w q s fixed rows short value ≤ 132
+runs-apart = runs-call.runs-apart
 
 -- Of any slices: a text that would be refused or passed leaves the state as it was
 pub unheld-leaves : (v w text line values : List ℕ) → Unheld (stated (lodge-of (docket-in v w) text .answer))
@@ -150,7 +182,7 @@ pub values-tell : (s t : Stated) → answer-numbers s ≡ answer-numbers t → s
 values-tell = numbers.numbers-tell
 
 -- ---- After every list of calls, from a fresh state. `heard calls` are the texts of those that were lent enough; the others do nothing. `docket_report`,
--- `docket_outputs` and `docket_units_taken` only read the state, so that they may be called in between
+-- `docket_outputs`, `docket_units_taken` and `docket_cheapest_runs` only read the state, so that they may be called in between
 
 module _ (v w : List ℕ) (room : long v w ≡ true) (calls : List Lending) where
   abbrev s : State
@@ -201,6 +233,12 @@ module _ (v w : List ℕ) (room : long v w ≡ true) (calls : List Lending) wher
       → (taken-answer (s .numbers) (s .rows) period most fixed o ≡ taken-number (taken-of (after texts) period most fixed))
       × (taken-numbers (s .numbers) (s .rows) period most fixed o ≡ taken-written (taken-of (after texts) period most fixed) o)
   taken-told = hosted.taken-told s (after texts) state-holds
+
+  -- The runs, shortfalls and value of a price leaf that are told are those of the docket after the texts (`draft-told` there)
+  pub runs-told : (q r fixed rows short : List ℕ) (value : List ℤ) → length value ≡ 1
+      → let told = runs-of (after texts) q r fixed rows short in
+      Tells (s .numbers) (s .rows) q r fixed rows short value (runs-number (told .answer)) (told .rows) (told .short) (value-told (told .answer) value)
+  runs-told = hosted.runs-told s (after texts) state-holds
 
   -- A report's length is at most 171, or too little room is said; in 256 bytes there is room
   pub report-length : (b : List ℕ) (k : ℕ) → (report-answer (s .numbers) (s .rows) b k ≤ 171) ⊎ (report-answer (s .numbers) (s .rows) b k ≡ too-little-room)

@@ -6,6 +6,7 @@ use mathlib.Core.Logic.{_⊎_, inl, inr}
 use mathlib.Core.Option.{none}
 use Prim.Native.Nat.{ℕ, _+_, _≤_}
 use native.Mathlib.Omega.{arith}
+use lib.IntN.{ℤ}
 use lib.ListN.{length}
 use borrow.Author.Tests.{le-leb}
 use Rattle.writer.specs.Written.{over}
@@ -26,6 +27,8 @@ use Rattle.docket.specs.Report.{text-shown, report-of, buffer-of}
 use Rattle.docket.specs.ReportDue.{WrittenOr43, ReportDue}
 use Rattle.docket.specs.Promised.{after, answer}
 use Rattle.docket.specs.Taking.{taken-of}
+use Rattle.docket.specs.Drafting.{runs-of}
+use Rattle.runs.specs.Drafts.{Drafted}
 use Rattle.docket.proofs.Lists.{reached-sound}
 use Rattle.docket.proofs.ReportSizes.{reached-most}
 use Rattle.docket.proofs.Promises.{reports}
@@ -33,9 +36,10 @@ use Rattle.state.specs.Kept.{State, state-next, HoldsDocket, outputs-count, out
 use Rattle.state.proofs.ReachedFits.{reached-fits}
 use Rattle.state.proofs.Outputs.{outputs-long}
 use Rattle.docket_host.specs.HostAnswer.{too-little-room}
-use Rattle.docket_host.specs.Calls.{lends, lodge-room, lodge-answer, lodge-line, lodge-values, report-number, report-answer, report-bytes, outputs-room, outputs-answer, outputs-rows, taken-room, taken-number, taken-written, taken-answer, taken-numbers}
+use Rattle.docket_host.specs.Calls.{lends, lodge-room, lodge-answer, lodge-line, lodge-values, report-number, report-answer, report-bytes, outputs-room, outputs-answer, outputs-rows, taken-room, taken-number, taken-written, taken-answer, taken-numbers, runs-number, value-told}
 use Rattle.docket_host.specs.Lending.{Lending, called, HostReport}
 use Rattle.docket_host.proofs.Calls.{lodge-by, report-by, outputs-by, taken-by}
+use Rattle.docket_host.proofs.RunsCalls.{Tells, runs-done}
 
 -- ---- one call
 
@@ -135,3 +139,14 @@ module _ (s : State) (d : Docket) (h : HoldsDocket s d) (period most : ℕ) (fix
   taken-told =
       let t = taken-by (s .numbers) (s .rows) period most fixed o taken-room-is (h .is) in
       (sym (t .0) ∙ ap (λ (x : Docket). taken-number (taken-of x period most fixed)) (h .docket-is), sym (t .1) ∙ ap (λ (x : Docket). taken-written (taken-of x period most fixed) o) (h .docket-is))
+
+-- ---- the runs of a price leaf
+
+module _ (s : State) (d : Docket) (h : HoldsDocket s d) (q r fixed rows short : List ℕ) (value : List ℤ) (one : length value ≡ 1) where
+  abbrev draft : Drafted
+  draft = runs-of d q r fixed rows short
+
+  pub runs-told : Tells (s .numbers) (s .rows) q r fixed rows short value (runs-number (draft .answer)) (draft .rows) (draft .short) (value-told (draft .answer) value)
+  runs-told =
+      runs-done (s .numbers) (s .rows) q r fixed rows short value (h .room) (h .is) one d (sym (h .docket-is)) (draft .answer) refl (draft .rows) refl (draft .short) refl
+      (runs-number (draft .answer)) refl (value-told (draft .answer) value) refl

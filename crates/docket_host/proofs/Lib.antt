@@ -2,6 +2,7 @@
 pub mod ListingSizes
 pub mod HostAnswers
 pub mod Calls
+pub mod RunsCalls
 pub mod Hosted
 pub mod AfterCalls
 pub mod Contracts

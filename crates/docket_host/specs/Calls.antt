@@ -1,8 +1,9 @@
 -- What the calls on an open docket answer, and what every slice that they are lent then holds. v and w are the two slices of its state.
 use mathlib.Core.Bool.{Bool, false, cond}
 use mathlib.Core.List.{List, [], _∷_}
-use Prim.Native.Nat.{ℕ}
-use lib.Dec.{ltb, leb}
+use Prim.Native.Nat.{ℕ, _+_, _≤_}
+use lib.Dec.{eqb, ltb, leb}
+use lib.IntN.{ℤ}
 use lib.ListN.{length}
 use Rattle.writer.specs.Written.{over}
 use Rattle.answer.specs.StatedAnswers.{Stated, stated}
@@ -17,6 +18,10 @@ use Rattle.docket.specs.Report.{report-of, buffer-of}
 use Rattle.docket.specs.declared.taking.TakenAnswer.{TakenAnswer}
 use Rattle.docket.specs.declared.taking.TakenAnswer.the-variants.{NoProblem, Unfit, Taken}
 use Rattle.docket.specs.Taking.{taken-of}
+use Rattle.runs.specs.declared.drafting.RunsAnswer.{RunsAnswer}
+use Rattle.runs.specs.declared.drafting.RunsAnswer.the-variants as runs
+use Rattle.runs.specs.Drafts.{Drafted, unwritten}
+use Rattle.docket.specs.Drafting.{runs-of}
 use Rattle.state.specs.Layout.{docket-in}
 use Rattle.state.specs.Kept.{long, holds, kept-numbers, kept-rows, lodged-numbers, lodged-rows, outputs-count, outputs-of}
 use Rattle.docket_host.specs.HostAnswer.{too-little-room}
@@ -125,3 +130,46 @@ module _ (v w : List ℕ) (period most : ℕ) (fixed o : List ℕ) where
 
   unfoldable pub taken-numbers : List ℕ
   taken-numbers = guarded (taken-room v w o) (holds v w) o o (taken-written (taken-of (docket-in v w) period most fixed) o)
+
+-- ---- the runs of a price leaf: every slice is asked for to the number
+
+-- 0 where they were found, 1 where no problem is known, 2 where the question does not fit it, 100 + u for the stuck unit u
+abbrev pub runs-number : RunsAnswer → ℕ
+runs-number runs.NoProblem = 1
+runs-number runs.Unfit = 2
+runs-number (runs.Stuck u) = 100 + u
+runs-number (runs.Found z) = 0
+
+-- a stuck unit is one of 32
+abbrev pub Few : RunsAnswer → Type 0
+Few runs.NoProblem = Unit {0}
+Few runs.Unfit = Unit {0}
+Few (runs.Stuck u) = u ≤ 32
+Few (runs.Found z) = Unit {0}
+
+-- the leaf's value, where it was found; in the other cases what is lent for it stays
+abbrev pub value-told : RunsAnswer → List ℤ → List ℤ
+value-told runs.NoProblem l = l
+value-told runs.Unfit l = l
+value-told (runs.Stuck u) l = l
+value-told (runs.Found z) l = z ∷ []
+
+module _ (v w q s fixed rows short : List ℕ) (value : List ℤ) where
+  -- under a known problem a question with room for another number of values than one is unfit too
+  unfoldable pub runs-there : Drafted
+  runs-there = cond (eqb (length value) 1) (runs-of (docket-in v w) q s fixed rows short) (unwritten rows short (cond (docket-in v w .known) runs.Unfit runs.NoProblem))
+
+  abbrev pub drafting : {A : Type 0} → A → A → A → A
+  drafting few none done = guarded (long v w) (holds v w) few none done
+
+  unfoldable pub runs-answer : ℕ
+  runs-answer = drafting too-little-room no-docket (runs-number (runs-there .answer))
+
+  unfoldable pub runs-rows : List ℕ
+  runs-rows = drafting rows rows (runs-there .rows)
+
+  unfoldable pub runs-short : List ℕ
+  runs-short = drafting short short (runs-there .short)
+
+  unfoldable pub runs-value : List ℤ
+  runs-value = drafting value value (value-told (runs-there .answer) value)

@@ -7,11 +7,12 @@ ghost use lib.ListN.{length};
 ghost use Rattle.list.specs.Listing.{listed-of, output-of};
 ghost use Rattle.state.specs.Layout.{numbers-count, rows-count};
 ghost use Rattle.docket_host.specs.HostAnswer.{host-answer};
-ghost use Rattle.docket_host.specs.Calls.{rules, fresh-answer, fresh-numbers, fresh-rows, lodge-room, lodge-answer, lodge-numbers, lodge-rows, lodge-line, lodge-values, report-number, report-answer, report-bytes, outputs-room, outputs-answer, outputs-rows, taken-room, taken-number, taken-written, taken-answer, taken-numbers};
+ghost use Rattle.docket_host.specs.Calls.{rules, fresh-answer, fresh-numbers, fresh-rows, lodge-room, lodge-answer, lodge-numbers, lodge-rows, lodge-line, lodge-values, report-number, report-answer, report-bytes, outputs-room, outputs-answer, outputs-rows, taken-room, taken-number, taken-written, taken-answer, taken-numbers, Few, runs-number, value-told, runs-answer, runs-rows, runs-short, runs-value};
 use docket::Docket;
 use docket::taking::TakenAnswer;
 use list::Listed;
 use report::ReportAnswer;
+use runs::drafting::RunsAnswer;
 
 // What a call answers where it does nothing (hosts/c/docket.h): too little is lent; the state holds no docket.
 pub const TOO_SMALL: usize = 18446744073709551615;
@@ -222,6 +223,61 @@ pub extern "C" fn docket_units_taken(
             let docket = opened.docket;
             let answer = docket.units_taken(period, most, fixed);
             return tell_taken(answer, taken);
+        }
+        return NO_DOCKET;
+    }
+    TOO_SMALL
+}
+
+// The answer as one number; where the runs were found, `value` is the leaf's value.
+fn tell_runs(answer: RunsAnswer, value: &mut [i64]) -> usize
+    requires { ⌜ Few answer ⌝ }
+    requires { ⌜ length (now value) ≡ 1 ⌝ }
+    ensures number { λ r. ⌜ r ≡ runs-number answer ⌝ }
+    ensures value { λ _. ⌜ now (value .exit) ≡ value-told answer (now (value .entry)) ⌝ }
+{
+    match answer {
+        RunsAnswer::NoProblem => 1,
+        RunsAnswer::Unfit => 2,
+        RunsAnswer::Stuck(unit) => 100 + unit,
+        RunsAnswer::Found(found) => {
+            value[0] = found;
+            0
+        }
+    }
+}
+
+// The value of a price leaf with these multipliers under these statuses, with its runs and how far they fall short: 0, and they stand in `value`, `runs` and `short`;
+// 1 where no problem is known; 2 where the question does not fit it, by the length of one of the slices too; 100 + u where unit u, from 1, is the first that is
+// stuck. Or TOO_SMALL or NO_DOCKET. Nothing else is changed.
+#[no_mangle]
+pub extern "C" fn docket_cheapest_runs(
+    numbers: &[u64],
+    rows: &[u16],
+    q: &[u64],
+    s: &[u64],
+    fixed: &[u8],
+    runs: &mut [u64],
+    short: &mut [u64],
+    value: &mut [i64],
+) -> usize
+    ensures answer { λ r. ⌜ r ≡ runs-answer (now (numbers .entry)) (now (rows .entry)) (now (q .entry)) (now (s .entry)) (now (fixed .entry)) (now (runs .entry)) (now (short .entry)) (now (value .entry)) ⌝ }
+    ensures runs { λ _. ⌜ now (runs .exit) ≡ runs-rows (now (numbers .entry)) (now (rows .entry)) (now (q .entry)) (now (s .entry)) (now (fixed .entry)) (now (runs .entry)) (now (short .entry)) (now (value .entry)) ⌝ }
+    ensures short { λ _. ⌜ now (short .exit) ≡ runs-short (now (numbers .entry)) (now (rows .entry)) (now (q .entry)) (now (s .entry)) (now (fixed .entry)) (now (runs .entry)) (now (short .entry)) (now (value .entry)) ⌝ }
+    ensures value { λ _. ⌜ now (value .exit) ≡ runs-value (now (numbers .entry)) (now (rows .entry)) (now (q .entry)) (now (s .entry)) (now (fixed .entry)) (now (runs .entry)) (now (short .entry)) (now (value .entry)) ⌝ }
+{
+    if state::is_long(numbers, rows) {
+        let opened = state::opened_in(numbers, rows);
+        if opened.is {
+            let docket = opened.docket;
+            if value.len() == 1 {
+                let answer = docket.cheapest_runs(q, s, fixed, runs, short);
+                return tell_runs(answer, value);
+            }
+            if docket.known {
+                return 2;
+            }
+            return 1;
         }
         return NO_DOCKET;
     }

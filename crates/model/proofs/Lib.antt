@@ -48,6 +48,10 @@ pub mod PriceWalks
 pub mod RampWalks
 pub mod BoundExamples
 pub mod UnitLeasts
+pub mod FirstRuns
+pub mod SortedRows
+pub mod LeastRows
+pub mod LeafRuns
 pub mod WalkSizes
 pub mod RampSizes
 pub mod LeafSizes

@@ -66,7 +66,7 @@ shifted-is g q s (suc p) w =
 -- ---- one row
 
 module _ (n : ℕ) (q s : ℕ → ℕ) (g : Generator) where
-  row-shifted : (r : List ℕ) → ((t : ℕ) → t < n → Within g (r at t))
+  pub row-shifted : (r : List ℕ) → ((t : ℕ) → t < n → Within g (r at t))
       → row-total n g (λ t. shifted g (q t) (s t)) (g .on) (g .since) r + revenue n q s g r ≡ row-cost n g r + offset n q s g
   unfolding row-cost revenue offset
   row-shifted r w =

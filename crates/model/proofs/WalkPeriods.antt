@@ -41,7 +41,7 @@ price-walk-ext n q q′ s s′ g m m′ hq hs hm =
 abbrev pub from : {A : Type 0} → ℕ → (ℕ → A) → ℕ → A
 from t f i = f (t + i)
 
-from-later : {A : Type 0} (t : ℕ) (f : ℕ → A) → later (from t f) ≡ from (suc t) f
+pub from-later : {A : Type 0} (t : ℕ) (f : ℕ → A) → later (from t f) ≡ from (suc t) f
 from-later t f = fun-ext (λ i. ap f (next i))
   where
     next : (i : ℕ) → t + suc i ≡ suc t + i

@@ -13,6 +13,7 @@ use Rattle.model.specs.Rules.{on, if-on, statuses, Within, spent}
 use Rattle.model.specs.Cost.{switch-costs}
 use Rattle.model.specs.Above.{Mark}
 use Rattle.model.specs.Walk.{walk}
+use Rattle.model.specs.RunWalk.{row-of}
 use Rattle.model.specs.Agreement.{Candidate}
 use Rattle.model.proofs.WalkRuns.{later, run-total, obeys→obeying, obeying→obeys, walk-below-run, walk-attained-run}
 
@@ -28,19 +29,14 @@ pub record Cheapest (g : Generator) (c : ℕ → ℕ) (w : Bool → ℕ) (p : �
   pub high : p ≤ g .pU
   pub least : (p′ : ℕ) → g .pL ≤ p′ → p′ ≤ g .pU → c p ≤ c p′
 
--- the row of a run that has the output o t in each period t on
-abbrev pub row-of : (ℕ → ℕ) → List Bool → List ℕ
-row-of o [] = []
-row-of o (d ∷ run) = if-on d (o 0) ∷ row-of (later o) run
-
 -- ---- a row costs no less than its statuses
 
 module _ (g : Generator) where
-  status-below : (c : ℕ → ℕ) (w : Bool → ℕ) (o : ℕ) → Cheapest g c w o → (p : ℕ) → Within g p → w (on p) ≤ c p
+  pub status-below : (c : ℕ → ℕ) (w : Bool → ℕ) (o : ℕ) → Cheapest g c w o → (p : ℕ) → Within g p → w (on p) ≤ c p
   status-below c w o h zero l = omega (arith, h .off)
   status-below c w o h (suc p) l = omega (arith, h .on, h .least (suc p) (l tt .0) (l tt .1))
 
-  statuses-below : (n : ℕ) (c : ℕ → ℕ → ℕ) (w : ℕ → Bool → ℕ) (o : ℕ → ℕ) → ((t : ℕ) → Cheapest g (c t) (w t) (o t)) → (b : Bool) (k : ℕ)
+  pub statuses-below : (n : ℕ) (c : ℕ → ℕ → ℕ) (w : ℕ → Bool → ℕ) (o : ℕ → ℕ) → ((t : ℕ) → Cheapest g (c t) (w t) (o t)) → (b : Bool) (k : ℕ)
       (r : List ℕ) → length r ≡ n → ((t : ℕ) → t < n → Within g (r at t)) → run-total g w b k (statuses r) ≤ row-total n g c b k r
   statuses-below zero c w o h b k [] e l = omega arith
   statuses-below zero c w o h b k (p ∷ r) e l = absurd (omega arith)

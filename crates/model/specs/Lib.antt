@@ -19,6 +19,8 @@ pub mod Figures
 pub mod Tree
 pub mod Agreement
 pub mod Possible
+pub mod Runs
+pub mod RunWalk
 pub mod Best
 pub mod Unread
 pub mod Examples
@@ -26,3 +28,4 @@ pub mod TreeExamples
 pub mod CountExamples
 pub mod TurnExamples
 pub mod RampExamples
+pub mod RunExamples

@@ -1,13 +1,17 @@
 -- What stands above a node (document 01, Rules for a leaf; document 02, [1]), as bytes. One for each status: 1 fixes off, 2 fixes on, any other
 -- byte fixes nothing. Then one for each period's upper count and one for each period's lower count.
-use mathlib.Core.Bool.{true, false, cond, _&&_}
+use mathlib.Core.Bool.{Bool, true, false, cond, _&&_}
 use mathlib.Core.List.{List}
 use mathlib.Core.Option.{Option, none, some}
 use Prim.Native.Nat.{ℕ, zero, suc, _+_, _*_}
-use lib.Dec.{eqb, ltb}
+use lib.Dec.{eqb, ltb, leb}
 use lib.ListN.{length}
 use Rattle.model.specs.Instance.{Instance, _at_}
 use Rattle.model.specs.Above.{Mark, free, fixed, Marks, Above}
+
+-- a status that is asked about: 0 free, 1 fixed off, 2 fixed on
+abbrev pub is-status : ℕ → Bool
+is-status b = leb b 2
 
 unfoldable pub mark-of : ℕ → Mark
 mark-of x = cond (eqb x 1) (fixed false) (cond (eqb x 2) (fixed true) free)

@@ -3,6 +3,7 @@
 use super::{Call, Command, Status};
 use crate::clock::utc;
 use crate::journal::{read, Step};
+use crate::options::from_1;
 use crate::printed::{json, object, or_null, shown};
 use crate::trouble::Trouble;
 use crate::words::{kind, writer};
@@ -116,12 +117,7 @@ fn is_wanted(call: &Call, logged: &Logged) -> bool {
 
 fn text(call: &mut Call) -> Result<Status, Trouble> {
     let word = call.word(1).to_str().unwrap_or_default();
-    let digits = word.bytes().all(|byte| byte.is_ascii_digit());
-    let wanted: u64 = word
-        .parse()
-        .ok()
-        .filter(|&number| digits && number > 0)
-        .ok_or_else(|| Trouble::usage("N is the number of a text, from 1"))?;
+    let wanted = from_1(word).ok_or_else(|| Trouble::usage("N is the number of a text, from 1"))?;
     let mut reading = read(call.journal())?;
     loop {
         match reading.step()? {

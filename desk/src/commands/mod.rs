@@ -1,6 +1,7 @@
 //! The commands.
 
 mod answers;
+mod draft;
 mod holdings;
 mod lodging;
 mod log;
@@ -43,7 +44,7 @@ pub struct Call<'a> {
 pub enum Status {
     /// All texts were accepted, or none was judged.
     Accepted = 0,
-    /// Some text was refused.
+    /// Some text was refused, or a unit has no run for a draft.
     Refused = 1,
 }
 
@@ -73,12 +74,13 @@ impl Call<'_> {
 }
 
 /// All commands, in the order in which the help has them.
-pub const COMMANDS: [&Command; 9] = [
+pub const COMMANDS: [&Command; 10] = [
     &lodging::CHECK,
     &lodging::LODGE,
     &lodging::TRY,
     &holdings::REPORT,
     &holdings::SHOW,
+    &draft::DRAFT,
     &log::LOG,
     &log::TEXT,
     &verify::VERIFY,

@@ -24,6 +24,6 @@ mod write;
 
 pub use disk::{Disk, OnDisk};
 pub use lines::{First, Opening, FORMAT};
-pub use read::{read, replayed, Reading};
+pub use read::{read, replayed, replayed_with, Answered, Reading};
 pub use records::{Records, Step};
 pub use write::{Journal, Lodged, Mended};

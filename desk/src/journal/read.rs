@@ -6,6 +6,7 @@ use super::records::{Fault, Records, Step};
 use crate::bench::{said, Bench};
 use crate::progress::Progress;
 use crate::trouble::{Doing, Trouble};
+use docket::Answer;
 use std::fs::File;
 use std::io::Read;
 use std::os::unix::ffi::OsStrExt;
@@ -25,11 +26,43 @@ pub fn read(path: &Path) -> Result<Reading<File>, Trouble> {
 
 /// The bench after the texts of a journal; whoever writes to it may go on.
 pub fn replayed(path: &Path, progress: &mut Progress) -> Result<Bench, Trouble> {
+    let mut bench = Bench::default();
+    measured(path, progress)?.replay(&mut bench, progress)?;
+    Ok(bench)
+}
+
+/// A journal to be read, its length being told to the progress.
+fn measured(path: &Path, progress: &mut Progress) -> Result<Reading<File>, Trouble> {
     let file = open_to_read(path)?;
     progress.total = file.metadata().map_or(0, |data| data.len());
-    let mut bench = Bench::default();
-    Reading::of(path, file)?.replay(&mut bench, progress)?;
-    Ok(bench)
+    Reading::of(path, file)
+}
+
+/// A text of a journal, and the docket's answer to it.
+pub struct Answered {
+    /// The text.
+    pub text: Vec<u8>,
+    /// The answer.
+    pub answer: Answer,
+}
+
+/// The bench after the texts of a journal, and the text of this number; that it has none of that number is trouble.
+pub fn replayed_with(
+    path: &Path,
+    number: u64,
+    progress: &mut Progress,
+) -> Result<(Bench, Answered), Trouble> {
+    let (mut bench, mut found) = (Bench::default(), None);
+    let mut reading = measured(path, progress)?;
+    reading.replay_each(&mut bench, progress, |nth, text, answer| {
+        if nth == number {
+            let (text, answer) = (text.to_vec(), answer.clone());
+            found = Some(Answered { text, answer });
+        }
+    })?;
+    let (texts, name) = (reading.records.texts(), reading.name);
+    let found = found.ok_or(Trouble::NoText(name, number, texts))?;
+    Ok((bench, found))
 }
 
 /// How a journal ends.
@@ -74,6 +107,16 @@ impl<R: Read> Reading<R> {
 
     /// Lodges the texts again; each must get the answer that is recorded.
     pub fn replay(&mut self, bench: &mut Bench, progress: &mut Progress) -> Result<Ended, Trouble> {
+        self.replay_each(bench, progress, |_, _, _| {})
+    }
+
+    /// The same; each text is seen with its number and its answer.
+    fn replay_each(
+        &mut self,
+        bench: &mut Bench,
+        progress: &mut Progress,
+        mut see: impl FnMut(u64, &[u8], &Answer),
+    ) -> Result<Ended, Trouble> {
         let rules = self.records.opening().rules;
         if rules != docket::rules() {
             return Err(Trouble::Rules(self.name.clone(), rules));
@@ -82,7 +125,10 @@ impl<R: Read> Reading<R> {
         loop {
             match self.step()? {
                 Step::Text { .. } => {
-                    again = said(&bench.lodge(self.records.text())).to_string();
+                    let (nth, text) = (self.records.texts(), self.records.text());
+                    let answer = bench.lodge(text);
+                    see(nth, text, &answer);
+                    again = said(&answer).to_string();
                     progress.show(self.records.texts(), self.records.at());
                 }
                 Step::Answer(recorded) if recorded == again => {}

@@ -4,6 +4,7 @@ mod called;
 mod chars;
 mod counted;
 mod due;
+mod given;
 mod lines;
 mod misplaced;
 mod notdue;
@@ -19,6 +20,9 @@ use docket::Refusal;
 use due::{Due, Walk};
 use std::ops::Range;
 use table::{Often, Role, Shows};
+
+pub use called::brief;
+pub use given::{numbers, numbers_of, Node};
 
 /// How many periods and units the problem has that the docket held when a text was lodged.
 #[derive(Clone, Copy, Debug, PartialEq, Eq)]

@@ -208,7 +208,7 @@ fn of_value(line: &[u8], walk: &Walk) -> Option<Fault> {
 }
 
 /// The first value of the line that is no whole number.
-fn of_numbers(line: &[u8], walk: &Walk) -> Option<Fault> {
+pub fn of_numbers(line: &[u8], walk: &Walk) -> Option<Fault> {
     let key = table::find(key_of(line)?)?;
     let mut before = None;
     for (at, place) in lines::values(line).enumerate() {

@@ -11,12 +11,13 @@ use std::path::Path;
 use std::time::{Duration, SystemTime};
 
 /// The commands that only read, with the words behind the journal.
-pub const READERS: [(&str, &[&str]); 6] = [
+pub const READERS: [(&str, &[&str]); 7] = [
     ("log", &[]),
     ("text", &["1"]),
     ("verify", &[]),
     ("report", &[]),
     ("show", &[]),
+    ("draft", &["--price", "10,14"]),
     ("try", &["-"]),
 ];
 

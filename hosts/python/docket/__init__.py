@@ -29,6 +29,7 @@ from ._library import MOST_INPUT, MOST_TEXT, STACK_BYTES
 from ._listing import listing, rules
 from .answer import NEVER, Answer, Figures, Held, Never, Passed, Problem, Refused, Schedule, Tree, Verdict
 from .report import Report
+from .runs import CheapestRuns, Draft, Stuck
 from .taken import Fixed, UnitsTaken
 
 __all__ = [
@@ -37,7 +38,9 @@ __all__ = [
     "NEVER",
     "STACK_BYTES",
     "Answer",
+    "CheapestRuns",
     "Docket",
+    "Draft",
     "Figures",
     "Fixed",
     "Held",
@@ -47,6 +50,7 @@ __all__ = [
     "Refused",
     "Report",
     "Schedule",
+    "Stuck",
     "Tree",
     "UnitsTaken",
     "Verdict",

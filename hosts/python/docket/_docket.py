@@ -1,12 +1,14 @@
 """A docket that stays open."""
 import ctypes
 import threading
+from collections.abc import Iterable
 from typing import Any, NoReturn, final
 
 from ._lent import Bytes, lent
 from ._library import LINE_BYTES, MOST_TEXT, OUTPUTS, REPORT_BYTES, TAKEN, VALUES, checked, library
 from .answer import Answer, answer_of
 from .report import Report, report_of
+from .runs import CheapestRuns, multipliers_of, runs_of
 from .taken import UnitsTaken, most_of, period_of, taken_of
 
 _NUMBERS = library.docket_numbers()
@@ -18,6 +20,7 @@ _Values = ctypes.c_uint64 * VALUES
 _Report = ctypes.c_char * REPORT_BYTES
 _Outputs = ctypes.c_uint16 * OUTPUTS
 _Taken = ctypes.c_uint64 * TAKEN
+_Value = ctypes.c_int64 * 1
 
 
 @final
@@ -89,6 +92,51 @@ class Docket:
                 self._numbers, _NUMBERS, self._rows, _ROWS, number, upper, given, len(given), taken, TAKEN
             )
         return taken_of(checked(answer), taken[:])
+
+    def cheapest_runs(self, prices: Iterable[int], reserves: Iterable[int], fixed: Bytes) -> CheapestRuns:
+        """The runs behind the value of a price leaf, and how far they fall short of the demand: a Draft; or Stuck, with
+        the lowest unit to which what is fixed leaves no run.
+
+        The leaf has a price multiplier q and a reserve multiplier s for each of the problem's T periods, from 0 to
+        1,000,000,000, and `fixed` has a byte for each status that the splits above it fix, one of Fixed: that of unit u
+        in period t, both counted from 0, at u * T + t; `bytes(I * T)` fixes nothing. It is lent as a text is.
+
+        A unit's run is T outputs, each 0 for off or from pL to pU, that keep the up and down times and agree with what
+        is fixed. What it is worth is its cost less q * p + s * pU for each period on with output p. The cheapest run
+        counts; of equal ones the one that is off where another is on, in the first period in which they differ in this,
+        and then the one with the smallest outputs. The leaf's value is what these runs are worth and, over the periods,
+        q * D + s * (D + R). They keep no ramps, and together they need not reach D or D + R.
+
+        A ValueError says that the docket knows no problem, or that the question does not fit it: there are not T prices
+        and T reserves, a multiplier is not 0 to 1,000,000,000, there are not as many bytes as units times periods, or
+        one is above 2. For what is no whole number or no bytes there is a TypeError.
+        """
+        q, s = multipliers_of("prices", prices), multipliers_of("reserves", reserves)
+        # a problem has as many statuses as outputs, and more do not fit, however many there are
+        given = lent("cheapest_runs", fixed, OUTPUTS, is_text=False)[: OUTPUTS + 1]
+        lent_prices, lent_reserves = (ctypes.c_uint64 * len(q))(*q), (ctypes.c_uint64 * len(s))(*s)
+        runs, shortfalls = (ctypes.c_uint64 * len(given))(), (ctypes.c_uint64 * len(q))()
+        value = _Value()
+        with self._lock:
+            answer = library.docket_cheapest_runs(
+                self._numbers,
+                _NUMBERS,
+                self._rows,
+                _ROWS,
+                lent_prices,
+                len(q),
+                lent_reserves,
+                len(s),
+                given,
+                len(given),
+                runs,
+                len(given),
+                shortfalls,
+                len(q),
+                value,
+                1,
+            )
+        return runs_of(checked(answer), value[0], runs[:], shortfalls[:])
 
     def copy(self) -> "Docket":
         """A docket of its own that holds the same."""

@@ -6,7 +6,22 @@ import unittest
 
 import docket
 from common import NOTHING, PROBLEM, SCHEDULE, TREE, large_problem, schedule
-from docket import NEVER, Answer, Docket, Held, Never, Passed, Problem, Refused, Report, Schedule, Tree, UnitsTaken
+from docket import (
+    NEVER,
+    Answer,
+    Docket,
+    Draft,
+    Held,
+    Never,
+    Passed,
+    Problem,
+    Refused,
+    Report,
+    Schedule,
+    Stuck,
+    Tree,
+    UnitsTaken,
+)
 
 
 def example() -> Docket:
@@ -93,8 +108,10 @@ class Answers(unittest.TestCase):
         answer = desk.lodge(TREE)
         refused, taken = desk.lodge(b"").verdict, desk.units_taken(1, fixed=bytes(4))
         self.assertEqual(taken, UnitsTaken(False, 1))
+        draft = desk.cheapest_runs([12, 18], [0, 0], bytes(4))
+        self.assertEqual(draft, Draft(1820, ((80, 80), (0, 50)), (0, 0)))
         values = (answer, answer.verdict, answer.verdict.figures, refused, desk.report(), Schedule(1), taken)
-        for value in values:
+        for value in (*values, draft, Stuck(1)):
             for field in dataclasses.fields(value):
                 with self.assertRaises(dataclasses.FrozenInstanceError):
                     setattr(value, field.name, 1)

@@ -6,7 +6,7 @@ import weakref
 
 import docket
 from common import NOTHING, PROBLEM, ROOT, SCHEDULE, TREE, schedule
-from docket import Docket, Held, Passed, Problem, Refused, Schedule, Tree, UnitsTaken
+from docket import Docket, Draft, Held, Passed, Problem, Refused, Schedule, Tree, UnitsTaken
 
 COPIES = {"copy": Docket.copy, "copy.copy": copy.copy, "copy.deepcopy": copy.deepcopy}
 
@@ -93,7 +93,8 @@ class Dockets(unittest.TestCase):
         desk.lodge(PROBLEM)
         desk._numbers[0] += 1
         taken = [lambda fixed=fixed: desk.units_taken(1, fixed=fixed) for fixed in (bytes(4), b"", bytes([9]))]
-        for call in (desk.report, desk.outputs, lambda: desk.lodge(SCHEDULE), desk.copy().report, *taken):
+        runs = [lambda fixed=fixed: desk.cheapest_runs([1, 2], [0], fixed) for fixed in (bytes(4), b"", bytes([9]))]
+        for call in (desk.report, desk.outputs, lambda: desk.lodge(SCHEDULE), desk.copy().report, *taken, *runs):
             with self.assertRaises(RuntimeError) as caught:
                 call()
             self.assertEqual(str(caught.exception), "this is no docket: its state was changed from outside")
@@ -106,13 +107,14 @@ class Dockets(unittest.TestCase):
         self.assertEqual(repr(desk), "<Docket cost=1980 costwriter=7 bound=1980 boundwriter=3 gap=0>")
         self.assertEqual(desk.outputs(), [60, 80, 0, 20])
         self.assertEqual(desk.units_taken(2, fixed=bytes(4)), UnitsTaken(False, 2))
+        self.assertEqual(desk.cheapest_runs([10, 14], [0, 0], bytes(4)), Draft(1880, ((20, 80), (0, 0)), (40, 20)))
         self.assertEqual(desk.lodge(SCHEDULE).verdict, Passed(Schedule(1980)))
         self.assertIn("layout-1.state", kept)
         for name, state in kept.items():
             with self.subTest(name):
                 desk = opened(state)
                 asked = (lambda: desk.lodge(SCHEDULE), lambda: desk.units_taken(2, fixed=bytes(4)))
-                for call in (desk.report, desk.outputs, *asked):
+                for call in (desk.report, desk.outputs, *asked, lambda: desk.cheapest_runs([1, 2], [0, 0], bytes(4))):
                     with self.assertRaisesRegex(RuntimeError, "this is no docket"):
                         call()
 

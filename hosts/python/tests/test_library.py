@@ -139,9 +139,15 @@ class Search(unittest.TestCase):
         line = self.last_line(library, "import docket; docket.listing(b'')")
         self.assertEqual(line, f"RuntimeError: {words[1]}")
         ask = "import docket; docket.Docket().units_taken(1, fixed=b'')"
+        runs = "import docket; docket.Docket().cheapest_runs([], [], b'')"
         for odd, said in {1: words[1], 2: words[2], 6: words[3]}.items():
             library = compiled(PYTHON / "tests" / "odd_library.c", self.folder / f"{odd}.so", f"-DODD={odd}")
             self.assertEqual(self.last_line(library, ask), f"RuntimeError: {said}")
+            self.assertEqual(self.last_line(library, runs), f"RuntimeError: {said}")
+        for odd, number in {7: 100, 8: 133}.items():
+            library = compiled(PYTHON / "tests" / "odd_library.c", self.folder / f"{odd}.so", f"-DODD={odd}")
+            said = f"the library gives an answer that this module does not know: {number}"
+            self.assertEqual(self.last_line(library, runs), f"RuntimeError: {said}")
 
     def test_the_error_names_the_file(self) -> None:
         program = "try:\n import docket\nexcept ImportError as error:\n print(error.name, error.path)"

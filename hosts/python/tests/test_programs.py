@@ -59,7 +59,7 @@ class LodgeFiles(unittest.TestCase):
 class Example(unittest.TestCase):
     def test_they_stand_in_readme(self) -> None:
         readme = (ROOT / "README.md").read_text()
-        for name in ("example.py", "units_taken.py"):
+        for name in ("example.py", "units_taken.py", "cheapest_runs.py"):
             lines = (PYTHON / name).read_text().splitlines()
             shown = "".join(f"    {line}\n" if line else "\n" for line in lines)
             self.assertTrue(f"\n\n{shown}\n" in readme, f"README.md does not show {name} as it is")
@@ -67,6 +67,15 @@ class Example(unittest.TestCase):
     def test_the_units_taken(self) -> None:
         said = ["UnitsTaken(short=False, units=2)", "UnitsTaken(short=True, units=1)", "UnitsTaken(short=True, units=1)"]
         ran = run_python(str(PYTHON / "units_taken.py"))
+        self.assertEqual((ran.returncode, ran.stdout.splitlines(), ran.stderr), (0, said, ""))
+
+    def test_the_cheapest_runs(self) -> None:
+        said = [
+            "value 1880 runs (20, 80) (0, 0) short by 40 20",
+            "value 1980 runs (20, 80) (0, 10) short by 40 10",
+            "unit 1 has no run",
+        ]
+        ran = run_python(str(PYTHON / "cheapest_runs.py"))
         self.assertEqual((ran.returncode, ran.stdout.splitlines(), ran.stderr), (0, said, ""))
 
     def test_what_it_prints(self) -> None:

@@ -5,7 +5,7 @@ from collections.abc import Callable
 
 import docket
 from common import PROBLEM, SCHEDULE, cut, inputs, run_python, schedule
-from docket import Docket, Held, Schedule, UnitsTaken
+from docket import Docket, Draft, Held, Schedule, Stuck, UnitsTaken
 
 MANY = 8
 
@@ -19,8 +19,9 @@ desk.lodge(PROBLEM)
 told = []
 
 def tell(number, frame):
-    taken = desk.units_taken(2, fixed=bytes(4))
-    told.append((desk.lodge(SCHEDULE).line, desk.report().cost, desk.outputs(), desk.copy().outputs(), taken.units))
+    taken = desk.units_taken(2, fixed=bytes(4)).units
+    value = desk.cheapest_runs([10, 14], [0, 0], bytes(4)).value
+    told.append((desk.lodge(SCHEDULE).line, desk.report().cost, desk.outputs(), desk.copy().outputs(), taken, value))
 
 signal.signal(signal.SIGALRM, tell)
 signal.setitimer(signal.ITIMER_REAL, 0.0005, 0.0005)
@@ -29,6 +30,7 @@ while time.monotonic() < end:
     lines.add(desk.lodge(b"kind=schedule").line)
     desk.report()
     desk.units_taken(1, fixed=bytes(4))
+    desk.cheapest_runs([10, 14], [0, 0], bytes(4))
 signal.setitimer(signal.ITIMER_REAL, 0)
 print(len(told) > 10, lines, set(map(str, told[1:])))
 """
@@ -76,6 +78,9 @@ class Threads(unittest.TestCase):
                 self.assertIn((first, second), pairs)
                 self.assertEqual(desk.units_taken(2, writer % 2, fixed=bytes(4)), UnitsTaken(True, writer % 2))
                 self.assertEqual(desk.units_taken(2, fixed=bytearray(4)), UnitsTaken(False, 2))
+                runs = desk.cheapest_runs([10, 14], [0, 0], bytes(4))
+                self.assertEqual(runs, Draft(1880, ((20, 80), (0, 0)), (40, 20)))
+                self.assertEqual(desk.cheapest_runs([10, 14], [0, 0], bytearray([1, 2, 0, 0])), Stuck(1))
 
         for turn in range(5):
             order = sorted(written, key=lambda writer: writer * 7919 % 257, reverse=turn % 2 == 1)
@@ -113,6 +118,7 @@ class Threads(unittest.TestCase):
             desk.outputs,
             desk.copy,
             lambda: desk.units_taken(1, fixed=bytes(4)),
+            lambda: desk.cheapest_runs([10, 14], [0, 0], bytes(4)),
         )
         threads = [threading.Thread(target=call) for call in calls]
         with desk._lock:
@@ -127,6 +133,6 @@ class Threads(unittest.TestCase):
 
     def test_a_signal_may_use_the_docket_that_it_interrupts(self) -> None:
         ran = run_python("-c", f"import sys; sys.path.append('hosts/python/tests')\n{SIGNALS}")
-        told = "('answer=passed,1980', 1980, [60, 80, 0, 20], [60, 80, 0, 20], 2)"
+        told = "('answer=passed,1980', 1980, [60, 80, 0, 20], [60, 80, 0, 20], 2, 1880)"
         self.assertEqual((ran.returncode, ran.stderr), (0, ""))
         self.assertEqual(ran.stdout, f"True {{'answer=refused,12,1,0,0'}} {{{told!r}}}\n")

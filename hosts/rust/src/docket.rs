@@ -2,6 +2,7 @@
 
 use crate::answer::Answer;
 use crate::report::Report;
+use crate::runs::CheapestRuns;
 use crate::sys;
 use crate::taken::{Fixed, UnitsTaken};
 use std::fmt;
@@ -19,7 +20,7 @@ pub fn rules() -> u64 {
 ///
 /// It lives in memory: what must be kept for good are the texts that were lodged, for they decide everything. Calls run on their
 /// caller's stack, of which [`STACK_BYTES`](crate::STACK_BYTES) are enough. Threads that lodge in one docket share it in a `Mutex`;
-/// reports, outputs and units taken may be asked for at once.
+/// reports, outputs, units taken and runs may be asked for at once.
 ///
 /// ```
 /// use docket::{Bound, Docket, Figures, Verdict};
@@ -136,6 +137,66 @@ impl Docket {
         let fixed = sys::bytes(fixed);
         let answer = sys::units_taken(&self.numbers, &self.rows, period, most, fixed, &mut taken);
         UnitsTaken::of(answer, taken)
+    }
+
+    /// The runs behind the value of a price leaf, and how far they fall short of the demand.
+    ///
+    /// The leaf has a price multiplier q and a reserve multiplier s for each of the problem's T periods, from 0 to 1,000,000,000,
+    /// and `fixed` has the statuses that the splits above it fix: that of unit u in period t, both counted from 0, at u * T + t.
+    /// A unit's run is T outputs, each 0 for off or from pL to pU, that keep the up and down times and agree with what is fixed.
+    /// What it is worth is its cost less q * p + s * pU for each period on with output p. The cheapest run counts; of equal ones
+    /// the one that is off where another is on, in the first period in which they differ in this, and then the one with the
+    /// smallest outputs. The leaf's value is what these runs are worth and, over the periods, q * D + s * (D + R). They keep no
+    /// ramps, and together they need not reach D or D + R.
+    ///
+    /// The question is [`Unfit`](CheapestRuns::Unfit) where there are not T prices and T reserves, a multiplier is above
+    /// 1,000,000,000, or there are not as many statuses as units times periods. Where what is fixed leaves a unit no run, the
+    /// lowest such unit is [`Stuck`](CheapestRuns::Stuck). The docket stays as it is.
+    ///
+    /// ```
+    /// use docket::{CheapestRuns, Docket, Fixed};
+    ///
+    /// let mut docket = Docket::new();
+    /// let mut fixed = [Fixed::Free; 4];
+    /// assert_eq!(docket.cheapest_runs(&[10, 14], &[0, 0], &fixed), CheapestRuns::NoProblem);
+    ///
+    /// docket.lodge(b"kind=problem\nperiods=2\nunits=2\ndemand=60,100\nspare=10,10\n\
+    ///                unit=100,10,0,20,80,2,2,3,30,30,50,90,1,5,60\n\
+    ///                unit=40,14,0,10,50,1,1,-2,50,50,20,60,0,0,0\nend=problem\n");
+    /// // unit 1 runs at its least in period 1, where its price is what its output costs, and at its most in period 2
+    /// match docket.cheapest_runs(&[10, 14], &[0, 0], &fixed) {
+    ///     CheapestRuns::Found(draft) => {
+    ///         assert_eq!(draft.value, 1880);
+    ///         assert_eq!(draft.runs, [[20, 80], [0, 0]]);
+    ///         assert_eq!(draft.shortfalls, [40, 20]);
+    ///     }
+    ///     other => panic!("{other:?}"),
+    /// }
+    ///
+    /// // its TD is 2: off in period 1 it cannot be on in period 2
+    /// fixed[0] = Fixed::Off;
+    /// fixed[1] = Fixed::On;
+    /// let answer = docket.cheapest_runs(&[10, 14], &[0, 0], &fixed);
+    /// assert_eq!(answer, CheapestRuns::Stuck { unit: 1 });
+    /// ```
+    pub fn cheapest_runs(&self, prices: &[u64], reserves: &[u64], fixed: &[Fixed]) -> CheapestRuns {
+        // as much as fits; where there are more prices or statuses than a problem has, nothing does
+        let mut runs = vec![0; fixed.len().min(sys::OUTPUTS)];
+        let mut shortfalls = vec![0; prices.len().min(sys::OUTPUTS)];
+        let mut value = [0];
+        let answer = sys::cheapest_runs(
+            &self.numbers,
+            &self.rows,
+            prices,
+            reserves,
+            sys::bytes(fixed),
+            sys::Drafted {
+                runs: &mut runs,
+                shortfalls: &mut shortfalls,
+                value: &mut value,
+            },
+        );
+        CheapestRuns::of(answer, value[0], &runs, shortfalls)
     }
 }
 

@@ -24,10 +24,13 @@
 mod answer;
 mod bound;
 mod docket;
+#[cfg(test)]
+mod leaves;
 mod listing;
 #[cfg(test)]
 mod questions;
 mod report;
+mod runs;
 #[cfg(test)]
 mod states;
 #[allow(unsafe_code)]
@@ -39,6 +42,7 @@ pub use bound::Bound;
 pub use docket::{rules, Docket, MOST_TEXT};
 pub use listing::{listing, listing_of, Error, MOST_INPUT, OUTPUT_BYTES};
 pub use report::Report;
+pub use runs::{CheapestRuns, Draft};
 pub use taken::{Fixed, UnitsTaken};
 
 /// Stack enough for a call: a tree of the greatest depth uses less than 340,000 bytes of it, measured. A thread of the standard

@@ -15,13 +15,13 @@ const PROBLEMS: u64 = 2_000;
 const QUESTIONS: u64 = 10;
 
 /// What stands in the numbers lent for an answer before a call.
-const PAINT: u64 = 0xA5A5_A5A5_A5A5_A5A5;
+pub const PAINT: u64 = 0xA5A5_A5A5_A5A5_A5A5;
 
 /// The state of a docket.
 #[derive(Clone, PartialEq, Debug)]
-struct State {
-    numbers: Vec<u64>,
-    rows: Vec<u16>,
+pub struct State {
+    pub numbers: Vec<u64>,
+    pub rows: Vec<u16>,
 }
 
 /// Period and upper count as the call takes them, and a byte for each status.
@@ -34,7 +34,7 @@ struct Question {
 
 impl State {
     /// The state of a docket after some texts.
-    fn after(texts: &[&[u8]]) -> State {
+    pub fn after(texts: &[&[u8]]) -> State {
         let mut numbers = vec![0; sys::docket_numbers()];
         let mut rows = vec![0; sys::docket_rows()];
         assert_eq!(sys::fresh(&mut numbers, &mut rows), 0);
@@ -60,7 +60,7 @@ impl State {
 }
 
 /// The seed given, or one of the clock.
-fn seed() -> u64 {
+pub fn seed() -> u64 {
     let given = env::var("SEED").ok();
     let given = given.map(|seed| seed.parse().expect("SEED is a number"));
     let now = || SystemTime::now().duration_since(UNIX_EPOCH);
@@ -138,7 +138,7 @@ fn kind(problem: Option<&Problem>, asked: &Question, answer: TakenAnswer) -> &'s
 }
 
 /// The statuses that these bytes are, if all are such.
-fn typed(bytes: &[u8]) -> Option<Vec<Fixed>> {
+pub fn typed(bytes: &[u8]) -> Option<Vec<Fixed>> {
     let of = |byte: &u8| match byte {
         0 => Some(Fixed::Free),
         1 => Some(Fixed::Off),

@@ -1,6 +1,6 @@
 //! The states kept in `tests/states`: the one of the present layout is a docket, every other one is none.
 
-use crate::sys;
+use crate::sys::{self, Drafted};
 use std::fs;
 use std::path::{Path, PathBuf};
 
@@ -30,6 +30,24 @@ fn open(path: &Path) -> (Vec<u64>, Vec<u16>) {
     )
 }
 
+/// What the call answers of a price leaf with prices 10 and 14, and writes over 7.
+fn drafted(numbers: &[u64], rows: &[u16]) -> (usize, [u64; 4], [u64; 2], [i64; 1]) {
+    let (mut runs, mut shortfalls, mut value) = ([7; 4], [7; 2], [7]);
+    let answer = sys::cheapest_runs(
+        numbers,
+        rows,
+        &[10, 14],
+        &[0; 2],
+        &[0; 4],
+        Drafted {
+            runs: &mut runs,
+            shortfalls: &mut shortfalls,
+            value: &mut value,
+        },
+    );
+    (answer, runs, shortfalls, value)
+}
+
 /// Every kept state, and whether it is the one of the present layout.
 fn kept() -> Vec<(PathBuf, bool)> {
     let folder = Path::new(env!("CARGO_MANIFEST_DIR")).join("../../tests/states");
@@ -55,6 +73,8 @@ fn the_present_one_is_a_docket() {
     let mut taken = [7; sys::TAKEN];
     let told = sys::units_taken(&numbers, &rows, 2, 0, &[0; 4], &mut taken);
     assert_eq!((told, taken), (sys::TOLD, [0, 2]));
+    let draft = (sys::TOLD, [20, 80, 0, 0], [40, 20], [1880]);
+    assert_eq!(drafted(&numbers, &rows), draft);
     let length = sys::lodge(&mut numbers, &mut rows, SCHEDULE, &mut line, &mut values);
     assert_eq!(line.get(..length), Some(&b"answer=passed,1980\n"[..]));
 }
@@ -82,6 +102,8 @@ fn every_other_one_is_none() {
         let answers = [lodged, told, copied, asked];
         assert_eq!(answers, [NO_DOCKET; 4], "{}", path.display());
         assert_eq!(taken, [7; sys::TAKEN]);
+        let unwritten = (NO_DOCKET, [7; 4], [7; 2], [7]);
+        assert_eq!(drafted(&numbers, &rows), unwritten);
         assert_eq!((after, rows_after), (numbers, rows));
         assert_eq!((line, values), ([7; sys::LINE_BYTES], [7; sys::VALUES]));
         assert!(buffer.iter().all(|&byte| byte == 7) && outputs.iter().all(|&output| output == 7));

@@ -13,7 +13,7 @@ pub const VALUES: usize = 16;
 /// The bytes lent for a report.
 pub const REPORT_BYTES: usize = 256;
 
-/// The numbers lent for the outputs of the held schedule.
+/// The numbers lent for the outputs of the held schedule: as many as the largest problem has statuses.
 pub const OUTPUTS: usize = 1_536;
 
 /// The numbers lent for what `short` takes.
@@ -40,14 +40,17 @@ pub const A_BOUND_BELOW_0: u64 = 3;
 /// Second of an answer's numbers: a tree's bound is never.
 pub const NEVER: u64 = 4;
 
-/// The answer of `docket_units_taken` that has written what it tells.
+/// The answer of `docket_units_taken` and `docket_cheapest_runs` that have written what they tell.
 pub const TOLD: usize = 0;
 
-/// The answer of `docket_units_taken` of a docket that knows no problem.
+/// The answer of `docket_units_taken` and `docket_cheapest_runs` of a docket that knows no problem.
 pub const NO_PROBLEM: usize = 1;
 
-/// The answer of `docket_units_taken` to a question that does not fit the problem.
+/// The answer of `docket_units_taken` and `docket_cheapest_runs` to a question that does not fit the problem.
 pub const UNFIT: usize = 2;
+
+/// The answers of `docket_cheapest_runs` where a unit is stuck are this number and the unit's.
+pub const STUCK: usize = 100;
 
 // SAFETY: the archive defines these functions with these types. Those marked safe are lent nothing and ask for nothing.
 unsafe extern "C" {
@@ -107,6 +110,25 @@ unsafe extern "C" {
         fixed_length: usize,
         taken: *mut u64,
         taken_length: usize,
+    ) -> usize;
+
+    fn docket_cheapest_runs(
+        numbers: *const u64,
+        numbers_length: usize,
+        rows: *const u16,
+        rows_length: usize,
+        q: *const u64,
+        q_length: usize,
+        s: *const u64,
+        s_length: usize,
+        fixed: *const u8,
+        fixed_length: usize,
+        runs: *mut u64,
+        runs_length: usize,
+        shortfalls: *mut u64,
+        shortfalls_length: usize,
+        value: *mut i64,
+        value_length: usize,
     ) -> usize;
 
     fn docket_listing(
@@ -211,6 +233,50 @@ pub fn units_taken(
             fixed.len(),
             taken.as_mut_ptr(),
             taken.len(),
+        )
+    }
+}
+
+/// What `docket_cheapest_runs` writes.
+pub struct Drafted<'a> {
+    pub runs: &'a mut [u64],
+    pub shortfalls: &'a mut [u64],
+    pub value: &'a mut [i64],
+}
+
+/// `docket_cheapest_runs` on slices.
+pub fn cheapest_runs(
+    numbers: &[u64],
+    rows: &[u16],
+    q: &[u64],
+    s: &[u64],
+    fixed: &[u8],
+    drafted: Drafted,
+) -> usize {
+    let Drafted {
+        runs,
+        shortfalls,
+        value,
+    } = drafted;
+    // SAFETY: five slices that are only read and three borrowed apart.
+    unsafe {
+        docket_cheapest_runs(
+            numbers.as_ptr(),
+            numbers.len(),
+            rows.as_ptr(),
+            rows.len(),
+            q.as_ptr(),
+            q.len(),
+            s.as_ptr(),
+            s.len(),
+            fixed.as_ptr(),
+            fixed.len(),
+            runs.as_mut_ptr(),
+            runs.len(),
+            shortfalls.as_mut_ptr(),
+            shortfalls.len(),
+            value.as_mut_ptr(),
+            value.len(),
         )
     }
 }

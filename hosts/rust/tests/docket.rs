@@ -3,7 +3,7 @@ mod common;
 
 use common::both::Both;
 use common::{example, texts};
-use docket::{Bound, Docket, Fixed, UnitsTaken, Verdict};
+use docket::{Bound, CheapestRuns, Docket, Fixed, UnitsTaken, Verdict};
 use std::thread;
 
 /// Other texts for the problem of the example: a dearer schedule, a tree with a lower bound, a schedule against the rules.
@@ -44,6 +44,8 @@ fn a_docket_begins_with_nothing() {
         assert!(docket.outputs().is_empty());
         let answer = docket.units_taken(1, None, &[]);
         assert_eq!(answer, UnitsTaken::NoProblem);
+        let answer = docket.cheapest_runs(&[], &[], &[]);
+        assert_eq!(answer, CheapestRuns::NoProblem);
     }
     assert_eq!(docket::rules(), 4);
 }

@@ -1,4 +1,5 @@
-//! Inputs of the listing program, made from a seed: valid, nearly valid and damaged.
+//! Inputs of the listing program, made from a seed: valid, nearly valid and damaged; and questions
+//! about the cheapest runs.
 
 pub mod damage;
 pub mod kinds;
@@ -6,6 +7,7 @@ pub mod problems;
 pub mod ramp_kinds;
 pub mod ramps;
 pub mod random;
+pub mod runs;
 pub mod schedules;
 pub mod trees;
 
@@ -15,6 +17,7 @@ use crate::text::Reader;
 use crate::tree::read as read_tree;
 use problems::Planted;
 use random::Random;
+pub use runs::{large_runs_question, runs_question, RunsQuestion};
 
 /// The input with this index of a seed.
 pub fn input(seed: u64, index: u64) -> Vec<u8> {

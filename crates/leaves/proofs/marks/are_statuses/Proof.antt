@@ -8,9 +8,9 @@ use lib.ListN.{length}
 use lib.Seq.{take-length}
 use Rattle.model.specs.Ranges.{every}
 use Rattle.model.proofs.Every.{Left, one-passes, one-fails, all-pass}
-use Rattle.docket.specs.Taking.{is-status}
-use Rattle.docket.proofs.taking.are_statuses.Statement.{statement}
-use Rattle.docket.proofs.taking.are_statuses.Tie as tie
+use Rattle.walk.specs.Marks.{is-status}
+use Rattle.leaves.proofs.marks.are_statuses.Statement.{statement}
+use Rattle.leaves.proofs.marks.are_statuses.Tie as tie
 
 abbrev Inv-loop : tie.InvT-loop
 Inv-loop fixed i₀ i = Left is-status 0 fixed (length fixed) (omega arith) i

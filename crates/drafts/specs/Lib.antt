@@ -1,0 +1,2 @@
+-- Price leaves worked out by hand.
+pub mod DraftExamples
