@@ -86,9 +86,9 @@ impl Asked {
     /// Where the draft's multipliers and statuses come from, if the options go together.
     pub fn origin(&self) -> Result<Origin, Trouble> {
         let leaf = self.leaf.unwrap_or(1);
-        match (self.tree, self.of_words()) {
+        match (self.tree, self.multipliers()) {
             (Some(_), Some(name)) => Err(Trouble::usage(format!(
-                "--tree and {name}: with --tree the leaf has the multipliers and the statuses"
+                "--tree and {name}: with --tree the leaf has the multipliers; --json shows them"
             ))),
             (Some(tree), None) => Ok(Origin::Leaf { tree, leaf }),
             (None, _) if self.leaf.is_some() => Err(Trouble::usage(
@@ -101,12 +101,11 @@ impl Asked {
         }
     }
 
-    /// An option that gives multipliers or statuses, where one stands.
-    fn of_words(&self) -> Option<&'static str> {
+    /// An option that gives multipliers, where one stands.
+    fn multipliers(&self) -> Option<&'static str> {
         let price = self.price.as_ref().map(|_| "--price");
         let reserve = self.reserve.as_ref().map(|_| "--reserve");
-        let fixed = self.fixed.first().map(|(status, _)| option(*status));
-        price.or(reserve).or(fixed)
+        price.or(reserve)
     }
 
     /// The multipliers and statuses of the command line, for a plant.
@@ -118,13 +117,30 @@ impl Asked {
         let prices = of("--price", "price", &self.price)?;
         let reserves = of("--reserve", "reserve", &self.reserve)?;
         let mut leaf = PriceLeaf::free(prices, reserves, plant.units);
+        self.fix(&mut leaf, plant)?;
+        Ok(leaf)
+    }
+
+    /// Fixes the statuses of the command line in a leaf of a plant, besides those that it has.
+    pub fn fix(&self, leaf: &mut PriceLeaf, plant: Plant) -> Result<(), Trouble> {
         for (status, value) in &self.fixed {
             let place = read(&said(*status, value), "split", value, Some(plant))?;
-            if let &[unit, period] = &place[..] {
-                leaf.fix((unit, period), *status);
+            let &[unit, period] = &place[..] else {
+                continue;
+            };
+            let other = match status {
+                Fixed::On => Fixed::Off,
+                _ => Fixed::On,
+            };
+            if leaf.places(other).contains(&(unit, period)) {
+                let (asked, there) = (said(*status, value), option(other).trim_start_matches('-'));
+                return Err(Trouble::usage(format!(
+                    "{asked}: the splits above the leaf fix unit {unit} {there} in period {period}"
+                )));
             }
+            leaf.fix((unit, period), *status);
         }
-        Ok(leaf)
+        Ok(())
     }
 }
 

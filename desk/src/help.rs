@@ -14,7 +14,7 @@ const OPTIONS: [Row; 11] = [
     ("--reserve", " S,..", "the multipliers of the reserve; all 0 where they are not given"),
     ("--off", " U,P", "fix unit U off in period P, both counted from 1; any number of times"),
     ("--on", " U,P", "fix unit U on in period P; any number of times"),
-    ("--tree", " N", "in place of all these the multipliers and the fixed statuses of a price leaf of text N, an accepted tree"),
+    ("--tree", " N", "in place of prices those of a price leaf of text N, an accepted tree, with the statuses that the splits above it fix"),
     ("--leaf", " K", "the Kth price leaf in the order of the tree's lines; the first where it is not given"),
     ("--writer", " W", "only texts whose second line names writer W"),
     ("--since", " T", "only texts lodged at T or later: 2026-11-17, or 2026-11-17T18:00:00Z"),

@@ -139,6 +139,9 @@ fn at_a_trees_leaves_the_splits_above_fix_the_statuses() {
         ("--leaf 2 --tree 4", 1505, "0,0/0,10", "60,90"),
         ("--tree=4 --leaf=3", 1820, "80,80/0,50", "0,0"),
         ("--tree 4 --leaf 4", 1910, "20,80/0,10", "40,10"),
+        // besides, unit 1 off in period 1, so for its two periods at least, at the stop's 5
+        ("--tree 4 --off 1,1", 2005, "0,0/0,0", "60,100"),
+        ("--off 2,2 --tree 4", 1880, "20,80/0,0", "40,20"),
     ] {
         let ran = desk.draft(words).sound(0);
         assert_eq!(ran.out(), printed(value, runs, short), "{words}");
@@ -353,10 +356,11 @@ const MISTAKES: &[(&str, &str)] = &[
     ("--writer 7", "give --price, "),
     ("--leaf 1", "--leaf is a leaf of --tree, which is missing"),
     ("--price 10,14 --leaf 1", "--leaf is a leaf of --tree, which is missing"),
-    ("--tree 3 --price 10,14", "--tree and --price: with --tree the leaf has the multipliers and the statuses"),
+    ("--tree 3 --price 10,14", "--tree and --price: with --tree the leaf has the multipliers; --json shows them"),
     ("--reserve 0,0 --tree 3", "--tree and --reserve: "),
-    ("--tree 3 --off 1,1", "--tree and --off: "),
-    ("--tree 3 --on 1,1", "--tree and --on: "),
+    ("--tree 4 --on 2,2", "--on 2,2: the splits above the leaf fix unit 2 off in period 2"),
+    ("--tree 4 --leaf 3 --off 2,2", "--off 2,2: the splits above the leaf fix unit 2 on in period 2"),
+    ("--tree 4 --off 3,1", "--off 3,1: U is 3; 1 to 2 (I, the units) is its range"),
     // multipliers
     ("--price", "--price wants a multiplier for each period, as --price 10,14"),
     ("--price=", "--price wants a multiplier for each period"),

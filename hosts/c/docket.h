@@ -43,7 +43,8 @@ extern "C" {
 #define DOCKET_NO_DOCKET (SIZE_MAX - 1)
 
 /* ---- what to lend; more may be lent. What a call does not name as written stays as it was, within the asked-for part too.
- * What docket_cheapest_runs is lent besides the state is asked for to the number. */
+ * Exact, so that more does not fit either, are the length of `fixed` and all that docket_cheapest_runs is lent besides the
+ * state. */
 
 /* for the line of an answer: docket_lodge asks for so many bytes, whatever the answer */
 #define DOCKET_LINE_BYTES ((size_t)128)
@@ -165,7 +166,7 @@ size_t docket_units_taken(const uint64_t *numbers, size_t numbers_length, const 
                           size_t most, const uint8_t *fixed, size_t fixed_length, uint64_t *taken, size_t taken_length);
 
 /* What docket_cheapest_runs returns where there is a docket: `runs`, `shortfalls` and `value` are written; the docket knows no
- * problem; the question does not fit the problem; or, above DOCKET_RUNS_STUCK, a unit is stuck. */
+ * problem; the question does not fit the problem; or DOCKET_RUNS_STUCK + u, so 101 to 132: unit u is stuck. */
 enum docket_runs_answer { DOCKET_RUNS_FOUND = 0, DOCKET_RUNS_NO_PROBLEM = 1, DOCKET_RUNS_UNFIT = 2, DOCKET_RUNS_STUCK = 100 };
 
 /* Finds the runs behind the value of a price leaf, and how far they fall short of the demand.
@@ -178,7 +179,8 @@ enum docket_runs_answer { DOCKET_RUNS_FOUND = 0, DOCKET_RUNS_NO_PROBLEM = 1, DOC
  * is what these runs are worth and, over the periods, q * D + s * (D + R). They keep no ramps, and together they need not reach
  * D or D + R: they are a draft of a schedule.
  *
- * The lengths are asked for to the number: T for `q`, `s` and `shortfalls`, units times T for `fixed` and `runs`, 1 for `value`.
+ * The lengths are exact: T for `q`, `s` and `shortfalls`, units times T for `fixed` and `runs`, 1 for `value`. T is at most 48, and
+ * units times T at most DOCKET_OUTPUTS. A multiplier is in the problem's money for a unit of output.
  *
  * Returned: DOCKET_RUNS_FOUND, and all three are written: to runs[u * T + t] the output of unit u in period t, both counted from
  * 0; to shortfalls[t] how far the outputs in period t together fall short of D, 0 where they do not; to value[0] the leaf's

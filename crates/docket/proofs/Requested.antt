@@ -3,7 +3,7 @@
 -- Promises.antt speaks.
 use mathlib.Core.Path.{_≡_, refl}
 use mathlib.Core.Bool.{Bool, true, false, not}
-use mathlib.Core.List.{List, [], _∷_, _++_, map}
+use mathlib.Core.List.{List, [], _∷_, _++_, map, flatten}
 use mathlib.Core.Logic.{_↔_}
 use mathlib.Core.Option.{Option, none, some}
 use Prim.Native.Nat.{ℕ, suc, pred, _+_, _*_, _-_, _≤_, _<_, min}
@@ -17,15 +17,13 @@ use Rattle.model.specs.declared.generator.Generator.{Generator}
 use Rattle.model.specs.Instance.{Instance, Schedule, _at_, Each}
 use Rattle.model.specs.Ranges.{All, InRange, Ordered, GoodUnit, WellFormed}
 use Rattle.model.specs.Rules.{on, if-on, output, FirstRamp, MeetsPrinted, Meets}
-use Rattle.model.specs.Cost.{cost}
+use Rattle.model.specs.Cost.{row-cost, cost}
 use Rattle.model.specs.Breach.{Breach}
 use Rattle.model.specs.Broken.{Of, OffRamp, Broken, Lower}
 use Rattle.model.specs.Above.{Mark, Above, root, count, side}
 use Rattle.model.specs.Largest.{total, falling, largest, LargestSum, FallingOrder}
-use Rattle.model.specs.Leaf.{usable, available, not-off, Crowded, those, is-stuck, any-stuck, value, units-least, requirement, leaf-value}
-use Rattle.model.specs.Walk.{cap}
-use Rattle.model.specs.Runs.{least-row, Attains, Precedes, ByOutputs, ByStatuses, least-rows, shortfall}
-use Rattle.model.specs.RunWalk.{first-run, walked-row}
+use Rattle.model.specs.Leaf.{usable, available, not-off, Crowded, those, is-stuck, any-stuck, rows-of, revenue, value, unit-least, units-least, requirement, leaf-value}
+use Rattle.model.specs.Runs.{least-row, Attains, Precedes, ByOutputs, ByStatuses, first-stuck, least-rows, shortfall, shortfalls}
 use Rattle.model.specs.Ramps.{over-rise, over-fall, sumℤ, ramp-charge, ramp-value, Steps, ramp-leasts, ramp-leaf-value, RampPrices, ups, downs, Unpriced}
 use Rattle.model.specs.declared.figures.Bound.the-variants.{Never as never, Number as number}
 use Rattle.model.specs.Turns.{in-turn, took, Fewest}
@@ -43,7 +41,6 @@ use Rattle.model.proofs.EveryLeaf as each-leaf
 use Rattle.model.proofs.RampRules as ramp-rules
 use Rattle.model.proofs.RampLeaf as ramp-leaf
 use Rattle.model.proofs.Narrowing as narrowing
-use Rattle.model.proofs.FirstRuns as first-runs
 use Rattle.model.proofs.LeastRows as rows
 use Rattle.model.proofs.LeafRuns as leaf-runs
 use Rattle.model.proofs.Unread as unread
@@ -64,7 +61,7 @@ use Rattle.tree.proofs.SplitCounts.{split-lines}
 use Rattle.answer.specs.StatedAnswers.{AnswerValues, refused, Carries}
 use Rattle.leaves.specs.declared.short.Taken.{Taken}
 use Rattle.runs.specs.declared.drafting.RunsAnswer.the-variants as runs
-use Rattle.runs.specs.Drafts.{Drafted, draft-under}
+use Rattle.runs.specs.Drafts.{Drafted, unwritten, drafted, draft-under}
 use Rattle.docket.specs.declared.Docket.{Docket}
 use Rattle.docket.specs.declared.taking.TakenAnswer.{TakenAnswer}
 use Rattle.docket.specs.declared.taking.TakenAnswer.the-variants.{NoProblem, Unfit, Taken as taken}
@@ -78,7 +75,7 @@ use Rattle.docket.specs.Specimens.{problem-of, listed-problem, tree-text
 use Rattle.docket.specs.Docket.{sound}
 use Rattle.docket.specs.Taking.{FitQuestion, asked, taken-under, taken-of}
 use Rattle.docket.specs.Drafting.{runs-of}
-use Rattle.docket.specs.Requested.{NodeLineDue, PartLineDue, TakenThere, Told, AsAsked, Midnight, in-period-1, UnitLineDue, DraftTold, status-bytes}
+use Rattle.docket.specs.Requested.{NodeLineDue, PartLineDue, TakenThere, Told, AsAsked, Midnight, in-period-1, UnitLineDue, LeafRuns, DraftTold, leaf-runs, status-bytes}
 use Rattle.docket.proofs.SpecimenTexts.{is-listed-problem}
 use Rattle.docket.proofs.SpecimenList.{specimens-answered}
 use Rattle.docket.proofs.CountLines as count-lines
@@ -281,31 +278,32 @@ module _ (n : ℕ) (q s : ℕ → ℕ) (g : Generator) (good : GoodUnit g) (m : 
   pub run-by-statuses : (r : List ℕ) → Attains n q s g m r → ByStatuses (least-row n q s g m) r × (ByStatuses r (least-row n q s g m) → r ≡ least-row n q s g m)
   run-by-statuses r a = (rows.least-row-statuses n q s g good m free r a, rows.only-statuses n q s g good m free r a)
 
-  -- It is the run that the code follows: forward from the state before period 1, off where the value of that is no larger, else on at the best output; and
-  -- counts of periods beyond TU on and TD + Tcold + 1 off make no difference to it
-  pub run-walked : (least-row n q s g m ≡ walked-row n q s g m)
-      × ((w : ℕ → Bool → ℕ) (b : Bool) (k : ℕ) → first-run n g m w b (min k (cap g b)) ≡ first-run n g m w b k)
-  run-walked = (rows.least-row-walk n q s g good m free, first-runs.first-run-cap g n m)
-
 -- A price leaf gives, for each period, how far the runs fall short of D: with it they give D, and it is 0 where they give as much or more
 pub falls-short : (P : Instance) (rs : Schedule) (t : ℕ)
     → (output P rs t < P .demand at t → output P rs t + shortfall P rs t ≡ P .demand at t) × (P .demand at t ≤ output P rs t → shortfall P rs t ≡ 0)
 falls-short = leaf-runs.shortfall-is
 
 -- What a docket tells who asks is, of every value of it, what `DraftTold` says (docket/specs/Requested.antt) under the problem by which it judges, with what the slices
--- that are lent then hold; and one answer alone is that. A question has a price leaf's multipliers: of a ramp leaf none can be asked, and none is told
+-- that are lent then hold; and one answer alone is that. A question has a price leaf's multipliers: of a ramp leaf none can be asked
 pub draft-anywhere : (q s fixed rows short : List ℕ) (d : Docket) → Long d → (o : Option Instance) → JudgesBy d o → DraftTold q s fixed rows short o (runs-of d q s fixed rows short)
 draft-anywhere = drafting.told-anywhere
 
 pub draft-one : (q s fixed rows short : List ℕ) (o : Option Instance) (x y : Drafted) → DraftTold q s fixed rows short o x → DraftTold q s fixed rows short o y → x ≡ y
 draft-one = drafting.told-one
 
--- Of every price leaf of an accepted tree, with the statuses that are fixed above it, the answer is its value, which is its part in the tree's bound
+-- Of every price leaf of an accepted tree, asked with the statuses that are fixed above it of a docket that judges by the tree's problem: the answer is the leaf's value, which
+-- is its part in the tree's bound, and what the slices hold are the leaf's runs and how far they fall short
 pub leaf-gives : (P : Instance) → WellFormed P → (t : Tree) → Limits P root 0 t → Holds P root t → (i : LeafOf t) (q s : List ℕ) → leaf-at t i ≡ price q s
-    → (rows short : List ℕ) → length rows ≡ length (P .units) * P .periods → length short ≡ P .periods
-    → (draft-under P q s (status-bytes (length (P .units)) (P .periods) (above root t i .marks)) rows short .answer ≡ runs.Found (leaf-value P (above root t i .marks) (λ t. q at t) (λ t. s at t)))
-    × (leaf-bound P (above root t i) (leaf-at t i) ≡ number (leaf-value P (above root t i .marks) (λ t. q at t) (λ t. s at t)))
+    → (rows gaps : List ℕ) → length rows ≡ length (P .units) * P .periods → length gaps ≡ P .periods → (d : Docket) → Long d → JudgesBy d (some P)
+    → let A = above root t i in
+    let z = leaf-value P (A .marks) (λ t. q at t) (λ t. s at t) in
+    (rs : Schedule) × (leaf-runs P A (leaf-at t i) ≡ some rs) × LeafRuns P (A .marks) (λ t. q at t) (λ t. s at t) rs × (leaf-bound P A (leaf-at t i) ≡ number z)
+    × (runs-of d q s (status-bytes (length (P .units)) (P .periods) (A .marks)) rows gaps ≡ record { answer = runs.Found z; rows = flatten rs; short = shortfalls P rs })
 leaf-gives = drafting.leaf-gives
+
+-- A ramp leaf gives none
+pub ramp-gives-none : (P : Instance) (A : Above) (q s : List ℕ) (l : List RampPrices) → leaf-runs P A (ramp q s l) ≡ none
+ramp-gives-none P A q s l = refl
 
 -- For every list of texts, lodged in turn in a fresh docket: vs is what they are, `given vs` the problem that they gave, `answer texts text` the answer to
 -- one text more
@@ -514,5 +512,26 @@ told-witnessed = (
   told-there 2 0 (0 ∷ 1 ∷ 0 ∷ 0 ∷ []),
   told-there 2 0 (0 ∷ 2 ∷ 0 ∷ 0 ∷ []),
   told-there 3 0 (0 ∷ 0 ∷ 0 ∷ 0 ∷ []),
+  refl,
+)
+
+-- ---- A witness: under the same problem, at 10 and 14 with nothing fixed, unit 1 runs at 20 and 80 and unit 2 not at all, 40 and 20 short; with unit 1 off and then on again it is stuck; a price too
+-- few does not fit; and before any problem there is nothing to tell
+
+abbrev drafted-then : List ℕ → List ℕ → Drafted
+drafted-then q f = runs-of (after (listed-problem ∷ [])) q (0 ∷ 0 ∷ []) f (7 ∷ 7 ∷ 7 ∷ 7 ∷ []) (7 ∷ 7 ∷ [])
+
+drafted-there : (q f : List ℕ) → drafted-then q f ≡ draft-under example q (0 ∷ 0 ∷ []) f (7 ∷ 7 ∷ 7 ∷ 7 ∷ []) (7 ∷ 7 ∷ [])
+drafted-there q f = drafting.told-as q (0 ∷ 0 ∷ []) f (7 ∷ 7 ∷ 7 ∷ 7 ∷ []) (7 ∷ 7 ∷ []) (listed-problem ∷ []) (problem example ∷ []) (then is-listed-problem no-more) example refl
+
+pub draft-witnessed : (drafted-then (10 ∷ 14 ∷ []) (0 ∷ 0 ∷ 0 ∷ 0 ∷ []) ≡ record { answer = runs.Found (pos 1880); rows = 20 ∷ 80 ∷ 0 ∷ 0 ∷ []; short = 40 ∷ 20 ∷ [] })
+    × (drafted-then (10 ∷ 14 ∷ []) (1 ∷ 2 ∷ 0 ∷ 0 ∷ []) ≡ unwritten (7 ∷ 7 ∷ 7 ∷ 7 ∷ []) (7 ∷ 7 ∷ []) (runs.Stuck 1))
+    × (drafted-then (10 ∷ []) (0 ∷ 0 ∷ 0 ∷ 0 ∷ []) ≡ unwritten (7 ∷ 7 ∷ 7 ∷ 7 ∷ []) (7 ∷ 7 ∷ []) runs.Unfit)
+    × (runs-of (after []) (10 ∷ 14 ∷ []) (0 ∷ 0 ∷ []) (0 ∷ 0 ∷ 0 ∷ 0 ∷ []) (7 ∷ []) (7 ∷ []) ≡ unwritten (7 ∷ []) (7 ∷ []) runs.NoProblem)
+unfolding flatten runs-of draft-under drafted least-rows least-row shortfall output first-stuck is-stuck sound marks-in mark-of leaf-value units-least unit-least value revenue requirement rows-of row-cost
+draft-witnessed = (
+  drafted-there (10 ∷ 14 ∷ []) (0 ∷ 0 ∷ 0 ∷ 0 ∷ []),
+  drafted-there (10 ∷ 14 ∷ []) (1 ∷ 2 ∷ 0 ∷ 0 ∷ []),
+  drafted-there (10 ∷ []) (0 ∷ 0 ∷ 0 ∷ 0 ∷ []),
   refl,
 )

@@ -6,11 +6,11 @@ use mathlib.Core.List.{List, [], _∷_, _++_, map, flatten}
 use mathlib.Core.Logic.{_↔_, _⊎_, inl, inr}
 use mathlib.Core.Option.{Option, none, some}
 use Prim.Native.Nat.{ℕ, zero, suc, _+_, _*_, _≤_, _<_}
-use native.Mathlib.Nat.{suc-inj}
 use native.Mathlib.Omega.{arith}
 use lib.Dec.{T}
 use lib.IntN.{ℤ}
 use lib.ListN.{length, getD, length-map, length-append, List·getD-append}
+use lib.Seq.{ext-getD, getD-append-add}
 use Rattle.model.specs.declared.generator.Generator.{Generator}
 use Rattle.model.specs.declared.figures.Bound.the-variants.{Number as number}
 use Rattle.model.specs.Instance.{Instance, Schedule, _at_}
@@ -18,19 +18,21 @@ use Rattle.model.specs.Ranges.{All, GoodUnit, WellFormed}
 use Rattle.model.specs.Held.{view, blank-generator}
 use Rattle.model.specs.Rules.{on, statuses}
 use Rattle.model.specs.Above.{Mark, free, fixed, Marks, rest, Above, root}
-use Rattle.model.specs.Agreement.{Candidate, LeafOf, above, leaf-at}
-use Rattle.model.specs.Leaf.{range, is-stuck, stuck-at, any-stuck, requirement, leaf-value}
-use Rattle.model.specs.Tree.{Leaf, price, Tree, leaf, fork, GoodLeaf, LeafHolds, leaf-bound, Limits, Holds}
-use Rattle.model.specs.Runs.{least-row, least-rows, first-stuck, Attains, Precedes, Smaller, ByOutputs, shortfalls}
-use Rattle.model.proofs.Tests.{T-true, T-false}
+use Rattle.model.specs.Agreement.{LeafOf, above, leaf-at}
+use Rattle.model.specs.Leaf.{range, is-stuck, stuck-at, any-stuck, leaf-value}
+use Rattle.model.specs.Prices.{best-output, worth}
+use Rattle.model.specs.RunWalk.{row-of, walked-row}
+use Rattle.model.specs.Tree.{price, Tree, leaf, fork, GoodLeaf, LeafHolds, leaf-bound, Limits, Holds}
+use Rattle.model.specs.Runs.{least-row, least-rows, first-stuck, ByOutputs, shortfalls}
 use Rattle.model.proofs.Stuck.{stuck→none}
 use Rattle.model.proofs.Extents.{SameMarks, any-stuck-ext, leaf-value-ext}
 use Rattle.model.proofs.EveryLeaf.{holds-every}
 use Rattle.model.proofs.Lowest.{compare}
 use Rattle.model.proofs.SortedRows.{smaller-asym}
-use Rattle.model.proofs.LeastRows.{precedes-outputs, least-row-attains, least-row-precedes}
+use Rattle.model.proofs.LeastRows.{precedes-outputs, least-row-walk, least-row-attains, least-row-precedes}
+use Rattle.model.proofs.FirstRuns.{first-run-ext}
 use Rattle.model.proofs.LeafRuns.{least-rows-long, least-rows-at, none-stuck, leaf-attained}
-use Rattle.walk.specs.Marks.{mark-of, marks-in}
+use Rattle.walk.specs.Marks.{mark-of}
 use Rattle.walk.proofs.AboveMarks.{marks-same}
 use Rattle.least.proofs.UnitParts.{all-getD}
 use Rattle.runs.specs.declared.drafting.RunsAnswer.the-variants as answer
@@ -47,7 +49,7 @@ use Rattle.docket.specs.Demand3.{Holding}
 use Rattle.docket.specs.Promised.{after, given, Long, JudgesBy, its-own, no-problem}
 use Rattle.docket.specs.Drafting.{runs-of}
 use Rattle.docket.specs.Requested as said
-use Rattle.docket.specs.Requested.{FirstStuck, FirstRun, LeafRuns, DraftTold, status-byte, status-bytes}
+use Rattle.docket.specs.Requested.{FirstStuck, FirstRun, LeafRuns, DraftTold, leaf-runs, status-byte, status-bytes}
 use Rattle.docket.proofs.Lists.{reached-sound}
 use Rattle.docket.proofs.Demand3.{demand3}
 use Rattle.docket.proofs.Determined.{holds-then}
@@ -148,12 +150,6 @@ module _ (q s fixed rows short : List ℕ) where
 
 -- ---- one answer alone
 
-same-rows : (l l′ : Schedule) → length l ≡ length l′ → ((u : ℕ) → u < length l → getD l u [] ≡ getD l′ u []) → l ≡ l′
-same-rows [] [] e h = refl
-same-rows [] (r ∷ l′) e h = absurd (omega arith)
-same-rows (r ∷ l) [] e h = absurd (omega arith)
-same-rows (r ∷ l) (r′ ∷ l′) e h = ap₂ _∷_ (h 0 (omega arith)) (same-rows l l′ (suc-inj e) (λ u i. h (suc u) (omega arith)))
-
 -- a unit has one first run
 pub one-run : (n : ℕ) (q s : ℕ → ℕ) (g : Generator) (m : ℕ → Mark) (r r′ : List ℕ) → FirstRun n q s g m r → FirstRun n q s g m r′ → r ≡ r′
 one-run n q s g m r r′ a b =
@@ -192,7 +188,7 @@ module _ (P : Instance) (m : Marks) where
 
     one-runs : (rs rs′ : Schedule) → LeafRuns P m q s rs → LeafRuns P m q s rs′ → rs ≡ rs′
     one-runs rs rs′ a b =
-        same-rows rs rs′ (a .long ∙ sym (b .long))
+        ext-getD [] rs rs′ (a .long ∙ sym (b .long))
         (λ u l. let i : u < length (P .units) = omega (arith, a .long) in one-run (P .periods) q s (getD (P .units) u blank-generator) (m u) (getD rs u []) (getD rs′ u []) (a .each u i) (b .each u i))
 
 pub told-one : (q s fixed rows short : List ℕ) (o : Option Instance) (x y : Drafted) → DraftTold q s fixed rows short o x → DraftTold q s fixed rows short o y → x ≡ y
@@ -223,10 +219,6 @@ byte-few free = omega arith
 byte-few (fixed true) = omega arith
 byte-few (fixed false) = omega arith
 
-at-behind : (l l′ : List ℕ) (k : ℕ) → (l ++ l′) at (length l + k) ≡ l′ at k
-at-behind [] l′ k = ap (λ (i : ℕ). l′ at i) (omega arith)
-at-behind (x ∷ l) l′ k = let e : suc (length l) + k ≡ suc (length l + k) = omega arith in ap (λ (i : ℕ). (x ∷ (l ++ l′)) at i) e ∙ at-behind l l′ k
-
 module _ (n : ℕ) where
   bytes-long : (I : ℕ) (m : Marks) → length (status-bytes I n m) ≡ I * n
   bytes-long zero m = omega arith
@@ -243,7 +235,7 @@ module _ (n : ℕ) where
   bytes-at (suc I) m (suc u) t h l =
       let f : ℕ → ℕ = λ t. status-byte (m 0 t) in
       let e : suc u * n + t ≡ length (map f (range 0 n)) + (u * n + t) = omega (arith, periods-long f n) in
-      rw e (at-behind (map f (range 0 n)) (status-bytes I n (rest m)) (u * n + t) ∙ bytes-at I (rest m) u t (omega arith) l)
+      rw e (getD-append-add (map f (range 0 n)) (status-bytes I n (rest m)) (u * n + t) 0 ∙ bytes-at I (rest m) u t (omega arith) l)
 
   all-bytes : (I : ℕ) (m : Marks) → All (λ b. b ≤ 2) (status-bytes I n m)
   all-bytes zero m = tt
@@ -260,6 +252,26 @@ unfolding Limits
 good-leaf P A d (leaf l) h i = h
 good-leaf P A d (fork f x y) h (inl i) = good-leaf P _ _ x (h .2) i
 good-leaf P A d (fork f x y) h (inr i) = good-leaf P _ _ y (h .3) i
+
+-- runs under the same marks are the same
+tail-free : (a b : Bool) → a || b ≡ false → b ≡ false
+tail-free true b e = absurd (let z : _≡_ {A = ℕ} 0 1 = cc in omega arith)
+tail-free false b e = e
+
+rows-alike : (n : ℕ) (q s : ℕ → ℕ) (gs : List Generator) → All GoodUnit gs → (m m′ : Marks) → SameMarks (length gs) n m m′ → any-stuck n gs m ≡ false → any-stuck n gs m′ ≡ false
+    → least-rows n q s gs m ≡ least-rows n q s gs m′
+unfolding least-rows walked-row
+rows-alike n q s [] h m m′ same e e′ = refl
+rows-alike n q s (g ∷ gs) h m m′ same e e′ =
+    ap₂ _∷_ first
+    (rows-alike n q s gs (h .1) (rest m) (rest m′) (λ u l. same (suc u) (omega arith)) (tail-free (is-stuck n g (m 0)) (any-stuck n gs (rest m)) e)
+    (tail-free (is-stuck n g (m′ 0)) (any-stuck n gs (rest m′)) e′))
+  where
+    first : least-row n q s g (m 0) ≡ least-row n q s g (m′ 0)
+    first =
+        least-row-walk n q s g (h .0) (m 0) (none-stuck n q s (g ∷ gs) m blank-generator e 0 (omega arith))
+        ∙ ap (row-of (λ t. best-output g (q t))) (first-run-ext n g (m 0) (m′ 0) (λ t. worth g (q t) (s t)) (λ t. worth g (q t) (s t)) (same 0 (omega arith)) (λ t l d. refl) (g .on) (g .since))
+        ∙ sym (least-row-walk n q s g (h .0) (m′ 0) (none-stuck n q s (g ∷ gs) m′ blank-generator e′ 0 (omega arith)))
 
 module _ (P : Instance) (W : WellFormed P) (t : Tree) (limits : Limits P root 0 t) (holds : Holds P root t) (i : LeafOf t) (q s : List ℕ) (is : leaf-at t i ≡ price q s) where
   abbrev m : Marks
@@ -300,10 +312,33 @@ module _ (P : Instance) (W : WellFormed P) (t : Tree) (limits : Limits P root 0 
       statuses = all-bytes (P .periods) (length (P .units)) m;
     }
 
-    -- what is told of it is its value
-    pub leaf-gives : (draft-under P q s bytes rows short .answer ≡ answer.Found z) × (leaf-bound P (above root t i) (leaf-at t i) ≡ number z)
-    unfolding draft-under drafted leaf-bound
-    leaf-gives = (
-      rw (fits-is P q s bytes rows short .1 leaf-fits, free-there) (ap answer.Found (leaf-value-ext P (W .units-good) (marks-asked P bytes) m same (λ t. q at t) (λ t. q at t) (λ t. s at t) (λ t. s at t) (λ v l. refl) (λ v l. refl))),
+    -- its runs are those under the statuses above it
+    runs-alike : least-rows (P .periods) (λ t. q at t) (λ t. s at t) (P .units) (marks-asked P bytes) ≡ least-rows (P .periods) (λ t. q at t) (λ t. s at t) (P .units) m
+    runs-alike = rows-alike (P .periods) (λ t. q at t) (λ t. s at t) (P .units) (W .units-good) (marks-asked P bytes) m same free-there (sym (any-stuck-ext (P .periods) (P .units) (marks-asked P bytes) m same) ∙ free-there)
+
+    -- what is told of it is its value, its runs, and how far they fall short
+    leaf-under : draft-under P q s bytes rows short
+        ≡ record { answer = answer.Found z; rows = flatten (least-rows (P .periods) (λ t. q at t) (λ t. s at t) (P .units) m); short = shortfalls P (least-rows (P .periods) (λ t. q at t) (λ t. s at t) (P .units) m) }
+    unfolding draft-under drafted
+    leaf-under =
+        rw (fits-is P q s bytes rows short .1 leaf-fits, free-there)
+        (ap₂ (λ (v : ℤ) (rs : Schedule). record { answer = answer.Found v; rows = flatten rs; short = shortfalls P rs })
+        (leaf-value-ext P (W .units-good) (marks-asked P bytes) m same (λ t. q at t) (λ t. q at t) (λ t. s at t) (λ t. s at t) (λ v l. refl) (λ v l. refl)) runs-alike)
+
+    pub leaf-gives : (d : Docket) → Long d → JudgesBy d (some P) → (rs : Schedule) × (leaf-runs P (above root t i) (leaf-at t i) ≡ some rs) × LeafRuns P m (λ t. q at t) (λ t. s at t) rs
+        × (leaf-bound P (above root t i) (leaf-at t i) ≡ number z) × (runs-of d q s bytes rows short ≡ record { answer = answer.Found z; rows = flatten rs; short = shortfalls P rs })
+    unfolding leaf-bound
+    leaf-gives d long j = (
+      least-rows (P .periods) (λ t. q at t) (λ t. s at t) (P .units) m,
+      ap (leaf-runs P (above root t i)) is,
+      runs-there P W m (λ t. q at t) (λ t. s at t) (sym (any-stuck-ext (P .periods) (P .units) (marks-asked P bytes) m same) ∙ free-there),
       ap (leaf-bound P (above root t i)) is,
+      judged d long (some P) j refl ∙ leaf-under,
     )
+      where
+        -- the docket asks its own problem, which is P
+        judged : (d : Docket) → Long d → (o : Option Instance) → JudgesBy d o → o ≡ some P → runs-of d q s bytes rows short ≡ draft-under P q s bytes rows short
+        judged d long _ (its-own k) e =
+            runs-known d q s bytes rows short (ap (λ (x : Docket). x .known) (itself d (known-sound-is d long (k .known) .1 k)) ∙ k .known)
+            ∙ ap (λ (Q : Instance). draft-under Q q s bytes rows short) (let h : view (d .problem) ≡ P = cc in h)
+        judged d long _ (no-problem n) e = absurd (let z : _≡_ {A = ℕ} 0 1 = cc in omega arith)

@@ -15,7 +15,9 @@ use Rattle.model.specs.Held.{blank-generator}
 use Rattle.model.specs.Breach.{Breach}
 use Rattle.model.specs.Above.{Mark, free, fixed, Marks, rest, Above, root}
 use Rattle.model.specs.Leaf.{range, available, stuck-at, requirement, leaf-value}
-use Rattle.model.specs.Runs.{Attains, Precedes, rows-value, shortfalls}
+use Rattle.model.specs.Runs.{Attains, Precedes, least-rows, rows-value, shortfalls}
+use Rattle.model.specs.Tree as tree
+use Rattle.model.specs.Tree.{Leaf}
 use Rattle.model.specs.Turns.{in-turn, Fewest}
 use Rattle.walk.specs.Marks.{mark-of, most-of}
 use Rattle.leaves.specs.declared.short.Taken.{Taken}
@@ -135,6 +137,14 @@ pub data DraftTold (q s fixed rows short : List ℕ) : Option Instance → Draft
   stuck : {P : Instance} {u : ℕ} → drafts.FitQuestion P q s fixed rows short → FirstStuck P (marks-asked P fixed) u → DraftTold q s fixed rows short (some P) (unwritten rows short (runs.Stuck (suc u)))
   found : {P : Instance} {rs : Schedule} → drafts.FitQuestion P q s fixed rows short → LeafRuns P (marks-asked P fixed) (λ t. q at t) (λ t. s at t) rs
       → DraftTold q s fixed rows short (some P) (record { answer = runs.Found (leaf-value P (marks-asked P fixed) (λ t. q at t) (λ t. s at t)); rows = flatten rs; short = shortfalls P rs })
+
+-- what a leaf gives, with A above it: a price leaf the runs of all units; no other leaf gives any
+abbrev pub leaf-runs : Instance → Above → Leaf → Option Schedule
+leaf-runs P A (tree.short t) = none
+leaf-runs P A (tree.crowd t) = none
+leaf-runs P A (tree.stuck U) = none
+leaf-runs P A (tree.price q s) = some (least-rows (P .periods) (λ t. q at t) (λ t. s at t) (P .units) (A .marks))
+leaf-runs P A (tree.ramp q s l) = none
 
 -- a status as a byte: 0 free, 1 fixed off, 2 fixed on
 abbrev pub status-byte : Mark → ℕ

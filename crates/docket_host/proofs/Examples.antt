@@ -1,15 +1,16 @@
 -- What the calls ask for, by computation: as much as the header says, and not one less.
 use mathlib.Core.Path.{_≡_, refl}
-use mathlib.Core.Bool.{true, false}
-use Prim.Native.Nat.{_-_, _^_}
+use mathlib.Core.Bool.{true, false, cond}
+use Prim.Native.Nat.{ℕ, _-_, _^_}
 use lib.IntN.{pos, negℤ}
 use lib.ListN.{replicate}
 use Rattle.docket_host.specs.HostAnswer.{too-little-room}
-use Rattle.state.specs.Layout.{numbers-count, rows-count}
-use mathlib.Core.List.{[], _∷_}
+use Rattle.state.specs.Layout.{numbers-count, rows-count, docket-in}
+use mathlib.Core.List.{List, [], _∷_}
 use Rattle.docket.specs.declared.taking.TakenAnswer.the-variants.{NoProblem, Unfit, Taken}
 use Rattle.runs.specs.declared.drafting.RunsAnswer.the-variants as runs
-use Rattle.docket_host.specs.Calls.{rules, no-docket, lodge-room, outputs-room, taken-room, taken-number, taken-written, runs-number, value-told}
+use Rattle.runs.specs.Drafts.{unwritten}
+use Rattle.docket_host.specs.Calls.{rules, no-docket, lodge-room, outputs-room, taken-room, taken-number, taken-written, runs-number, value-told, runs-there}
 
 lodge-enough : lodge-room (replicate 618 0) (replicate 1536 0) (replicate 128 0) (replicate 16 0) ≡ true
 lodge-enough = refl
@@ -57,3 +58,9 @@ the-runs = (refl, (refl, (refl, (refl, refl))))
 
 the-value : (value-told (runs.Found (negℤ (pos 5))) (pos 7 ∷ []) ≡ negℤ (pos 5) ∷ []) × (value-told (runs.Stuck 1) (pos 7 ∷ []) ≡ pos 7 ∷ [])
 the-value = (refl, refl)
+
+-- room for no value and for two
+the-room : (v w q s f r h : List ℕ) → (runs-there v w q s f r h [] ≡ unwritten r h (cond (docket-in v w .known) runs.Unfit runs.NoProblem))
+    × (runs-there v w q s f r h (pos 7 ∷ (pos 7 ∷ [])) ≡ unwritten r h (cond (docket-in v w .known) runs.Unfit runs.NoProblem))
+unfolding runs-there
+the-room v w q s f r h = (refl, refl)

@@ -39,11 +39,10 @@ use Rattle.state.proofs.Again as again
 use Rattle.state.proofs.ReachedFits as reached
 use Rattle.state.proofs.Outputs as held
 use Rattle.docket_host.specs.HostAnswer.{too-little-room, host-answer}
-use Rattle.docket_host.specs.Calls.{no-docket, lends, lodge-room, fresh-answer, fresh-numbers, fresh-rows, lodge-answer, lodge-numbers, lodge-rows, lodge-line, lodge-values, report-answer, report-bytes, outputs-room, outputs-answer, outputs-rows, taken-room, taken-number, taken-written, taken-answer, taken-numbers, runs-number, value-told, runs-answer}
+use Rattle.docket_host.specs.Calls.{no-docket, lends, lodge-room, fresh-answer, fresh-numbers, fresh-rows, lodge-answer, lodge-numbers, lodge-rows, lodge-line, lodge-values, report-answer, report-bytes, outputs-room, outputs-answer, outputs-rows, taken-room, taken-number, taken-written, taken-answer, taken-numbers, runs-number, value-told, runs-answer, Tells}
 use Rattle.docket_host.specs.Lending.{Lending, heard, fresh-state, after-calls, HostReport}
 use Rattle.docket_host.proofs.Calls as call
 use Rattle.docket_host.proofs.RunsCalls as runs-call
-use Rattle.docket_host.proofs.RunsCalls.{Tells}
 use Rattle.docket_host.proofs.Hosted as hosted
 use Rattle.docket_host.proofs.AfterCalls as state
 use Rattle.docket_host.proofs.HostAnswers as host
@@ -123,10 +122,8 @@ pub taken-none : (v w : List ℕ) (period most : ℕ) (fixed o : List ℕ) → t
     → (no-docket ≡ taken-answer v w period most fixed o) × (o ≡ taken-numbers v w period most fixed o)
 taken-none = call.taken-none
 
--- `Tells` (proofs/RunsCalls.antt) says of a number and of three lists that they are what `docket_cheapest_runs` answers and what its three slices then hold
-
-pub runs-short : (v w q s fixed rows short : List ℕ) (value : List ℤ) → long v w ≡ false → Tells v w q s fixed rows short value too-little-room rows short value
-runs-short = runs-call.runs-small
+pub runs-small : (v w q s fixed rows short : List ℕ) (value : List ℤ) → long v w ≡ false → Tells v w q s fixed rows short value too-little-room rows short value
+runs-small = runs-call.runs-small
 
 pub runs-none : (v w q s fixed rows short : List ℕ) (value : List ℤ) → long v w ≡ true → holds v w ≡ false → Tells v w q s fixed rows short value no-docket rows short value
 runs-none = runs-call.runs-empty
@@ -149,7 +146,7 @@ pub taken-apart : (v w : List ℕ) (period most : ℕ) (fixed o : List ℕ) → 
 taken-apart = call.taken-apart
 
 -- The same of the runs of a price leaf (`draft-anywhere` there), where the slice for the value is of length 1; where it is not, the question is unfit, or there is no problem.
--- What is told is 0, 1, 2 or 101 to 132
+-- What is told is at most 132
 pub runs-any : (v w q s fixed rows short : List ℕ) (value : List ℤ) → long v w ≡ true → holds v w ≡ true → length value ≡ 1
     → let told = runs-of (docket-in v w) q s fixed rows short in
     Tells v w q s fixed rows short value (runs-number (told .answer)) (told .rows) (told .short) (value-told (told .answer) value)

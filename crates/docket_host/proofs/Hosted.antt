@@ -36,10 +36,10 @@ use Rattle.state.specs.Kept.{State, state-next, HoldsDocket, outputs-count, out
 use Rattle.state.proofs.ReachedFits.{reached-fits}
 use Rattle.state.proofs.Outputs.{outputs-long}
 use Rattle.docket_host.specs.HostAnswer.{too-little-room}
-use Rattle.docket_host.specs.Calls.{lends, lodge-room, lodge-answer, lodge-line, lodge-values, report-number, report-answer, report-bytes, outputs-room, outputs-answer, outputs-rows, taken-room, taken-number, taken-written, taken-answer, taken-numbers, runs-number, value-told}
+use Rattle.docket_host.specs.Calls.{lends, lodge-room, lodge-answer, lodge-line, lodge-values, report-number, report-answer, report-bytes, outputs-room, outputs-answer, outputs-rows, taken-room, taken-number, taken-written, taken-answer, taken-numbers, runs-number, value-told, Tells}
 use Rattle.docket_host.specs.Lending.{Lending, called, HostReport}
 use Rattle.docket_host.proofs.Calls.{lodge-by, report-by, outputs-by, taken-by}
-use Rattle.docket_host.proofs.RunsCalls.{Tells, runs-done}
+use Rattle.docket_host.proofs.RunsCalls.{runs-done}
 
 -- ---- one call
 

@@ -2,18 +2,19 @@
 use mathlib.Core.Path.{_≡_, refl, sym, ap, subst, _∙_}
 use mathlib.Core.Bool.{Bool, true, false, cond}
 use mathlib.Core.List.{List, [], _∷_, flatten}
-use Prim.Native.Nat.{ℕ, zero, suc, _+_, _≤_, _<_}
+use Prim.Native.Nat.{ℕ, zero, suc, _≤_}
 use native.Mathlib.Omega.{arith}
 use borrow.Author.Tests.{eq-eqb, ne-eqb}
 use lib.Dec.{eqb}
 use lib.IntN.{ℤ}
-use lib.ListN.{length, set, take, drop, length-take}
+use lib.ListN.{length, set, drop, length-take}
 use Rattle.model.specs.declared.generator.Generator.{Generator}
 use Rattle.model.specs.Instance.{Instance, _at_}
 use Rattle.model.specs.Held.{view}
 use Rattle.model.specs.Leaf.{any-stuck, leaf-value}
 use Rattle.model.specs.Runs.{first-stuck, shortfalls}
 use Rattle.layout.specs.Numbers.{generators-in, problem-in}
+use Rattle.layout.proofs.Readings.{generators-long}
 use Rattle.runs.specs.declared.drafting.RunsAnswer.{RunsAnswer}
 use Rattle.runs.specs.declared.drafting.RunsAnswer.the-variants as runs
 use Rattle.runs.specs.Drafts.{fits, Drafted, unwritten, marks-asked, runs-asked, drafted, draft-under}
@@ -25,7 +26,7 @@ use Rattle.docket.proofs.RunsAsked.{runs-known, runs-none}
 use Rattle.state.specs.Layout.{docket-in}
 use Rattle.state.specs.Kept.{long, holds}
 use Rattle.docket_host.specs.HostAnswer.{too-little-room}
-use Rattle.docket_host.specs.Calls.{no-docket, Few, runs-number, value-told, runs-there, runs-answer, runs-rows, runs-short, runs-value}
+use Rattle.docket_host.specs.Calls.{no-docket, Few, runs-number, value-told, runs-there, runs-answer, runs-rows, runs-short, runs-value, Tells}
 
 -- ---- a stuck unit is one of 32
 
@@ -45,10 +46,6 @@ few-under P h q s fixed rows short = go (fits P q s fixed (length rows) (length 
     go true true e = omega (arith, first-stuck-found (P .periods) (P .units) (marks-asked P fixed) e .1)
     go true false e = tt
     go false c e = tt
-
-generators-long : (v : List ℕ) (u n : ℕ) → length (generators-in v u n) ≡ n
-generators-long v u zero = refl
-generators-long v u (suc n) = ap suc (generators-long v (suc u) n)
 
 few-units : (v w : List ℕ) → length (view (docket-in v w .problem) .units) ≤ 32
 unfolding view docket-in problem-in
@@ -70,15 +67,11 @@ one-stored (x ∷ []) z h = refl
 one-stored (x ∷ (y ∷ l)) z h = absurd (omega arith)
 
 module _ (v w q s fixed rows short : List ℕ) (value : List ℤ) where
-  abbrev pub Tells : ℕ → List ℕ → List ℕ → List ℤ → Type 0
-  Tells r rows′ short′ value′ = (r ≡ runs-answer v w q s fixed rows short value)
-      × ((rows′ ≡ runs-rows v w q s fixed rows short value) × ((short′ ≡ runs-short v w q s fixed rows short value) × (value′ ≡ runs-value v w q s fixed rows short value)))
-
-  pub runs-small : long v w ≡ false → Tells too-little-room rows short value
+  pub runs-small : long v w ≡ false → Tells v w q s fixed rows short value too-little-room rows short value
   unfolding runs-answer runs-rows runs-short runs-value
   runs-small e = (rw e refl, (rw e refl, (rw e refl, rw e refl)))
 
-  pub runs-empty : long v w ≡ true → holds v w ≡ false → Tells no-docket rows short value
+  pub runs-empty : long v w ≡ true → holds v w ≡ false → Tells v w q s fixed rows short value no-docket rows short value
   unfolding runs-answer runs-rows runs-short runs-value
   runs-empty e i = (rw (e, i) refl, (rw (e, i) refl, (rw (e, i) refl, rw (e, i) refl)))
 
@@ -86,18 +79,18 @@ module _ (v w q s fixed rows short : List ℕ) (value : List ℤ) where
     abbrev there : Drafted
     there = runs-there v w q s fixed rows short value
 
-    pub runs-by : Tells (runs-number (there .answer)) (there .rows) (there .short) (value-told (there .answer) value)
+    pub runs-by : Tells v w q s fixed rows short value (runs-number (there .answer)) (there .rows) (there .short) (value-told (there .answer) value)
     unfolding runs-answer runs-rows runs-short runs-value
     runs-by = (rw (e, i) refl, (rw (e, i) refl, (rw (e, i) refl, rw (e, i) refl)))
 
     -- as a draft says
-    by : (x : Drafted) → x ≡ there → Tells (runs-number (x .answer)) (x .rows) (x .short) (value-told (x .answer) value)
-    by x k = subst (λ (y : Drafted). Tells (runs-number (y .answer)) (y .rows) (y .short) (value-told (y .answer) value)) (sym k) runs-by
+    by : (x : Drafted) → x ≡ there → Tells v w q s fixed rows short value (runs-number (x .answer)) (x .rows) (x .short) (value-told (x .answer) value)
+    by x k = subst (λ (y : Drafted). Tells v w q s fixed rows short value (runs-number (y .answer)) (y .rows) (y .short) (value-told (y .answer) value)) (sym k) runs-by
 
     -- with room for one value: the docket's
     pub runs-done : length value ≡ 1 → (d : Docket) → d ≡ docket-in v w → (a : RunsAnswer) → a ≡ runs-of d q s fixed rows short .answer
         → (rows′ : List ℕ) → rows′ ≡ runs-of d q s fixed rows short .rows → (short′ : List ℕ) → short′ ≡ runs-of d q s fixed rows short .short
-        → (r : ℕ) → r ≡ runs-number a → (value′ : List ℤ) → value′ ≡ value-told a value → Tells r rows′ short′ value′
+        → (r : ℕ) → r ≡ runs-number a → (value′ : List ℤ) → value′ ≡ value-told a value → Tells v w q s fixed rows short value r rows′ short′ value′
     unfolding runs-there
     runs-done one d ed a ea rows′ er short′ es r en value′ ev =
         let x : Drafted = runs-of d q s fixed rows short in
@@ -106,11 +99,11 @@ module _ (v w q s fixed rows short : List ℕ) (value : List ℤ) where
         (en ∙ ap runs-number ea ∙ t .0, (er ∙ t .1 .0, (es ∙ t .1 .1 .0, ev ∙ ap (λ (y : RunsAnswer). value-told y value) ea ∙ t .1 .1 .1)))
 
     -- with room for another number of values: unfit, or no problem
-    pub runs-other : (length value ≡ 1 → ⊥) → (d : Docket) → d ≡ docket-in v w → (k : Bool) → d .known ≡ k → Tells (runs-number (cond k runs.Unfit runs.NoProblem)) rows short value
+    pub runs-other : (length value ≡ 1 → ⊥) → (d : Docket) → d ≡ docket-in v w → (k : Bool) → d .known ≡ k → Tells v w q s fixed rows short value (runs-number (cond k runs.Unfit runs.NoProblem)) rows short value
     unfolding runs-there
     runs-other none d ed k ek = go k (ap (λ (y : Docket). y .known) (sym ed) ∙ ek)
       where
-        go : (k : Bool) → docket-in v w .known ≡ k → Tells (runs-number (cond k runs.Unfit runs.NoProblem)) rows short value
+        go : (k : Bool) → docket-in v w .known ≡ k → Tells v w q s fixed rows short value (runs-number (cond k runs.Unfit runs.NoProblem)) rows short value
         go true j = by (unwritten rows short runs.Unfit) (rw (ne-eqb (length value) 1 none, j) refl)
         go false j = by (unwritten rows short runs.NoProblem) (rw (ne-eqb (length value) 1 none, j) refl)
 

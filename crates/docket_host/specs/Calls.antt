@@ -1,4 +1,5 @@
 -- What the calls on an open docket answer, and what every slice that they are lent then holds. v and w are the two slices of its state.
+use mathlib.Core.Path.{_≡_}
 use mathlib.Core.Bool.{Bool, false, cond}
 use mathlib.Core.List.{List, [], _∷_}
 use Prim.Native.Nat.{ℕ, _+_, _≤_}
@@ -131,7 +132,7 @@ module _ (v w : List ℕ) (period most : ℕ) (fixed o : List ℕ) where
   unfoldable pub taken-numbers : List ℕ
   taken-numbers = guarded (taken-room v w o) (holds v w) o o (taken-written (taken-of (docket-in v w) period most fixed) o)
 
--- ---- the runs of a price leaf: every slice is asked for to the number
+-- ---- the runs of a price leaf: the lengths of all slices but the state's are exact
 
 -- 0 where they were found, 1 where no problem is known, 2 where the question does not fit it, 100 + u for the stuck unit u
 abbrev pub runs-number : RunsAnswer → ℕ
@@ -173,3 +174,7 @@ module _ (v w q s fixed rows short : List ℕ) (value : List ℤ) where
 
   unfoldable pub runs-value : List ℤ
   runs-value = drafting value value (value-told (runs-there .answer) value)
+
+  -- a number and three lists are what is answered, and what the slices then hold
+  abbrev pub Tells : ℕ → List ℕ → List ℕ → List ℤ → Type 0
+  Tells r rows′ short′ value′ = (r ≡ runs-answer) × ((rows′ ≡ runs-rows) × ((short′ ≡ runs-short) × (value′ ≡ runs-value)))

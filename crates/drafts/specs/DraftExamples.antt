@@ -1,7 +1,7 @@
 -- Document 02, [7]: what is told of the runs of a price leaf, on numbers: document 01's problem at several prices, and each end of each range of a question. Every line is found by
 -- computing.
 use mathlib.Core.Path.{_≡_, refl}
-use mathlib.Core.Bool.{Bool, true, false}
+use mathlib.Core.Bool.{true}
 use mathlib.Core.List.{List, [], _∷_, map, flatten}
 use Prim.Native.Nat.{ℕ}
 use lib.IntN.{ℤ, pos, negℤ}
@@ -34,7 +34,7 @@ free = 0 ∷ 0 ∷ 0 ∷ 0 ∷ []
 abbrev none : List ℕ
 none = 0 ∷ 0 ∷ []
 
--- document 01's problem: D is 60 and 100, R 10 and 10. At 10 unit 1 is worth as much at each output, and runs at 20; at 14 it runs at 80, and unit 2 would at 10, but for its start
+-- document 01's problem: D is 60 and 100, R 10 and 10. At 10 unit 1 is worth as much at each output, and runs at 20; at 14 it runs at 80. Unit 2 loses 40 a period on at 14, and more at 10
 prices : (asked example (10 ∷ 14 ∷ []) none free 4 2 ≡ found (pos 1880) (20 ∷ 80 ∷ 0 ∷ 0 ∷ []) (40 ∷ 20 ∷ []))
     × (asked example (10 ∷ 14 ∷ []) (1 ∷ 1 ∷ []) free 4 2 ≡ found (pos 1900) (20 ∷ 80 ∷ 0 ∷ 0 ∷ []) (40 ∷ 20 ∷ []))
     × (asked example (10 ∷ 14 ∷ []) none (0 ∷ 0 ∷ 0 ∷ 2 ∷ []) 4 2 ≡ found (pos 1980) (20 ∷ 80 ∷ 0 ∷ 10 ∷ []) (40 ∷ 10 ∷ []))

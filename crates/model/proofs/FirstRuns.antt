@@ -5,17 +5,17 @@ use mathlib.Core.Bool.{Bool, true, false, not, cond, _&&_}
 use mathlib.Core.List.{List, [], _∷_}
 use Prim.Native.Nat.{ℕ, zero, suc, _+_, _≤_, _<_, min}
 use native.Mathlib.Omega.{arith}
-use borrow.Author.Tests.{leb-true, leb-false, le-leb, lt-leb}
-use lib.Dec.{T, leb, leb→le, nleb→lt}
-use lib.ListN.{length, getD}
+use borrow.Author.Tests.{leb-true, leb-false}
+use lib.Dec.{T, leb}
+use lib.ListN.{getD}
 use Rattle.model.specs.declared.generator.Generator.{Generator}
 use Rattle.model.specs.Rules.{permits, spent}
 use Rattle.model.specs.Cost.{switch-cost}
 use Rattle.model.specs.Above.{Mark, allows}
-use Rattle.model.specs.Walk.{plus, lesser, move, back, walk, cap}
+use Rattle.model.specs.Walk.{plus, lesser, back, walk, cap}
 use Rattle.model.specs.RunWalk.{no-worse, branch, next-status, first-run}
-use Rattle.model.proofs.Coded.{plus-some, plus-inv}
-use Rattle.model.proofs.WalkRuns.{later, run-total, Obeying, obeying-first, obeying-rest, obeying-cons, walk-below-run}
+use Rattle.model.proofs.Coded.{plus-some}
+use Rattle.model.proofs.WalkRuns.{later, run-total, Obeying, obeying-first, obeying-rest, obeying-cons, walk-below-run, move-inv}
 use Rattle.model.proofs.WalkPeriods.{walk-ext}
 use Rattle.model.proofs.Caps.{walk-cap}
 
@@ -41,10 +41,6 @@ not-true false e = refl
 not-false : (c : Bool) → not c ≡ false → c ≡ true
 not-false true e = refl
 not-false false e = absurd (let z : _≡_ {A = ℕ} 0 1 = cc in omega arith)
-
-move-inv : (c : Bool) (v X : ℕ) → 0 < cond c (plus v X) 0 → T c × (0 < X) × (cond c (plus v X) 0 ≡ v + X)
-move-inv true v X h = let p : 0 < X = plus-inv v X h in (tt, p, plus-some v X p)
-move-inv false v X h = absurd (omega arith)
 
 move-some : (c : Bool) (v X : ℕ) → T c → 0 < X → cond c (plus v X) 0 ≡ v + X
 move-some true v X t h = plus-some v X h

@@ -1,10 +1,9 @@
 -- The runs of a price leaf (document 02, [7]), where no unit is stuck: a row for each unit, the first that has its least value; the rows' values and what the periods
 -- require are the leaf's value; and what a shortfall says.
-use mathlib.Core.Path.{_≡_, refl, sym, _∙_, ap, ap₂}
-use mathlib.Core.Bool.{Bool, true, false, not, cond, _||_}
+use mathlib.Core.Path.{_≡_, refl, ap, ap₂}
+use mathlib.Core.Bool.{Bool, true, false, not, _||_}
 use mathlib.Core.List.{List, [], _∷_}
-use Prim.Native.Nat.{ℕ, zero, suc, _+_, _-_, _≤_, _<_}
-use native.Mathlib.Nat.{suc-inj}
+use Prim.Native.Nat.{ℕ, zero, suc, _+_, _≤_, _<_}
 use native.Mathlib.Omega.{arith}
 use lib.Dec.{T}
 use lib.IntN.{ℤ, pos, _+ℤ_}
@@ -12,10 +11,10 @@ use lib.ListN.{length, getD}
 use Rattle.model.specs.declared.generator.Generator.{Generator}
 use Rattle.model.specs.Instance.{Instance, Schedule, _at_}
 use Rattle.model.specs.Ranges.{All, GoodOutput, GoodUnit}
-use Rattle.model.specs.Rules.{on, output, Within}
+use Rattle.model.specs.Rules.{output, Within}
 use Rattle.model.specs.Above.{Mark, Marks, rest}
 use Rattle.model.specs.Agreement.{Candidate}
-use Rattle.model.specs.Leaf.{is-stuck, any-stuck, value, unit-least, units-least, requirement, leaf-value}
+use Rattle.model.specs.Leaf.{is-stuck, any-stuck, units-least, requirement, leaf-value}
 use Rattle.model.specs.Runs.{least-row, least-rows, rows-value, shortfall}
 use Rattle.model.proofs.LeastRows.{least-row-attains}
 

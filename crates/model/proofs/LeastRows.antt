@@ -1,9 +1,9 @@
 -- The run behind a unit's least value (document 02, [7]): the first row that has it is the one that the code follows; it comes before every other row that has it,
 -- whether outputs are compared period by period or statuses first; and no other row does.
 use mathlib.Core.Path.{_≡_, refl, sym, _∙_, ap, ap₂, subst}
-use mathlib.Core.Bool.{Bool, true, false, not, cond, _&&_}
+use mathlib.Core.Bool.{Bool, true, false, not, cond}
 use mathlib.Core.Logic.{_⊎_, inl, inr, _↔_}
-use mathlib.Core.List.{List, [], _∷_, map, List·Memᴰ, List·Memᴰ·head, List·Memᴰ·tail, List·Memᴰ·not-nil, List·Memᴰ·cases-cons}
+use mathlib.Core.List.{List, [], _∷_, List·Memᴰ, List·Memᴰ·head, List·Memᴰ·tail, List·Memᴰ·not-nil, List·Memᴰ·cases-cons}
 use Prim.Native.Nat.{ℕ, zero, suc, _+_, _≤_, _<_}
 use native.Mathlib.Nat.{suc-inj, eq-or-lt-of-le}
 use native.Mathlib.Omega.{arith}
@@ -12,14 +12,14 @@ use lib.IntN.{ℤ, pos, _-ℤ_}
 use lib.ListN.{length, length-map, getD}
 use lib.Signed.{leZ, _≤ℤ_, ≤ℤ-refl}
 use Rattle.model.specs.declared.generator.Generator.{Generator}
-use Rattle.model.specs.Instance.{_at_, sum}
+use Rattle.model.specs.Instance.{_at_}
 use Rattle.model.specs.Ranges.{GoodUnit}
 use Rattle.model.specs.Rules.{on, if-on, statuses, Within, spent}
 use Rattle.model.specs.Cost.{row-cost}
 use Rattle.model.specs.Above.{Mark}
 use Rattle.model.specs.Leaf.{rows-of, is-stuck, revenue, value, unit-least}
 use Rattle.model.specs.Walk.{walk}
-use Rattle.model.specs.Prices.{on-value, BestAt, best-output, worth, price-walk, offset}
+use Rattle.model.specs.Prices.{BestAt, best-output, worth, price-walk, offset}
 use Rattle.model.specs.Agreement.{Candidate}
 use Rattle.model.specs.Runs.{equal, first-with, least-row, Attains, AlikeUntil, Precedes, Smaller, ByOutputs, OffFirst, ByStatuses}
 use Rattle.model.specs.RunWalk.{first-run, row-of, walked-row}

@@ -96,7 +96,7 @@ walk-below-run (suc n) g m w b k (d ∷ run) o =
 
 -- ---- attained by a run
 
-move-inv : (c : Bool) (v X : ℕ) → 0 < cond c (plus v X) 0 → T c × (0 < X) × (cond c (plus v X) 0 ≡ v + X)
+pub move-inv : (c : Bool) (v X : ℕ) → 0 < cond c (plus v X) 0 → T c × (0 < X) × (cond c (plus v X) 0 ≡ v + X)
 move-inv true v X h = let p : 0 < X = plus-inv v X h in (tt, p, plus-some v X p)
 move-inv false v X h = absurd (omega arith)
 

@@ -6,12 +6,12 @@ use Prim.Native.Nat.{ℕ}
 use lib.IntN.{ℤ, pos, negℤ}
 use Rattle.model.specs.declared.generator.Generator.{Generator}
 use Rattle.model.specs.Instance.{_at_}
-use Rattle.model.specs.Rules.{output}
+use Rattle.model.specs.Rules.{if-on, output}
 use Rattle.model.specs.Cost.{row-cost}
 use Rattle.model.specs.Above.{Mark, free, fixed}
 use Rattle.model.specs.Leaf.{rows-of, is-stuck, revenue, value, unit-least}
 use Rattle.model.specs.Runs.{least-row, first-stuck, shortfall, shortfalls}
-use Rattle.model.specs.Examples.{line, unit1, example, rows}
+use Rattle.model.specs.Examples.{line, example, rows}
 
 -- a unit's run at the prices q, with no price on reserve, and its value
 abbrev run-at : Generator → (ℕ → Mark) → ℕ → List ℕ → List ℕ × ℤ
@@ -48,7 +48,7 @@ short-by = refl
 
 -- on for 1 of 2 periods at least, a unit is stuck where it is fixed off in period 1: the first such unit of none, of one and of two
 stopped : Bool → Generator
-stopped b = line 0 0 0 1 1 2 1 b 1 10 10 0 0 0 0 1
+stopped b = line 0 0 0 1 1 2 1 b 1 10 10 0 0 0 0 (if-on b 1)
 
 abbrev off-first : ℕ → ℕ → Mark
 off-first u t = fixed false

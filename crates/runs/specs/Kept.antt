@@ -1,5 +1,5 @@
--- The table of a walk: the values before every period and after the last. Those before period t stand from 145·t on, on for 1 to TU periods first and off for 1 to
--- TD + Tcold + 1 from the 48th place on.
+-- The table of a walk: the values before every period and after the last. Those before period t stand from 145·t on, on for 1 to TU periods first and, 48 places on, off for 1 to
+-- TD + Tcold + 1.
 use mathlib.Core.Path.{_≡_}
 use mathlib.Core.Bool.{Bool, true, false, not, cond}
 use mathlib.Core.List.{List}

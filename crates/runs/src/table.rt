@@ -1,12 +1,12 @@
 // The values of a unit's states before every period and after the last, kept in one table: those before period t, counted from 0, from 145·t on, on for 1 to TU
-// periods first and off for 1 to TD + Tcold + 1 from the 48th place on. A coded value is 0 where there is none, and v + 1 for the value v.
+// periods first and, 48 places on, off for 1 to TD + Tcold + 1. A coded value is 0 where there is none, and v + 1 for the value v.
 ghost use mathlib.Core.Path.{_≡_};
 ghost use Prim.Native.Nat.{ℕ, _+_, _≤_, _<_};
 ghost use lib.ListN.{length};
 ghost use Rattle.model.specs.Instance.{_at_};
 ghost use Rattle.model.specs.Ranges.{GoodUnit};
 ghost use Rattle.walk.specs.Marks.{marks-of};
-ghost use Rattle.walk.specs.Limits.{GoodCosts, GoodValue};
+ghost use Rattle.walk.specs.Limits.{GoodCosts};
 ghost use Rattle.walk.specs.GoingBack.{costs-of};
 ghost use Rattle.runs.specs.Kept.{Kept, Stored, kept-in};
 use layout::copies::store;

@@ -17,8 +17,9 @@ pub const DRAFT: Command = Command {
     short: "a first draft of a schedule: the cheapest runs at given prices",
     long: "Prints, for prices by period, the value of a tree's price leaf with them, for each unit the run that is cheapest at\n\
            them, and for each period how far the runs together fall short of the demand. The prices are given by --price,\n\
-           or they are those of a price leaf of an accepted tree in the journal, which --tree names. With --writer a whole\n\
-           schedule's text is printed, to be edited, tried and lodged; standard error has the value and the shortfalls.\n\
+           or they are those of a price leaf of an accepted tree in the journal, which --tree names: one of the two is\n\
+           due. A price is in the problem's money for a unit of output. With --writer a whole schedule's text is\n\
+           printed, to be edited, tried and lodged; standard error has the value and the shortfalls.\n\
            A draft need not meet the rules. It keeps the limits of outputs and the least times on and off, (4) to (10), and\n\
            the fixed statuses; it may fall short of demand and spare, (2) and (3), and break the ramps, (11) and (12).\n\
            Where the fixed statuses leave a unit no run there is no draft: the unit is named, and the status is 1.\n\
@@ -83,14 +84,17 @@ fn at_leaf(call: &Call, tree: u64, nth: u64) -> Result<(Bench, PriceLeaf), Troub
     if let Some(what) = other_than_tree(&found) {
         return Err(Trouble::NoTree(name(call), tree, what));
     }
-    let units = bench.plant().map_or(0, |plant| plant.units);
-    let leaf = PriceLeaf::of_tree(&found.text, nth, units);
-    let leaf = leaf.map_err(|leaves| Trouble::NoLeaf {
+    let plant = bench
+        .plant()
+        .ok_or_else(|| Trouble::NoProblem(name(call)))?;
+    let leaf = PriceLeaf::of_tree(&found.text, nth, plant.units);
+    let mut leaf = leaf.map_err(|leaves| Trouble::NoLeaf {
         name: name(call),
         text: tree,
         leaf: nth,
         leaves,
     })?;
+    call.options.asked.fix(&mut leaf, plant)?;
     Ok((bench, leaf))
 }
 

@@ -113,7 +113,7 @@ class Docket:
         """
         q, s = multipliers_of("prices", prices), multipliers_of("reserves", reserves)
         # a problem has as many statuses as outputs, and more do not fit, however many there are
-        given = lent("cheapest_runs", fixed, OUTPUTS, is_text=False)[: OUTPUTS + 1]
+        given = lent("cheapest_runs", fixed, OUTPUTS, is_text=False, called="fixed")[: OUTPUTS + 1]
         lent_prices, lent_reserves = (ctypes.c_uint64 * len(q))(*q), (ctypes.c_uint64 * len(s))(*s)
         runs, shortfalls = (ctypes.c_uint64 * len(given))(), (ctypes.c_uint64 * len(q))()
         value = _Value()

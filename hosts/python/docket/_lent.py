@@ -4,8 +4,9 @@
 Bytes = bytes | bytearray | memoryview
 
 
-def lent(call: str, given: Bytes, most: int, is_text: bool = True) -> bytes:
-    """The bytes given to a call that refuses more than `most` by their length alone: of more, at least one more.
+def lent(call: str, given: Bytes, most: int, is_text: bool = True, called: str = "") -> bytes:
+    """The bytes given to a call that refuses more than `most` by their length alone: of more, at least one more. Where the
+    call has other arguments too, `called` is the name of this one.
 
     Bytes are returned as they are; any other buffer is copied, since a thread may change it during the call.
     """
@@ -16,7 +17,8 @@ def lent(call: str, given: Bytes, most: int, is_text: bool = True) -> bytes:
     try:
         view = memoryview(given)
     except TypeError:
-        raise TypeError(f"{call} takes bytes, not {type(given).__name__}") from None
+        named = f" for {called}" if called else ""
+        raise TypeError(f"{call} takes bytes{named}, not {type(given).__name__}") from None
     if view.ndim != 1 or view.itemsize != 1:
         shape = f"{view.ndim} dimensions with items of {view.itemsize} bytes"
         raise TypeError(f"{call} takes a row of bytes, not a buffer of {shape}")

@@ -3,12 +3,9 @@ use mathlib.Core.Path.{_≡_, sym, ap, _∙_}
 use mathlib.Core.Bool.{true}
 use borrow.Author.Needs.{needs}
 use lib.ListN.{length, length-map}
---
 use Rattle.model.proofs.Valid.{valid-is}
---
 use Rattle.runs.specs.Drafts.{Drafted}
 use Rattle.docket.specs.Lodging.{trusted}
---
 use Rattle.docket.proofs.HoldingAnswers.{knows-valid}
 use Rattle.docket.proofs.RunsAsked.{runs-known, runs-none}
 use Rattle.docket.proofs.Docket.cheapest_runs.Statement.{statement}

@@ -3,7 +3,6 @@ use mathlib.Core.Path.{_≡_, refl, ap, _∙_}
 use Prim.Native.Nat.{ℕ, _+_, _-_, _*_, _≤_, _<_}
 use native.Mathlib.Omega.{arith}
 use lib.ListN.{length}
-use Rattle.model.specs.Instance.{_at_}
 use Rattle.runs.specs.Columns.{column}
 use Rattle.runs.proofs.Columns.{stands, place-most, column-most, column-next}
 use Rattle.runs.proofs.short.sum_column.Statement.{statement}

@@ -1,12 +1,10 @@
 -- `write_walk` meets its contract: what the table keeps for the state before period 1 is the walk's value, and the row is written over that table.
-use mathlib.Core.Path.{_≡_, refl, sym, ap, subst, _∙_}
+use mathlib.Core.Path.{_≡_, refl, sym, subst, _∙_}
 use Prim.Native.Nat.{ℕ}
-use native.Mathlib.Omega.{arith}
 use borrow.Author.Needs.{needs}
 use lib.ListN.{length}
 use Rattle.model.specs.Walk.{walk}
 use Rattle.walk.specs.Marks.{marks-of}
-use Rattle.walk.specs.Limits.{GoodCosts}
 use Rattle.walk.specs.GoingBack.{costs-of}
 use Rattle.runs.specs.Kept.{Kept}
 use Rattle.runs.proofs.UnitRuns.{zeros-at, kept-first, row-there, row-missing}
