@@ -26,7 +26,7 @@ use Rattle.docket.specs.Lodging.{lodge-of}
 use Rattle.list.specs.Listing.{listing-text, listed-of}
 use Rattle.docket.specs.Demand3.{Unheld}
 use Rattle.docket.specs.ReportDue.{ReportDue}
-use Rattle.docket.specs.Promised.{after, answer, given}
+use Rattle.docket.specs.Promised.{after, answer, given, Long}
 use Rattle.docket.specs.Taking.{taken-of}
 use Rattle.runs.specs.declared.drafting.RunsAnswer.the-variants as runs
 use Rattle.docket.specs.Drafting.{runs-of}
@@ -34,6 +34,7 @@ use Rattle.docket.proofs.Promises as promised
 use Rattle.state.specs.Layout.{numbers-count, rows-count, layout-mark, docket-in}
 use Rattle.state.specs.Kept.{long, holds, kept-numbers, kept-rows, State, docket-kept, HoldsDocket, outputs-of}
 use Rattle.state.proofs.Room as room
+use Rattle.state.proofs.Arrays as arrays
 use Rattle.state.proofs.Opening as opening
 use Rattle.state.proofs.Again as again
 use Rattle.state.proofs.ReachedFits as reached
@@ -135,6 +136,12 @@ length-apart = call.length-apart
 
 pub outputs-apart : (v w o : List ℕ) → outputs-room v w o ≡ true → holds v w ≡ true → outputs-answer v w o < no-docket
 outputs-apart = call.outputs-apart
+
+-- The docket that they are read as has its arrays in full, as every docket value has, so that what Requested.antt says of every docket value is said of it
+pub arrays-long : (v w : List ℕ) → long v w ≡ true → Long (docket-in v w)
+arrays-long v w e =
+    let enough = room.long-room v w e .0 in
+    (arrays.demand-long v w enough, arrays.spare-long v w enough, arrays.units-long v w enough)
 
 -- What is told there is what the docket that the state is read as tells (`told-anywhere` of crates/docket/proofs/Requested.antt), by one of three numbers
 pub taken-any : (v w : List ℕ) (period most : ℕ) (fixed o : List ℕ) → taken-room v w o ≡ true → holds v w ≡ true

@@ -222,21 +222,12 @@ fn the_largest_problem_at_the_largest_multipliers() {
 #[test]
 fn a_question_changes_nothing_and_what_is_held_changes_no_answer() {
     let example = example();
-    let mut both = Both::after(&texts(&example)[..1]);
-    let questions = |docket: &Docket| {
+    Both::asked_between(&texts(&example), |docket: &Docket| {
         let answer = docket.cheapest_runs(&[12, 18], &[0, 0], &[Free; 4]);
         finds(answer, 1_820, &[&[80, 80], &[0, 50]], &[0, 0]);
         let answer = docket.cheapest_runs(&[12, 18], &[0, 0], &[Off, On, Free, Free]);
         assert_eq!(answer, CheapestRuns::Stuck { unit: 1 });
-    };
-    for text in &texts(&example)[1..] {
-        questions(&both.docket);
-        both.hold_the_same().unwrap_or_else(|why| panic!("{why}"));
-        both.lodge(text).unwrap_or_else(|why| panic!("{why}"));
-    }
-    questions(&both.docket);
-    questions(&both.docket.clone());
-    both.hold_the_same().unwrap_or_else(|why| panic!("{why}"));
+    });
 }
 
 /// The value that a leaf's runs are found with is the bound of a tree that has the leaf under the splits that fix its statuses.

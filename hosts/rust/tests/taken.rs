@@ -128,20 +128,11 @@ fn every_status_of_the_example_has_its_place() {
 #[test]
 fn a_question_changes_nothing_and_what_is_held_changes_no_answer() {
     let example = example();
-    let mut both = Both::after(&texts(&example)[..1]);
-    let questions = |docket: &Docket| {
+    Both::asked_between(&texts(&example), |docket: &Docket| {
         let all =
             [1, 2, 3].map(|period| docket.units_taken(period, Some(1), &[Free, On, Free, Off]));
         assert_eq!(all, [taken(1, false), taken(1, true), UnitsTaken::Unfit]);
-    };
-    for text in &texts(&example)[1..] {
-        questions(&both.docket);
-        both.hold_the_same().unwrap_or_else(|why| panic!("{why}"));
-        both.lodge(text).unwrap_or_else(|why| panic!("{why}"));
-    }
-    questions(&both.docket);
-    questions(&both.docket.clone());
-    both.hold_the_same().unwrap_or_else(|why| panic!("{why}"));
+    });
 }
 
 #[test]

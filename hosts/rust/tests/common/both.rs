@@ -35,6 +35,19 @@ impl Both {
         both
     }
 
+    /// Asks after each of some texts, the first of which is lodged already, and once more of a copy: questions that change nothing.
+    pub fn asked_between(texts: &[&[u8]], questions: impl Fn(&Docket)) {
+        let mut both = Both::after(&texts[..1]);
+        for text in &texts[1..] {
+            questions(&both.docket);
+            both.hold_the_same().unwrap_or_else(|why| panic!("{why}"));
+            both.lodge(text).unwrap_or_else(|why| panic!("{why}"));
+        }
+        questions(&both.docket);
+        questions(&both.docket.clone());
+        both.hold_the_same().unwrap_or_else(|why| panic!("{why}"));
+    }
+
     /// The verdict on a text lodged in both; in what they differ, where they do.
     pub fn lodge(&mut self, text: &[u8]) -> Result<Verdict, String> {
         let answer = self.docket.lodge(text);
