@@ -22,6 +22,7 @@ use Rattle.model.proofs.FirstRuns.{first-run-ext}
 use Rattle.model.proofs.LeastRows.{least-row-walk, least-row-attains}
 use Rattle.model.proofs.LeafRuns.{none-stuck, least-rows-long, least-rows-shaped, least-rows-outputs}
 use Rattle.walk.specs.Marks.{marks-of, marks-in}
+use Rattle.judge.proofs.Rows.{joined-long, all-append}
 use Rattle.least.proofs.UnitParts.{all-getD, part-same}
 
 -- ---- one unit's run, by the marks of its periods
@@ -77,15 +78,6 @@ module _ (n : ℕ) (q s : ℕ → ℕ) where
       ∙ sym (append-assoc (least-row n q s g (m 0)) (front-runs u l (rest m)) (least-row n q s (getD l u d) (m (suc u))))
 
 -- ---- as numbers
-
-joined-long : (n : ℕ) (s : Schedule) → All (λ r. length r ≡ n) s → length (flatten s) ≡ length s * n
-unfolding flatten
-joined-long n [] h = omega arith
-joined-long n (r ∷ s) h = omega (arith, length-append r (flatten s), h .0, joined-long n s (h .1))
-
-all-append : (R : ℕ → Type 0) (l m : List ℕ) → All R l → All R m → All R (l ++ m)
-all-append R [] m h k = k
-all-append R (x ∷ l) m h k = (h .0, all-append R l m (h .1) k)
 
 joined-all : (R : ℕ → Type 0) (s : Schedule) → All (λ r. All R r) s → All R (flatten s)
 unfolding flatten

@@ -1,4 +1,4 @@
--- Rows one after the other: what stands in a period, how large it is, and that a column is the output of the schedule whose rows they are.
+-- Rows one after the other: what stands in a period, how large it is, and that it is the output of the schedule whose rows they are.
 use mathlib.Core.Path.{_≡_, refl, ap, ap₂, _∙_}
 use mathlib.Core.List.{List, [], _∷_, _++_, flatten}
 use Prim.Native.Nat.{ℕ, suc, _+_, _*_, _-_, _≤_, _<_}
@@ -14,7 +14,8 @@ use Rattle.model.specs.Rules.{output}
 use Rattle.model.specs.Runs.{shortfall, shortfalls}
 use Rattle.model.proofs.PeriodSums.{sum-eq, sum-more, sum-most}
 use Rattle.model.proofs.LeafSizes.{all-at}
-use Rattle.runs.specs.Columns.{column, short-of}
+use Rattle.judge.specs.Loads.{output-in}
+use Rattle.runs.specs.Columns.{short-of}
 use Rattle.runs.proofs.PeriodLists.{periods-same}
 
 -- ---- as the code sums
@@ -27,22 +28,22 @@ module _ (n : ℕ) (l : List ℕ) (good : All GoodOutput l) (t : ℕ) where
   pub place-most : (u : ℕ) → l at (u * n + t) ≤ 10000
   place-most u = all-at 10000 l good (u * n + t) .1
 
-  pub column-most : (k : ℕ) → column k n l t ≤ k * 10000
+  pub column-most : (k : ℕ) → output-in k n l t ≤ k * 10000
   column-most k = sum-most k 10000 (λ u. l at (u * n + t)) (λ u h. place-most u)
 
 -- one row more
-pub column-next : (k n : ℕ) (l : List ℕ) (t : ℕ) → column (k + 1) n l t ≡ column k n l t + l at (k * n + t)
+pub column-next : (k n : ℕ) (l : List ℕ) (t : ℕ) → output-in (k + 1) n l t ≡ output-in k n l t + l at (k * n + t)
 column-next k n l t = rw (add-one k) (sum-more k (λ u. l at (u * n + t)))
 
 -- how far the rows fall short of D in a period
 abbrev pub short-at : Instance → List ℕ → ℕ → ℕ
-short-at P l t = P .demand at t - column (length (P .units)) (P .periods) l t
+short-at P l t = P .demand at t - output-in (length (P .units)) (P .periods) l t
 
 -- as the code has it: the numbers are known as others
 pub short-found : (P : Instance) (l : List ℕ) (t I n demand given x : ℕ) → I ≡ length (P .units) → n ≡ P .periods
-    → demand ≡ P .demand at t → given ≡ column I n l t → x ≡ demand - given → x ≡ short-at P l t
+    → demand ≡ P .demand at t → given ≡ output-in I n l t → x ≡ demand - given → x ≡ short-at P l t
 short-found P l t I n demand given x i j d g e =
-    e ∙ ap₂ _-_ d (g ∙ ap₂ (λ (I n : ℕ). column I n l t) i j)
+    e ∙ ap₂ _-_ d (g ∙ ap₂ (λ (I n : ℕ). output-in I n l t) i j)
 
 -- ---- the rows of a schedule
 
@@ -54,7 +55,7 @@ module _ (n t : ℕ) (inside : t < n) where
   next-there : (r : List ℕ) (s : Schedule) → length r ≡ n → (u : ℕ) → (r ++ flatten s) at (suc u * n + t) ≡ flatten s at (u * n + t)
   next-there r s e u = let z : suc u * n + t ≡ length r + (u * n + t) = omega arith in rw z (getD-append-add r (flatten s) (u * n + t) 0)
 
-  columns-are : (gs : List Generator) (s : Schedule) → length s ≡ length gs → All (λ r. length r ≡ n) s → column (length gs) n (flatten s) t ≡ sum-units (λ g r. r at t) gs s
+  columns-are : (gs : List Generator) (s : Schedule) → length s ≡ length gs → All (λ r. length r ≡ n) s → output-in (length gs) n (flatten s) t ≡ sum-units (λ g r. r at t) gs s
   unfolding flatten
   columns-are [] s e a = refl
   columns-are (g ∷ gs) [] e a = absurd (omega arith)
@@ -62,7 +63,7 @@ module _ (n t : ℕ) (inside : t < n) where
       ap₂ _+_ (first-here r s (a .0))
       (sum-eq (length gs) (λ u. (r ++ flatten s) at (suc u * n + t)) (λ u. flatten s at (u * n + t)) (λ u h. next-there r s (a .0) u) ∙ columns-are gs s (omega arith) (a .1))
 
-pub column-is : (P : Instance) (s : Schedule) → Shaped P s → (t : ℕ) → t < P .periods → column (length (P .units)) (P .periods) (flatten s) t ≡ output P s t
+pub column-is : (P : Instance) (s : Schedule) → Shaped P s → (t : ℕ) → t < P .periods → output-in (length (P .units)) (P .periods) (flatten s) t ≡ output P s t
 unfolding output
 column-is P s shape t h = columns-are (P .periods) t h (P .units) s (shape .0) (shape .1)
 

@@ -4,7 +4,8 @@ ghost use Prim.Native.Nat.{_*_, _-_, _≤_, _<_};
 ghost use lib.ListN.{length};
 ghost use Rattle.model.specs.Ranges.{All, GoodOutput};
 ghost use Rattle.layout.specs.Numbers.{instance-in, Laid};
-ghost use Rattle.runs.specs.Columns.{column, short-of};
+ghost use Rattle.judge.specs.Loads.{output-in};
+ghost use Rattle.runs.specs.Columns.{short-of};
 use layout::demand_at;
 use layout::periods_in;
 use layout::units_in;
@@ -13,7 +14,7 @@ use layout::units_in;
 fn sum_column(units: usize, periods: usize, rows: &[u64], t: usize) -> u64
     requires { ⌜ (units ≤ 32) × (length (now rows) ≡ units * periods) × All GoodOutput (now rows) ⌝ }
     requires { ⌜ t < periods ⌝ }
-    ensures { λ r. ⌜ r ≡ column units periods (now (rows .entry)) t ⌝ }
+    ensures { λ r. ⌜ r ≡ output-in units periods (now (rows .entry)) t ⌝ }
 {
     let mut sum = 0;
     for u in 0..units {

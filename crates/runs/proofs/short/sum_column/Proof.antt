@@ -3,13 +3,13 @@ use mathlib.Core.Path.{_≡_, refl, ap, _∙_}
 use Prim.Native.Nat.{ℕ, _+_, _-_, _*_, _≤_, _<_}
 use native.Mathlib.Omega.{arith}
 use lib.ListN.{length}
-use Rattle.runs.specs.Columns.{column}
+use Rattle.judge.specs.Loads.{output-in}
 use Rattle.runs.proofs.Columns.{stands, place-most, column-most, column-next}
 use Rattle.runs.proofs.short.sum_column.Statement.{statement}
 use Rattle.runs.proofs.short.sum_column.Tie as tie
 
 abbrev Inv-loop : tie.InvT-loop
-Inv-loop units periods rows t sum₀ u₀ sum u = (u ≤ units) × (sum ≡ column u periods rows t)
+Inv-loop units periods rows t sum₀ u₀ sum u = (u ≤ units) × (sum ≡ output-in u periods rows t)
 
 abbrev μ-loop : tie.MeasureT-loop
 μ-loop units periods rows t sum₀ u₀ sum u = units - u
@@ -62,7 +62,7 @@ returns c =
     let a = c .before .before .args in
     let l = c .before .loop in
     let e : l .u ≡ a .units = omega arith in
-    l .inv .1 ∙ ap (λ (k : ℕ). column k (a .periods) (a .rows .now) (a .t)) e
+    l .inv .1 ∙ ap (λ (k : ℕ). output-in k (a .periods) (a .rows .now) (a .t)) e
 
 pub sum-column-spec : {M : Type 1} → statement M
 sum-column-spec =
