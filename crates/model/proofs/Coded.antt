@@ -76,3 +76,11 @@ unfolding lesser
 lesser-most zero y M h k = k
 lesser-most (suc x) zero M h k = h
 lesser-most (suc x) (suc y) M h k = omega arith
+
+-- ---- two that bound each other are the same
+
+pub coded-same : (x y : ℕ) → (0 < x → (0 < y) × (y ≤ x)) → (0 < y → (0 < x) × (x ≤ y)) → x ≡ y
+coded-same zero zero f h = refl
+coded-same zero (suc y) f h = absurd (omega (arith, h (omega arith) .0))
+coded-same (suc x) zero f h = absurd (omega (arith, f (omega arith) .0))
+coded-same (suc x) (suc y) f h = omega (arith, f (omega arith) .1, h (omega arith) .1)

@@ -37,6 +37,9 @@ pub mod CountWitnesses
 pub mod PeriodSums
 pub mod Coded
 pub mod WalkRuns
+pub mod Passed
+pub mod CodedSums
+pub mod StateEnds
 pub mod Candidates
 pub mod WalkRows
 pub mod Stuck
@@ -58,6 +61,11 @@ pub mod LeafSizes
 pub mod TreeSizes
 pub mod CostSizes
 pub mod WalkPeriods
+pub mod RunParts
+pub mod PassedPeriods
+pub mod ForcedMarks
+pub mod ForcedWalks
+pub mod ForcedLeasts
 pub mod Tables
 pub mod WrongOutputs
 pub mod WrongRamps

@@ -21,6 +21,9 @@ pub mod Agreement
 pub mod Possible
 pub mod Runs
 pub mod RunWalk
+pub mod Forced
+pub mod Ends
+pub mod ForcedWalk
 pub mod Best
 pub mod Unread
 pub mod Examples
@@ -29,3 +32,4 @@ pub mod CountExamples
 pub mod TurnExamples
 pub mod RampExamples
 pub mod RunExamples
+pub mod ForcedExamples
