@@ -15,11 +15,13 @@ use Rattle.docket.specs.Lodging.{lodge-of}
 use Rattle.docket.specs.Report.{report-of, buffer-of}
 use Rattle.docket.specs.Taking.{taken-of}
 use Rattle.docket.specs.Drafting.{runs-of}
+use Rattle.docket.specs.Forcing.{forced-of}
 use Rattle.docket.proofs.Docket.fresh as fresh
 use Rattle.docket.proofs.Docket.lodge as lodge
 use Rattle.docket.proofs.Docket.report as report
 use Rattle.docket.proofs.Docket.units_taken as units-taken
 use Rattle.docket.proofs.Docket.cheapest_runs as cheapest-runs
+use Rattle.docket.proofs.Docket.forced_statuses as forced-statuses
 
 module _ {M : Type 1} (𝓤 : URA M) (H : Heap 𝓤) (A : Atoms 𝓤) (m : Memory → SProp 𝓤) (run : Routine → Fun 𝓤) where
   -- fresh(): a docket that holds nothing
@@ -65,3 +67,14 @@ module _ {M : Type 1} (𝓤 : URA M) (H : Heap 𝓤) (A : Atoms 𝓤) (m : Memor
             sep 𝓤 (fact 𝓤 (r ≡ told .answer)) (sep 𝓤 (fact 𝓤 (now (e .1 .1 .1 .1 .0) ≡ told .rows)) (fact 𝓤 (now (e .1 .1 .1 .1 .1 .0) ≡ told .short)));
       })
   cheapest-runs-says = refl
+
+  -- forced_statuses(docket, q, s, fixed, values, stuck): what is told of forced statuses, and the two slices
+  pub forced-statuses-says : forced-statuses.spec 𝓤 H A m run
+      ≡ closing 𝓤 H A forced-statuses.ended (λ κs a. record {
+        ghost = Unit {0};
+        requires = λ g. emp 𝓤;
+        ensures = λ g r e.
+            let told = forced-of (a .0) (now (a .1 .0)) (now (a .1 .1 .0)) (now (a .1 .1 .1 .0)) (now (a .1 .1 .1 .1 .0)) (now (a .1 .1 .1 .1 .1 .0)) in
+            sep 𝓤 (fact 𝓤 (r ≡ told .answer)) (sep 𝓤 (fact 𝓤 (now (e .1 .1 .1 .1 .0) ≡ told .values)) (fact 𝓤 (now (e .1 .1 .1 .1 .1 .0) ≡ told .stuck)));
+      })
+  forced-statuses-says = refl

@@ -27,8 +27,13 @@ pub mod CountLines
 pub mod RampLines
 pub mod Questions
 pub mod RunsAsked
+pub mod ForcedAsked
+pub mod AskedUnder
 pub mod UnitsTold
+pub mod StatusBytes
 pub mod RunsTold
+pub mod ForcedPlaces
+pub mod ForcedTold
 pub mod Midnight
 pub mod Requested
 pub mod Interleaved

@@ -4,13 +4,13 @@
 use mathlib.Core.Path.{_≡_, refl}
 use mathlib.Core.Bool.{Bool, true, false, not}
 use mathlib.Core.List.{List, [], _∷_, _++_, map, flatten}
-use mathlib.Core.Logic.{_↔_}
+use mathlib.Core.Logic.{_⊎_, _↔_}
 use mathlib.Core.Option.{Option, none, some}
 use Prim.Native.Nat.{ℕ, suc, pred, _+_, _*_, _-_, _≤_, _<_, min}
 use native.Mathlib.Omega.{arith}
 use lib.Dec.{T, lit<, lit≤}
-use lib.IntN.{pos, _+ℤ_, _-ℤ_, _*ℤ_}
-use lib.ListN.{length, take}
+use lib.IntN.{ℤ, pos, negℤ, _+ℤ_, _-ℤ_, _*ℤ_}
+use lib.ListN.{length, getD, take}
 use lib.Signed.{_≤ℤ_}
 use Rattle.decimal.specs.Decimal.{digits, digits-by}
 use Rattle.model.specs.declared.generator.Generator.{Generator}
@@ -20,15 +20,17 @@ use Rattle.model.specs.Rules.{on, if-on, output, FirstRamp, MeetsPrinted, Meets
 use Rattle.model.specs.Cost.{row-cost, cost}
 use Rattle.model.specs.Breach.{Breach}
 use Rattle.model.specs.Broken.{Of, OffRamp, Broken, Lower}
-use Rattle.model.specs.Above.{Mark, Above, root, count, side}
+use Rattle.model.specs.Above as marks
+use Rattle.model.specs.Above.{Mark, Above, root, count, side, allows, obeys}
 use Rattle.model.specs.Largest.{total, falling, largest, LargestSum, FallingOrder}
 use Rattle.model.specs.Leaf.{usable, available, not-off, Crowded, those, is-stuck, any-stuck, rows-of, revenue, value, unit-least, units-least, requirement, leaf-value}
+use Rattle.model.specs.Forced.{unit-answer, force, forced-least, lesser-entry, forced-table, forced-tables}
 use Rattle.model.specs.Runs.{least-row, Attains, Precedes, ByOutputs, ByStatuses, first-stuck, least-rows, shortfall, shortfalls}
 use Rattle.model.specs.Ramps.{over-rise, over-fall, sumℤ, ramp-charge, ramp-value, Steps, ramp-leasts, ramp-leaf-value, RampPrices, ups, downs, Unpriced}
 use Rattle.model.specs.declared.figures.Bound.the-variants.{Never as never, Number as number}
 use Rattle.model.specs.Turns.{in-turn, took, Fewest}
 use Rattle.model.specs.Tree.{Leaf, short, crowd, stuck, price, ramp, Tree, leaf, fork, Narrows, GoodFork, GoodLeaf, HasPrices, LeafHolds, leaf-bound, Limits, Holds, bound, tree-figures}
-use Rattle.model.specs.Agreement.{running, Agrees, LeafOf, above, leaf-at, OneLeaf}
+use Rattle.model.specs.Agreement.{running, Agrees, Candidate, LeafOf, above, leaf-at, OneLeaf}
 use Rattle.model.specs.Possible.{Possible, possible, NodeOf, above-node, counts-above}
 use Rattle.model.specs.Unread.{AlikeButMidnight}
 use Rattle.model.proofs.Sides as sides
@@ -41,6 +43,7 @@ use Rattle.model.proofs.EveryLeaf as each-leaf
 use Rattle.model.proofs.RampRules as ramp-rules
 use Rattle.model.proofs.RampLeaf as ramp-leaf
 use Rattle.model.proofs.Narrowing as narrowing
+use Rattle.model.proofs.ForcedLeasts as forced-leasts
 use Rattle.model.proofs.LeastRows as rows
 use Rattle.model.proofs.LeafRuns as leaf-runs
 use Rattle.model.proofs.Unread as unread
@@ -59,9 +62,13 @@ use Rattle.tree.specs.Refusals.{count-line, node-form, NodeBreaks, Ends, PartBr
 use Rattle.tree.specs.WellFormed as tree-lines
 use Rattle.tree.proofs.SplitCounts.{split-lines}
 use Rattle.answer.specs.StatedAnswers.{AnswerValues, refused, Carries}
+use Rattle.least.specs.UnitLeasts.{least-of}
 use Rattle.leaves.specs.declared.short.Taken.{Taken}
 use Rattle.runs.specs.declared.drafting.RunsAnswer.the-variants as runs
 use Rattle.runs.specs.Drafts.{Drafted, unwritten, drafted, draft-under}
+use Rattle.forced.specs.declared.answering.ForcedAnswer.the-variants as forced
+use Rattle.forced.specs.Answers as entries
+use Rattle.forced.specs.Answers.{untold, told-under}
 use Rattle.docket.specs.declared.Docket.{Docket}
 use Rattle.docket.specs.declared.taking.TakenAnswer.{TakenAnswer}
 use Rattle.docket.specs.declared.taking.TakenAnswer.the-variants.{NoProblem, Unfit, Taken as taken}
@@ -75,13 +82,15 @@ use Rattle.docket.specs.Specimens.{problem-of, listed-problem, tree-text
 use Rattle.docket.specs.Docket.{sound}
 use Rattle.docket.specs.Taking.{FitQuestion, asked, taken-under, taken-of}
 use Rattle.docket.specs.Drafting.{runs-of}
-use Rattle.docket.specs.Requested.{NodeLineDue, PartLineDue, TakenThere, Told, AsAsked, Midnight, in-period-1, UnitLineDue, LeafRuns, DraftTold, leaf-runs, status-bytes}
+use Rattle.docket.specs.Forcing.{forced-of}
+use Rattle.docket.specs.Requested.{NodeLineDue, PartLineDue, TakenThere, Told, AsAsked, Midnight, in-period-1, UnitLineDue, as-entry, Entries, EntriesTold, LeafRuns, DraftTold, leaf-runs, status-bytes}
 use Rattle.docket.proofs.SpecimenTexts.{is-listed-problem}
 use Rattle.docket.proofs.SpecimenList.{specimens-answered}
 use Rattle.docket.proofs.CountLines as count-lines
 use Rattle.docket.proofs.RampLines as ramp-texts
 use Rattle.docket.proofs.UnitsTold as telling
 use Rattle.docket.proofs.RunsTold as drafting
+use Rattle.docket.proofs.ForcedTold as forcing
 use Rattle.docket.proofs.Midnight as midnight
 use Rattle.docket.proofs.Promises as promises
 
@@ -260,6 +269,62 @@ ramp-holds P A q s l = refl
 pub ramps-unread : (P : Instance) (A B : Above) → A .marks ≡ B .marks → (q s : List ℕ) (l : List RampPrices) → leaf-bound P A (ramp q s l) ≡ leaf-bound P B (ramp q s l)
 ramps-unread = ignored.ramps-ignore
 
+-- ---- [5] All forced statuses of a unit together
+
+module _ (n : ℕ) (q s : ℕ → ℕ) (g : Generator) (m : ℕ → Mark) (t : ℕ) (d : Bool) where
+  -- An entry is a unit's least value at the prices and the fixed statuses with period t forced to d. Where t is not fixed the other way it equals what the single walk
+  -- (`unit_least`, crates/least) gives with d fixed in t too
+  pub forced-as-fixed : T (allows (m t) d) → (forced-least n q s g m t d ≡ unit-answer n q s g (force t d m)) × (unit-answer n q s g (force t d m) ≡ as-entry (least-of n q s g (force t d m)))
+  forced-as-fixed h = (forcing.forced-allowed n q s g m t d h, forcing.answer-walked n q s g (force t d m))
+
+  -- It says stuck exactly when that is stuck or the status is fixed the other way,
+  pub forced-stuck-when : (forced-least n q s g m t d ≡ none) ↔ (T (is-stuck n g (force t d m)) ⊎ T (not (allows (m t) d)))
+  forced-stuck-when = forced-leasts.forced-stuck-when n q s g m t d
+
+  -- which is where no run of statuses that obeys (5) to (10) and agrees with those fixed has d in t; so every entry of a stuck unit says it
+  pub forced-none-runs : t < n → (forced-least n q s g m t d ≡ none) ↔ ((run : List Bool) → length run ≡ n → T (obeys g m run) → getD run t false ≡ d → ⊥)
+  forced-none-runs = forced-leasts.forced-none-runs n q s g m t d
+
+  pub forced-stuck : T (is-stuck n g m) → t < n → forced-least n q s g m t d ≡ none
+  forced-stuck = forced-leasts.forced-stuck n q s g m t d
+
+  -- Else it is the least value of the rows that have the status there, of those over which the unit's least value is taken: none has less, and one has it
+  pub forced-least-rows : GoodUnit g → t < n → (z : ℤ) → forced-least n q s g m t d ≡ some z
+      → ((r : List ℕ) → Candidate n g m r → on (r at t) ≡ d → z ≤ℤ value n q s g r) × ((r : List ℕ) × Candidate n g m r × (on (r at t) ≡ d) × (value n q s g r ≡ z))
+  forced-least-rows good l z e = (forced-leasts.forced-least-below n q s g m t d l z e, forced-leasts.forced-least-attained n q s g m t d good l z e)
+
+  -- In a period that is fixed, the entry of its status is what the unit answers, and that of the other says stuck
+  pub forced-same : m t ≡ marks.fixed d → forced-least n q s g m t d ≡ unit-answer n q s g m
+  forced-same = forced-leasts.forced-same n q s g m t d
+
+  pub forced-other : m t ≡ marks.fixed (not d) → forced-least n q s g m t d ≡ none
+  forced-other = forced-leasts.forced-other n q s g m t d
+
+-- The lesser of a period's two entries, one that says stuck left out, is what the unit answers: in every period the same
+pub forced-agree : (n : ℕ) (q s : ℕ → ℕ) (g : Generator) → GoodUnit g → (m : ℕ → Mark) (t : ℕ) → t < n
+    → lesser-entry (forced-least n q s g m t false) (forced-least n q s g m t true) ≡ unit-answer n q s g m
+forced-agree = forced-leasts.forced-agree
+
+-- What a docket tells who asks is, of every value of it, what `EntriesTold` says (docket/specs/Requested.antt) under the problem by which it judges: each unit's entry for every
+-- period and either status, at its place in the slices that are lent; and one answer alone is that
+pub forced-anywhere : (q s fixed : List ℕ) (values : List ℤ) (stuck : List ℕ) (d : Docket) → Long d → (o : Option Instance) → JudgesBy d o
+    → EntriesTold q s fixed values stuck o (forced-of d q s fixed values stuck)
+forced-anywhere = forcing.told-anywhere
+
+pub forced-one : (q s fixed : List ℕ) (values : List ℤ) (stuck : List ℕ) (o : Option Instance) (x y : entries.Told)
+    → EntriesTold q s fixed values stuck o x → EntriesTold q s fixed values stuck o y → x ≡ y
+forced-one = forcing.told-one
+
+-- Of every price leaf of an accepted tree, asked with the statuses that are fixed above it of a docket that judges by the tree's problem: what the slices hold are the entries at
+-- the leaf's prices and under those statuses
+pub forced-at-leaf : (P : Instance) → WellFormed P → (t : Tree) → Limits P root 0 t → Holds P root t → (i : LeafOf t) (q s : List ℕ) → leaf-at t i ≡ price q s
+    → (values : List ℤ) (bytes : List ℕ) → length values ≡ 2 * (length (P .units) * P .periods) → length bytes ≡ 2 * (length (P .units) * P .periods)
+    → (d : Docket) → Long d → JudgesBy d (some P)
+    → let A = above root t i in
+    (x : List ℤ) × (y : List ℕ) × Entries P (A .marks) (λ t. q at t) (λ t. s at t) x y
+    × (forced-of d q s (status-bytes (length (P .units)) (P .periods) (A .marks)) values bytes ≡ record { answer = forced.Found; values = x; stuck = y })
+forced-at-leaf = forcing.leaf-entries
+
 -- ---- [7] The run behind a minimum
 
 module _ (n : ℕ) (q s : ℕ → ℕ) (g : Generator) (good : GoodUnit g) (m : ℕ → Mark) (free : T (not (is-stuck n g m))) where
@@ -360,6 +425,11 @@ module _ (texts : List (List ℕ)) (vs : List Verdict) (are : Are none texts vs)
 
   pub units-told : (period most : ℕ) (fixed : List ℕ) → Told period most fixed (given vs) (taken-of (after texts) period most fixed)
   units-told = telling.told-after texts vs are
+
+  -- ---- [5] again: asked of the docket after the texts
+
+  pub forced-told : (q s fixed : List ℕ) (values : List ℤ) (stuck : List ℕ) → EntriesTold q s fixed values stuck (given vs) (forced-of (after texts) q s fixed values stuck)
+  forced-told q s f v b = forcing.told-after q s f v b texts vs are
 
   -- ---- [7] again: asked of the docket after the texts
 
@@ -533,5 +603,41 @@ draft-witnessed = (
   drafted-there (10 ∷ 14 ∷ []) (0 ∷ 0 ∷ 0 ∷ 0 ∷ []),
   drafted-there (10 ∷ 14 ∷ []) (1 ∷ 2 ∷ 0 ∷ 0 ∷ []),
   drafted-there (10 ∷ []) (0 ∷ 0 ∷ 0 ∷ 0 ∷ []),
+  refl,
+)
+
+-- ---- A witness: under the same problem, at 10 and 14 with nothing fixed, unit 1 costs 5 with either period forced off and -120 with it forced on; unit 2 costs 0 with either forced off, 140 with
+-- period 1 forced on and 100 with period 2. With unit 2 fixed on in period 2 it costs 100 with period 1 forced off, 180 with it forced on and 100 with period 2 forced on, and says stuck with period
+-- 2 forced off; a price too few does not fit; and before any problem there is nothing to tell
+
+abbrev lent-values : List ℤ
+lent-values = pos 7 ∷ pos 7 ∷ pos 7 ∷ pos 7 ∷ pos 7 ∷ pos 7 ∷ pos 7 ∷ pos 7 ∷ []
+
+abbrev lent-bytes : List ℕ
+lent-bytes = 7 ∷ 7 ∷ 7 ∷ 7 ∷ 7 ∷ 7 ∷ 7 ∷ 7 ∷ []
+
+abbrev forced-then : List ℕ → List ℕ → entries.Told
+forced-then q f = forced-of (after (listed-problem ∷ [])) q (0 ∷ 0 ∷ []) f lent-values lent-bytes
+
+forced-there : (q f : List ℕ) → forced-then q f ≡ told-under example q (0 ∷ 0 ∷ []) f lent-values lent-bytes
+forced-there q f = forcing.told-as q (0 ∷ 0 ∷ []) f lent-values lent-bytes (listed-problem ∷ []) (problem example ∷ []) (then is-listed-problem no-more) example refl
+
+pub forced-witnessed : (forced-then (10 ∷ 14 ∷ []) (0 ∷ 0 ∷ 0 ∷ 0 ∷ []) ≡ record {
+  answer = forced.Found;
+  values = pos 5 ∷ negℤ (pos 120) ∷ pos 5 ∷ negℤ (pos 120) ∷ pos 0 ∷ pos 140 ∷ pos 0 ∷ pos 100 ∷ [];
+  stuck = 0 ∷ 0 ∷ 0 ∷ 0 ∷ 0 ∷ 0 ∷ 0 ∷ 0 ∷ [];
+})
+    × (forced-then (10 ∷ 14 ∷ []) (0 ∷ 0 ∷ 0 ∷ 2 ∷ []) ≡ record {
+      answer = forced.Found;
+      values = pos 5 ∷ negℤ (pos 120) ∷ pos 5 ∷ negℤ (pos 120) ∷ pos 100 ∷ pos 180 ∷ pos 0 ∷ pos 100 ∷ [];
+      stuck = 0 ∷ 0 ∷ 0 ∷ 0 ∷ 0 ∷ 0 ∷ 1 ∷ 0 ∷ [];
+    })
+    × (forced-then (10 ∷ []) (0 ∷ 0 ∷ 0 ∷ 0 ∷ []) ≡ untold lent-values lent-bytes forced.Unfit)
+    × (forced-of (after []) (10 ∷ 14 ∷ []) (0 ∷ 0 ∷ []) (0 ∷ 0 ∷ 0 ∷ 0 ∷ []) lent-values lent-bytes ≡ untold lent-values lent-bytes forced.NoProblem)
+unfolding forced-of told-under forced-tables forced-table is-stuck sound marks-in mark-of unit-least value revenue rows-of row-cost
+forced-witnessed = (
+  forced-there (10 ∷ 14 ∷ []) (0 ∷ 0 ∷ 0 ∷ 0 ∷ []),
+  forced-there (10 ∷ 14 ∷ []) (0 ∷ 0 ∷ 0 ∷ 2 ∷ []),
+  forced-there (10 ∷ []) (0 ∷ 0 ∷ 0 ∷ 0 ∷ []),
   refl,
 )

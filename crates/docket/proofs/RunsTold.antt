@@ -2,27 +2,27 @@
 -- price leaf of an accepted tree it is the leaf's value.
 use mathlib.Core.Path.{_≡_, refl, sym, ap, ap₂, subst, _∙_}
 use mathlib.Core.Bool.{Bool, true, false, not, cond, _||_}
-use mathlib.Core.List.{List, [], _∷_, _++_, map, flatten}
+use mathlib.Core.List.{List, [], _∷_, flatten}
 use mathlib.Core.Logic.{_↔_, _⊎_, inl, inr}
 use mathlib.Core.Option.{Option, none, some}
-use Prim.Native.Nat.{ℕ, zero, suc, _+_, _*_, _≤_, _<_}
+use Prim.Native.Nat.{ℕ, zero, suc, _*_, _<_}
 use native.Mathlib.Omega.{arith}
 use lib.Dec.{T}
 use lib.IntN.{ℤ}
-use lib.ListN.{length, getD, length-map, length-append, List·getD-append}
-use lib.Seq.{ext-getD, getD-append-add}
+use lib.ListN.{length, getD, length-map}
+use lib.Seq.{ext-getD}
 use Rattle.model.specs.declared.generator.Generator.{Generator}
 use Rattle.model.specs.declared.figures.Bound.the-variants.{Number as number}
 use Rattle.model.specs.Instance.{Instance, Schedule, _at_}
 use Rattle.model.specs.Ranges.{All, GoodUnit, WellFormed}
 use Rattle.model.specs.Held.{view, blank-generator}
 use Rattle.model.specs.Rules.{on, statuses}
-use Rattle.model.specs.Above.{Mark, free, fixed, Marks, rest, Above, root}
+use Rattle.model.specs.Above.{Mark, Marks, rest, root}
 use Rattle.model.specs.Agreement.{LeafOf, above, leaf-at}
-use Rattle.model.specs.Leaf.{range, is-stuck, stuck-at, any-stuck, leaf-value}
+use Rattle.model.specs.Leaf.{is-stuck, stuck-at, any-stuck, leaf-value}
 use Rattle.model.specs.Prices.{best-output, worth}
 use Rattle.model.specs.RunWalk.{row-of, walked-row}
-use Rattle.model.specs.Tree.{price, Tree, leaf, fork, GoodLeaf, LeafHolds, leaf-bound, Limits, Holds}
+use Rattle.model.specs.Tree.{price, Tree, GoodLeaf, LeafHolds, leaf-bound, Limits, Holds}
 use Rattle.model.specs.Runs.{least-row, least-rows, first-stuck, ByOutputs, shortfalls}
 use Rattle.model.proofs.Stuck.{stuck→none}
 use Rattle.model.proofs.Extents.{SameMarks, any-stuck-ext, leaf-value-ext}
@@ -32,31 +32,22 @@ use Rattle.model.proofs.SortedRows.{smaller-asym}
 use Rattle.model.proofs.LeastRows.{precedes-outputs, least-row-walk, least-row-attains, least-row-precedes}
 use Rattle.model.proofs.FirstRuns.{first-run-ext}
 use Rattle.model.proofs.LeafRuns.{least-rows-long, least-rows-at, none-stuck, leaf-attained}
-use Rattle.walk.specs.Marks.{mark-of}
-use Rattle.walk.proofs.AboveMarks.{marks-same}
 use Rattle.least.proofs.UnitParts.{all-getD}
 use Rattle.runs.specs.declared.drafting.RunsAnswer.the-variants as answer
 use Rattle.runs.specs.Drafts.{fits, FitQuestion, Drafted, unwritten, marks-asked, runs-asked, drafted, draft-under}
-use Rattle.runs.proofs.PeriodLists.{periods-long, periods-at}
 use Rattle.runs.proofs.Questions.{fits-is}
 use Rattle.runs.proofs.FirstStuck.{first-stuck-found, none-before}
 use Rattle.docket.specs.declared.Docket.{Docket}
-use Rattle.docket.specs.Docket.{fresh-docket, sound}
 use Rattle.docket.specs.Verdicts.{Verdict}
 use Rattle.docket.specs.Texts.{Are}
-use Rattle.docket.specs.Lodging.{trusted, lodge-of}
-use Rattle.docket.specs.Demand3.{Holding}
+use Rattle.docket.specs.Lodging.{trusted}
 use Rattle.docket.specs.Promised.{after, given, Long, JudgesBy, its-own, no-problem}
 use Rattle.docket.specs.Drafting.{runs-of}
 use Rattle.docket.specs.Requested as said
-use Rattle.docket.specs.Requested.{FirstStuck, FirstRun, LeafRuns, DraftTold, leaf-runs, status-byte, status-bytes}
-use Rattle.docket.proofs.Lists.{reached-sound}
-use Rattle.docket.proofs.Demand3.{demand3}
-use Rattle.docket.proofs.Determined.{holds-then}
-use Rattle.docket.proofs.EachText.{is-held}
+use Rattle.docket.specs.Requested.{FirstStuck, FirstRun, LeafRuns, DraftTold, leaf-runs, status-bytes}
 use Rattle.docket.proofs.Midnight.{formed}
-use Rattle.docket.proofs.AnyDocket.{known-sound-is}
-use Rattle.docket.proofs.HoldingAnswers.{knows-none, itself}
+use Rattle.docket.proofs.AskedUnder.{its-known, none-known, judged-known, given-known, none-given}
+use Rattle.docket.proofs.StatusBytes.{bytes-long, all-bytes, bytes-same, good-leaf}
 use Rattle.docket.proofs.RunsAsked.{runs-known, runs-none}
 
 -- ---- under a problem
@@ -117,14 +108,8 @@ module _ (q s fixed rows short : List ℕ) where
   told-free d k = subst (DraftTold q s fixed rows short none) (sym (runs-none d q s fixed rows short k)) said.no-problem
 
   pub told-anywhere : (d : Docket) → Long d → (o : Option Instance) → JudgesBy d o → DraftTold q s fixed rows short o (runs-of d q s fixed rows short)
-  told-anywhere d long _ (its-own k) =
-      told-by d (ap (λ (x : Docket). x .known) (itself d (known-sound-is d long (k .known) .1 k)) ∙ k .known) (k .valid .well-formed)
-  told-anywhere d long _ (no-problem n) = told-free d (go (sound d) (d .known) refl refl)
-    where
-      go : (s k : Bool) → sound d ≡ s → d .known ≡ k → cond s d fresh-docket .known ≡ false
-      go true true e k = absurd (n (known-sound-is d long k .0 e))
-      go true false e k = k
-      go false k e q = refl
+  told-anywhere d long _ (its-own k) = told-by d (its-known d long k) (k .valid .well-formed)
+  told-anywhere d long _ (no-problem n) = told-free d (none-known d long n)
 
   -- ---- after a list of texts
 
@@ -132,20 +117,14 @@ module _ (q s fixed rows short : List ℕ) where
     -- under the problem that they gave, by computing
     pub told-as : (P : Instance) → given vs ≡ some P → runs-of (after texts) q s fixed rows short ≡ draft-under P q s fixed rows short
     told-as P e =
-        let h = is-held texts vs are P e in
-        runs-known (after texts) q s fixed rows short (ap (λ (x : Docket). x .known) (itself (after texts) (reached-sound texts)) ∙ h .0)
-        ∙ ap (λ (Q : Instance). draft-under Q q s fixed rows short) (h .1)
+        let h = given-known texts vs are P e in
+        runs-known (after texts) q s fixed rows short (h .0) ∙ ap (λ (Q : Instance). draft-under Q q s fixed rows short) (h .1)
 
     pub told-after : DraftTold q s fixed rows short (given vs) (runs-of (after texts) q s fixed rows short)
     told-after = go (given vs) refl
       where
-        d : Docket
-        d = after texts
-
-        go : (o : Option Instance) → given vs ≡ o → DraftTold q s fixed rows short o (runs-of d q s fixed rows short)
-        go none e =
-            let fresh : d ≡ fresh-docket = subst (λ (o : Option Instance). Holding o vs d) e (holds-then lodge-of demand3 texts vs are) in
-            told-free d (knows-none d (ap (λ (x : Docket). x .known) fresh))
+        go : (o : Option Instance) → given vs ≡ o → DraftTold q s fixed rows short o (runs-of (after texts) q s fixed rows short)
+        go none e = told-free (after texts) (none-given texts vs are e)
         go (some P) e = subst (DraftTold q s fixed rows short (some P)) (sym (told-as P e)) (told-under P (formed texts vs are P e) q s fixed rows short)
 
 -- ---- one answer alone
@@ -206,52 +185,7 @@ told-one q s fx rows short (some P) _ _ (said.found {rs = rs} F a) (said.found {
     ap (λ (r : Schedule). record { answer = answer.Found (leaf-value P (marks-asked P fx) (λ t. q at t) (λ t. s at t)); rows = flatten r; short = shortfalls P r })
     (one-runs P (marks-asked P fx) (λ t. q at t) (λ t. s at t) rs rs′ a b)
 
--- ---- the statuses above a leaf, as bytes
-
-mark-again : (x : Mark) → mark-of (status-byte x) ≡ x
-unfolding mark-of
-mark-again free = refl
-mark-again (fixed true) = refl
-mark-again (fixed false) = refl
-
-byte-few : (x : Mark) → status-byte x ≤ 2
-byte-few free = omega arith
-byte-few (fixed true) = omega arith
-byte-few (fixed false) = omega arith
-
-module _ (n : ℕ) where
-  bytes-long : (I : ℕ) (m : Marks) → length (status-bytes I n m) ≡ I * n
-  bytes-long zero m = omega arith
-  bytes-long (suc I) m =
-      let row = map (λ t. status-byte (m 0 t)) (range 0 n) in
-      omega (arith, length-append row (status-bytes I n (rest m)), periods-long (λ t. status-byte (m 0 t)) n, bytes-long I (rest m))
-
-  bytes-at : (I : ℕ) (m : Marks) (u t : ℕ) → u < I → t < n → status-bytes I n m at (u * n + t) ≡ status-byte (m u t)
-  bytes-at zero m u t h l = absurd (omega arith)
-  bytes-at (suc I) m zero t h l =
-      let f : ℕ → ℕ = λ t. status-byte (m 0 t) in
-      let e : 0 * n + t ≡ t = omega arith in
-      rw e (List·getD-append (map f (range 0 n)) (status-bytes I n (rest m)) 0 t (omega (arith, periods-long f n)) ∙ periods-at f n t l)
-  bytes-at (suc I) m (suc u) t h l =
-      let f : ℕ → ℕ = λ t. status-byte (m 0 t) in
-      let e : suc u * n + t ≡ length (map f (range 0 n)) + (u * n + t) = omega (arith, periods-long f n) in
-      rw e (getD-append-add (map f (range 0 n)) (status-bytes I n (rest m)) (u * n + t) 0 ∙ bytes-at I (rest m) u t (omega arith) l)
-
-  all-bytes : (I : ℕ) (m : Marks) → All (λ b. b ≤ 2) (status-bytes I n m)
-  all-bytes zero m = tt
-  all-bytes (suc I) m = before (range 0 n) (all-bytes I (rest m))
-    where
-      before : (l : List ℕ) → All (λ b. b ≤ 2) (status-bytes I n (rest m)) → All (λ b. b ≤ 2) (map (λ t. status-byte (m 0 t)) l ++ status-bytes I n (rest m))
-      before [] h = h
-      before (t ∷ l) h = (byte-few (m 0 t), before l h)
-
 -- ---- a price leaf of an accepted tree
-
-good-leaf : (P : Instance) (A : Above) (d : ℕ) (t : Tree) → Limits P A d t → (i : LeafOf t) → GoodLeaf P (leaf-at t i)
-unfolding Limits
-good-leaf P A d (leaf l) h i = h
-good-leaf P A d (fork f x y) h (inl i) = good-leaf P _ _ x (h .2) i
-good-leaf P A d (fork f x y) h (inr i) = good-leaf P _ _ y (h .3) i
 
 -- runs under the same marks are the same
 tail-free : (a b : Bool) → a || b ≡ false → b ≡ false
@@ -287,8 +221,7 @@ module _ (P : Instance) (W : WellFormed P) (t : Tree) (limits : Limits P root 0 
   multipliers = subst (GoodLeaf P) is (good-leaf P root 0 t limits i)
 
   same : SameMarks (length (P .units)) (P .periods) (marks-asked P bytes) m
-  same u h v l =
-      sym (marks-same (length (P .units)) (P .periods) bytes u h v l) ∙ ap mark-of (bytes-at (P .periods) (length (P .units)) m u v h l) ∙ mark-again (m u v)
+  same = bytes-same P m
 
   free-there : any-stuck (P .periods) (P .units) (marks-asked P bytes) ≡ false
   unfolding LeafHolds
@@ -333,12 +266,9 @@ module _ (P : Instance) (W : WellFormed P) (t : Tree) (limits : Limits P root 0 
       ap (leaf-runs P (above root t i)) is,
       runs-there P W m (λ t. q at t) (λ t. s at t) (sym (any-stuck-ext (P .periods) (P .units) (marks-asked P bytes) m same) ∙ free-there),
       ap (leaf-bound P (above root t i)) is,
-      judged d long (some P) j refl ∙ leaf-under,
+      runs-known d q s bytes rows short (judged .0) ∙ ap (λ (Q : Instance). draft-under Q q s bytes rows short) (judged .1) ∙ leaf-under,
     )
       where
         -- the docket asks its own problem, which is P
-        judged : (d : Docket) → Long d → (o : Option Instance) → JudgesBy d o → o ≡ some P → runs-of d q s bytes rows short ≡ draft-under P q s bytes rows short
-        judged d long _ (its-own k) e =
-            runs-known d q s bytes rows short (ap (λ (x : Docket). x .known) (itself d (known-sound-is d long (k .known) .1 k)) ∙ k .known)
-            ∙ ap (λ (Q : Instance). draft-under Q q s bytes rows short) (let h : view (d .problem) ≡ P = cc in h)
-        judged d long _ (no-problem n) e = absurd (let z : _≡_ {A = ℕ} 0 1 = cc in omega arith)
+        judged : (trusted d .known ≡ true) × (view (d .problem) ≡ P)
+        judged = judged-known d long P j

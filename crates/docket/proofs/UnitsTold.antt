@@ -21,23 +21,16 @@ use Rattle.leaves.specs.declared.short.Taken.{Taken}
 use Rattle.docket.specs.declared.Docket.{Docket}
 use Rattle.docket.specs.declared.taking.TakenAnswer.{TakenAnswer}
 use Rattle.docket.specs.declared.taking.TakenAnswer.the-variants.{Unfit, Taken as taken}
-use Rattle.docket.specs.Docket.{fresh-docket, sound}
 use Rattle.docket.specs.Verdicts.{Verdict}
 use Rattle.docket.specs.Texts.{Are}
-use Rattle.docket.specs.Lodging.{trusted, lodge-of}
-use Rattle.docket.specs.Demand3.{Holding}
+use Rattle.docket.specs.Lodging.{trusted}
 use Rattle.docket.specs.Promised.{after, given, Long, JudgesBy, its-own, no-problem}
 use Rattle.leaves.specs.LeafLeasts.{taken-in}
 use Rattle.docket.specs.Taking.{fits, FitQuestion, asked, taken-under, taken-of}
 use Rattle.docket.specs.Requested as said
 use Rattle.docket.specs.Requested.{TakenThere, Told, AsAsked}
-use Rattle.docket.proofs.Lists.{reached-sound}
-use Rattle.docket.proofs.Demand3.{demand3}
-use Rattle.docket.proofs.Determined.{holds-then}
-use Rattle.docket.proofs.EachText.{is-held}
-use Rattle.docket.proofs.AnyDocket.{known-sound-is}
-use Rattle.docket.proofs.HoldingAnswers.{knows-none, itself}
 use Rattle.docket.proofs.Questions.{fits-is, told-known, told-none}
+use Rattle.docket.proofs.AskedUnder.{its-known, none-known, given-known, none-given}
 
 -- ---- under a problem
 
@@ -64,39 +57,26 @@ told-free : (d : Docket) → trusted d .known ≡ false → (period most : ℕ) 
 told-free d k period most fixed = subst (Told period most fixed none) (sym (told-none d k period most fixed)) said.no-problem
 
 pub told-anywhere : (d : Docket) → Long d → (o : Option Instance) → JudgesBy d o → (period most : ℕ) (fixed : List ℕ) → Told period most fixed o (taken-of d period most fixed)
-told-anywhere d long _ (its-own s) period most fixed =
-    told-by d (ap (λ (x : Docket). x .known) (itself d (known-sound-is d long (s .known) .1 s)) ∙ s .known) period most fixed
-told-anywhere d long _ (no-problem n) period most fixed = told-free d (go (sound d) (d .known) refl refl) period most fixed
-  where
-    go : (s k : Bool) → sound d ≡ s → d .known ≡ k → cond s d fresh-docket .known ≡ false
-    go true true e k = absurd (n (known-sound-is d long k .0 e))
-    go true false e k = k
-    go false k e q = refl
+told-anywhere d long _ (its-own s) = told-by d (its-known d long s)
+told-anywhere d long _ (no-problem n) = told-free d (none-known d long n)
 
 -- ---- after a list of texts
 
 pub told-after : (texts : List (List ℕ)) (vs : List Verdict) → Are none texts vs → (period most : ℕ) (fixed : List ℕ) → Told period most fixed (given vs) (taken-of (after texts) period most fixed)
 told-after texts vs are period most fixed = go (given vs) refl
   where
-    d : Docket
-    d = after texts
-
-    go : (o : Option Instance) → given vs ≡ o → Told period most fixed o (taken-of d period most fixed)
-    go none e =
-        let fresh : d ≡ fresh-docket = subst (λ (o : Option Instance). Holding o vs d) e (holds-then lodge-of demand3 texts vs are) in
-        told-free d (knows-none d (ap (λ (x : Docket). x .known) fresh)) period most fixed
+    go : (o : Option Instance) → given vs ≡ o → Told period most fixed o (taken-of (after texts) period most fixed)
+    go none e = told-free (after texts) (none-given texts vs are e) period most fixed
     go (some P) e =
-        let h = is-held texts vs are P e in
-        subst (λ (Q : Instance). Told period most fixed (some Q) (taken-of d period most fixed)) (h .1)
-        (told-by d (ap (λ (x : Docket). x .known) (itself d (reached-sound texts)) ∙ h .0) period most fixed)
+        let h = given-known texts vs are P e in
+        subst (λ (Q : Instance). Told period most fixed (some Q) (taken-of (after texts) period most fixed)) (h .1) (told-by (after texts) (h .0) period most fixed)
 
 -- under the problem that they gave, by computing
 pub told-as : (texts : List (List ℕ)) (vs : List Verdict) → Are none texts vs → (P : Instance) → given vs ≡ some P → (period most : ℕ) (fixed : List ℕ)
     → taken-of (after texts) period most fixed ≡ taken-under P period most fixed
 told-as texts vs are P e period most fixed =
-    let h = is-held texts vs are P e in
-    told-known (after texts) (ap (λ (x : Docket). x .known) (itself (after texts) (reached-sound texts)) ∙ h .0) period most fixed
-    ∙ ap (λ (Q : Instance). taken-under Q period most fixed) (h .1)
+    let h = given-known texts vs are P e in
+    told-known (after texts) (h .0) period most fixed ∙ ap (λ (Q : Instance). taken-under Q period most fixed) (h .1)
 
 -- ---- one answer alone
 

@@ -6,6 +6,7 @@ pub mod Report
 pub mod Taking
 pub mod TakingExamples
 pub mod Drafting
+pub mod Forcing
 pub mod Texts
 pub mod ReportDue
 pub mod Demand3

@@ -1,12 +1,12 @@
 -- The words of the page of what document 02 asks beyond demands 1 to 3.
 use mathlib.Core.Path.{_≡_}
-use mathlib.Core.Bool.{true, false, not}
+use mathlib.Core.Bool.{Bool, true, false, not}
 use mathlib.Core.List.{List, [], _∷_, _++_, map, flatten}
 use mathlib.Core.Logic.{_↔_}
 use mathlib.Core.Option.{Option, none, some}
 use Prim.Native.Nat.{ℕ, zero, suc, _+_, _*_, _-_, _<_}
 use lib.Dec.{T}
-use lib.IntN.{pos, _+ℤ_}
+use lib.IntN.{ℤ, pos, _+ℤ_}
 use lib.ListN.{length, getD}
 use Rattle.model.specs.declared.generator.Generator.{Generator}
 use Rattle.model.specs.Instance.{Instance, Schedule, _at_}
@@ -15,15 +15,21 @@ use Rattle.model.specs.Held.{blank-generator}
 use Rattle.model.specs.Breach.{Breach}
 use Rattle.model.specs.Above.{Mark, free, fixed, Marks, rest, Above, root}
 use Rattle.model.specs.Leaf.{range, available, stuck-at, requirement, leaf-value}
+use Rattle.model.specs.Forced.{forced-least, value-number, stuck-number}
 use Rattle.model.specs.Runs.{Attains, Precedes, least-rows, rows-value, shortfalls}
 use Rattle.model.specs.Tree as tree
 use Rattle.model.specs.Tree.{Leaf}
 use Rattle.model.specs.Turns.{in-turn, Fewest}
 use Rattle.walk.specs.Marks.{mark-of, most-of}
+use Rattle.least.specs.declared.unit.Least.{Least}
+use Rattle.least.specs.declared.unit.Least.the-variants.{Stuck, Value}
 use Rattle.leaves.specs.declared.short.Taken.{Taken}
 use Rattle.runs.specs.declared.drafting.RunsAnswer.the-variants as runs
 use Rattle.runs.specs.Drafts as drafts
 use Rattle.runs.specs.Drafts.{Drafted, unwritten, marks-asked}
+use Rattle.forced.specs.declared.answering.ForcedAnswer.the-variants as forced
+use Rattle.forced.specs.Answers as entries
+use Rattle.forced.specs.Answers.{untold}
 use Rattle.text.specs.Lines.{Line, later, lines-of, kind-problem, kind-tree}
 use Rattle.text.specs.LineRefused.{Beginning}
 use Rattle.problem.specs.Units.{unit-form}
@@ -108,6 +114,34 @@ pub record PartLineDue (P : Instance) (text : List ℕ) (before : List Line) (x 
   pub nodes-before : ℕ
   pub after-writer : length before ≡ suc nodes-before
   pub place : LineAt root 0 (some-tree .tree) nodes-before (part-at A p)
+
+-- ---- [5] All forced statuses of a unit together
+
+-- what the single walk gives, as an entry
+abbrev pub as-entry : Least → Option ℤ
+as-entry Stuck = none
+as-entry (Value z) = some z
+
+-- where the entry of unit u stands, with period t forced off or on, among those of units with n periods: unit by unit, period by period, all counted from 0, off forced before on forced
+abbrev pub place : ℕ → ℕ → ℕ → Bool → ℕ
+place n u t false = u * (2 * n) + 2 * t
+place n u t true = u * (2 * n) + 2 * t + 1
+
+-- the entries of all units, each at its place: what the unit answers with that status forced, by its value, 0 where it says stuck, and by a number that is 1 there and else 0
+pub record Entries (P : Instance) (m : Marks) (q s : ℕ → ℕ) (values : List ℤ) (stuck : List ℕ) : Type 0 where
+  pub values-long : length values ≡ 2 * (length (P .units) * P .periods)
+  pub stuck-long : length stuck ≡ 2 * (length (P .units) * P .periods)
+  pub each : (u : ℕ) → u < length (P .units) → (t : ℕ) → t < P .periods → (d : Bool)
+      → let e = forced-least (P .periods) q s (getD (P .units) u blank-generator) (m u) t d in
+      (getD values (place (P .periods) u t d) (pos 0) ≡ value-number e) × (stuck at place (P .periods) u t d ≡ stuck-number e)
+
+-- what is told where this problem, or none, is the one judged by, and what the slices for the values and for the bytes then hold: that there is none; that the question does not
+-- fit it; or the entries of all units. In all but the last the slices are as they were
+pub data EntriesTold (q s fixed : List ℕ) (values : List ℤ) (stuck : List ℕ) : Option Instance → entries.Told → Type 0 where
+  no-problem : EntriesTold q s fixed values stuck none (untold values stuck forced.NoProblem)
+  unfit : {P : Instance} → (entries.FitQuestion P q s fixed (length values) (length stuck) → ⊥) → EntriesTold q s fixed values stuck (some P) (untold values stuck forced.Unfit)
+  found : {P : Instance} {x : List ℤ} {y : List ℕ} → entries.FitQuestion P q s fixed (length values) (length stuck) → Entries P (marks-asked P fixed) (λ t. q at t) (λ t. s at t) x y
+      → EntriesTold q s fixed values stuck (some P) (record { answer = forced.Found; values = x; stuck = y })
 
 -- ---- [7] The run behind a minimum
 

@@ -5,12 +5,15 @@ ghost use Rattle.docket.specs.Lodging.{lodge-of};
 ghost use Rattle.docket.specs.Report.{report-of, buffer-of};
 ghost use Rattle.docket.specs.Taking.{taken-of};
 ghost use Rattle.docket.specs.Drafting.{runs-of};
+ghost use Rattle.docket.specs.Forcing.{forced-of};
 use crate::admission::Admission;
 use crate::held::Held;
 use crate::held::HeldBound;
 use crate::held::HeldCost;
 use crate::taking::TakenAnswer;
 use answer::Answer;
+use forced::answering::ForcedAnswer;
+use forced::answering::answer_forced;
 use model::arrays::Problem;
 use report::ReportAnswer;
 use runs::drafting::RunsAnswer;
@@ -125,5 +128,27 @@ impl Docket {
             return answer_runs(problem, q, s, fixed, rows, short);
         }
         RunsAnswer::NoProblem
+    }
+
+    // Each unit's least value at these multipliers under these statuses with the status of each period forced besides: in `values`, unit u's from u times twice the periods
+    // on, off forced before on forced; `stuck` has 1 where the unit is then stuck, and 0 else. Or why there is none, and both are as they were. A docket that is not sound
+    // knows no problem.
+    pub fn forced_statuses(
+        self,
+        q: &[u64],
+        s: &[u64],
+        fixed: &[u8],
+        values: &mut [i64],
+        stuck: &mut [u8],
+    ) -> ForcedAnswer
+        ensures answer { λ r. ⌜ r ≡ forced-of self (now (q .entry)) (now (s .entry)) (now (fixed .entry)) (now (values .entry)) (now (stuck .entry)) .answer ⌝ }
+        ensures values { λ _. ⌜ now (values .exit) ≡ forced-of self (now (q .entry)) (now (s .entry)) (now (fixed .entry)) (now (values .entry)) (now (stuck .entry)) .values ⌝ }
+        ensures stuck { λ _. ⌜ now (stuck .exit) ≡ forced-of self (now (q .entry)) (now (s .entry)) (now (fixed .entry)) (now (values .entry)) (now (stuck .entry)) .stuck ⌝ }
+    {
+        if sound::knows(self) {
+            let problem = self.problem;
+            return answer_forced(problem, q, s, fixed, values, stuck);
+        }
+        ForcedAnswer::NoProblem
     }
 }

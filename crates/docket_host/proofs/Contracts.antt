@@ -13,7 +13,7 @@ use ghost.Atoms.{Atoms}
 use Rattle.list.specs.Listing.{listed-of, output-of}
 use Rattle.docket_host.specs.HostAnswer.{host-answer}
 use Rattle.state.specs.Layout.{numbers-count, rows-count}
-use Rattle.docket_host.specs.Calls.{rules, fresh-answer, fresh-numbers, fresh-rows, lodge-answer, lodge-numbers, lodge-rows, lodge-line, lodge-values, report-answer, report-bytes, outputs-answer, outputs-rows, taken-answer, taken-numbers, runs-answer, runs-rows, runs-short, runs-value}
+use Rattle.docket_host.specs.Calls.{rules, fresh-answer, fresh-numbers, fresh-rows, lodge-answer, lodge-numbers, lodge-rows, lodge-line, lodge-values, report-answer, report-bytes, outputs-answer, outputs-rows, taken-answer, taken-numbers, runs-answer, runs-rows, runs-short, runs-value, forced-answer, forced-values, forced-stuck}
 use Rattle.docket_host.proofs.docket_rules as rules-asked
 use Rattle.docket_host.proofs.docket_numbers as numbers-asked
 use Rattle.docket_host.proofs.docket_rows as rows-asked
@@ -23,6 +23,7 @@ use Rattle.docket_host.proofs.docket_report as report
 use Rattle.docket_host.proofs.docket_outputs as outputs
 use Rattle.docket_host.proofs.docket_units_taken as units-taken
 use Rattle.docket_host.proofs.docket_cheapest_runs as cheapest-runs
+use Rattle.docket_host.proofs.docket_forced_statuses as forced-statuses
 use Rattle.docket_host.proofs.docket_listing as listing
 
 module _ {M : Type 1} (𝓤 : URA M) (H : Heap 𝓤) (A : Atoms 𝓤) (m : Memory → SProp 𝓤) (run : Routine → Fun 𝓤) where
@@ -112,6 +113,25 @@ module _ {M : Type 1} (𝓤 : URA M) (H : Heap 𝓤) (A : Atoms 𝓤) (m : Memor
             (fact 𝓤 (now (e .1 .1 .1 .1 .1 .1 .1 .0) ≡ runs-value v w q s fixed runs short value))));
       })
   cheapest-runs-says = refl
+
+  -- docket_forced_statuses(numbers, rows, q, s, fixed, values, stuck)
+  pub forced-statuses-says : forced-statuses.spec 𝓤 H A m run
+      ≡ closing 𝓤 H A forced-statuses.ended (λ κs a. record {
+        ghost = Unit {0};
+        requires = λ g. emp 𝓤;
+        ensures = λ g r e.
+            let v = now (a .0) in
+            let w = now (a .1 .0) in
+            let q = now (a .1 .1 .0) in
+            let s = now (a .1 .1 .1 .0) in
+            let fixed = now (a .1 .1 .1 .1 .0) in
+            let values = now (a .1 .1 .1 .1 .1 .0) in
+            let stuck = now (a .1 .1 .1 .1 .1 .1 .0) in
+            sep 𝓤 (fact 𝓤 (r ≡ forced-answer v w q s fixed values stuck))
+            (sep 𝓤 (fact 𝓤 (now (e .1 .1 .1 .1 .1 .0) ≡ forced-values v w q s fixed values stuck))
+            (fact 𝓤 (now (e .1 .1 .1 .1 .1 .1 .0) ≡ forced-stuck v w q s fixed values stuck)));
+      })
+  forced-statuses-says = refl
 
   -- docket_listing(input, output)
   pub listing-says : listing.spec 𝓤 H A m run

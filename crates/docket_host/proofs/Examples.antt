@@ -10,7 +10,8 @@ use mathlib.Core.List.{List, [], _∷_}
 use Rattle.docket.specs.declared.taking.TakenAnswer.the-variants.{NoProblem, Unfit, Taken}
 use Rattle.runs.specs.declared.drafting.RunsAnswer.the-variants as runs
 use Rattle.runs.specs.Drafts.{unwritten}
-use Rattle.docket_host.specs.Calls.{rules, no-docket, lodge-room, outputs-room, taken-room, taken-number, taken-written, runs-number, value-told, runs-there}
+use Rattle.forced.specs.declared.answering.ForcedAnswer.the-variants as forced
+use Rattle.docket_host.specs.Calls.{rules, no-docket, lodge-room, outputs-room, taken-room, taken-number, taken-written, runs-number, value-told, runs-there, forced-number}
 
 lodge-enough : lodge-room (replicate 618 0) (replicate 1536 0) (replicate 128 0) (replicate 16 0) ≡ true
 lodge-enough = refl
@@ -64,3 +65,7 @@ the-room : (v w q s f r h : List ℕ) → (runs-there v w q s f r h [] ≡ unwri
     × (runs-there v w q s f r h (pos 7 ∷ (pos 7 ∷ [])) ≡ unwritten r h (cond (docket-in v w .known) runs.Unfit runs.NoProblem))
 unfolding runs-there
 the-room v w q s f r h = (refl, refl)
+
+-- the numbers of enum docket_forced_answer
+the-forced : (forced-number forced.NoProblem ≡ 1) × ((forced-number forced.Unfit ≡ 2) × (forced-number forced.Found ≡ 0))
+the-forced = (refl, (refl, refl))

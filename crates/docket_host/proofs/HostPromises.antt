@@ -30,6 +30,7 @@ use Rattle.docket.specs.Promised.{after, answer, given, Long}
 use Rattle.docket.specs.Taking.{taken-of}
 use Rattle.runs.specs.declared.drafting.RunsAnswer.the-variants as runs
 use Rattle.docket.specs.Drafting.{runs-of}
+use Rattle.docket.specs.Forcing.{forced-of}
 use Rattle.docket.proofs.Promises as promised
 use Rattle.state.specs.Layout.{numbers-count, rows-count, layout-mark, docket-in}
 use Rattle.state.specs.Kept.{long, holds, kept-numbers, kept-rows, State, docket-kept, HoldsDocket, outputs-of}
@@ -40,10 +41,11 @@ use Rattle.state.proofs.Again as again
 use Rattle.state.proofs.ReachedFits as reached
 use Rattle.state.proofs.Outputs as held
 use Rattle.docket_host.specs.HostAnswer.{too-little-room, host-answer}
-use Rattle.docket_host.specs.Calls.{no-docket, lends, lodge-room, fresh-answer, fresh-numbers, fresh-rows, lodge-answer, lodge-numbers, lodge-rows, lodge-line, lodge-values, report-answer, report-bytes, outputs-room, outputs-answer, outputs-rows, taken-room, taken-number, taken-written, taken-answer, taken-numbers, runs-number, value-told, runs-answer, Tells}
+use Rattle.docket_host.specs.Calls.{no-docket, lends, lodge-room, fresh-answer, fresh-numbers, fresh-rows, lodge-answer, lodge-numbers, lodge-rows, lodge-line, lodge-values, report-answer, report-bytes, outputs-room, outputs-answer, outputs-rows, taken-room, taken-number, taken-written, taken-answer, taken-numbers, runs-number, value-told, runs-answer, Tells, forced-number, forced-answer, Forces}
 use Rattle.docket_host.specs.Lending.{Lending, heard, fresh-state, after-calls, HostReport}
 use Rattle.docket_host.proofs.Calls as call
 use Rattle.docket_host.proofs.RunsCalls as runs-call
+use Rattle.docket_host.proofs.ForcedCalls as forced-call
 use Rattle.docket_host.proofs.Hosted as hosted
 use Rattle.docket_host.proofs.AfterCalls as state
 use Rattle.docket_host.proofs.HostAnswers as host
@@ -65,6 +67,8 @@ use Rattle.docket_host.proofs.docket_units_taken.Statement as units-tak
 use Rattle.docket_host.proofs.docket_units_taken.Met as units-taken-met
 use Rattle.docket_host.proofs.docket_cheapest_runs.Statement as cheapest-runs
 use Rattle.docket_host.proofs.docket_cheapest_runs.Met as cheapest-runs-met
+use Rattle.docket_host.proofs.docket_forced_statuses.Statement as forced-statuses
+use Rattle.docket_host.proofs.docket_forced_statuses.Met as forced-statuses-met
 use Rattle.docket_host.proofs.docket_listing.Statement as listing
 use Rattle.docket_host.proofs.docket_listing.Met as listing-met
 
@@ -72,8 +76,8 @@ use Rattle.docket_host.proofs.docket_listing.Met as listing-met
 -- back (Contracts.antt), so that the definitions named below (specs/Calls.antt) are what the calls do
 
 pub calls-end : {M : Type 1} → rules.statement M × numbers-asked.statement M × rows-asked.statement M × fresh.statement M × lodge.statement M × report.statement M
-    × outputs.statement M × units-taken.statement M × cheapest-runs.statement M × listing.statement M
-calls-end = (rules-met.met, numbers-met.met, rows-met.met, fresh-met.met, lodge-met.met, report-met.met, outputs-met.met, units-taken-met.met, cheapest-runs-met.met, listing-met.met)
+    × outputs.statement M × units-taken.statement M × cheapest-runs.statement M × forced-statuses.statement M × listing.statement M
+calls-end = (rules-met.met, numbers-met.met, rows-met.met, fresh-met.met, lodge-met.met, report-met.met, outputs-met.met, units-taken-met.met, cheapest-runs-met.met, forced-statuses-met.met, listing-met.met)
 
 -- ---- What is asked for. A state has room exactly in as many numbers and rows as the calls say, and slices with room hold a docket exactly where they begin
 -- with the mark and the docket that they are read as is sound
@@ -129,6 +133,12 @@ runs-small = runs-call.runs-small
 pub runs-none : (v w q s fixed rows short : List ℕ) (value : List ℤ) → long v w ≡ true → holds v w ≡ false → Tells v w q s fixed rows short value no-docket rows short value
 runs-none = runs-call.runs-empty
 
+pub forced-small : (v w q s fixed : List ℕ) (values : List ℤ) (stuck : List ℕ) → long v w ≡ false → Forces v w q s fixed values stuck too-little-room values stuck
+forced-small = forced-call.forced-small
+
+pub forced-none : (v w q s fixed : List ℕ) (values : List ℤ) (stuck : List ℕ) → long v w ≡ true → holds v w ≡ false → Forces v w q s fixed values stuck no-docket values stuck
+forced-none = forced-call.forced-empty
+
 -- Of slices that hold a docket, whoever wrote them: no length of a line and no count of outputs is one of the two numbers
 
 pub length-apart : (v w text line values : List ℕ) → lodge-room v w line values ≡ true → holds v w ≡ true → lodge-answer v w text line values < no-docket
@@ -169,6 +179,15 @@ runs-other v w q s fixed rows short value e i other = runs-call.runs-other v w q
 pub runs-apart : (v w q s fixed rows short : List ℕ) (value : List ℤ) → long v w ≡ true → holds v w ≡ true → runs-answer v w q s fixed rows short value ≤ 132
 runs-apart = runs-call.runs-apart
 
+-- The same of forced statuses (`forced-anywhere` there), by one of three numbers
+pub forced-any : (v w q s fixed : List ℕ) (values : List ℤ) (stuck : List ℕ) → long v w ≡ true → holds v w ≡ true
+    → let told = forced-of (docket-in v w) q s fixed values stuck in
+    Forces v w q s fixed values stuck (forced-number (told .answer)) (told .values) (told .stuck)
+forced-any = forced-call.forced-by
+
+pub forced-apart : (v w q s fixed : List ℕ) (values : List ℤ) (stuck : List ℕ) → long v w ≡ true → holds v w ≡ true → forced-answer v w q s fixed values stuck ≤ 2
+forced-apart = forced-call.forced-apart
+
 -- Of any slices: a text that would be refused or passed leaves the state as it was
 pub unheld-leaves : (v w text line values : List ℕ) → Unheld (stated (lodge-of (docket-in v w) text .answer))
     → (lodge-numbers v w text line values ≡ v) × (lodge-rows v w text line values ≡ w)
@@ -186,7 +205,7 @@ pub values-tell : (s t : Stated) → answer-numbers s ≡ answer-numbers t → s
 values-tell = numbers.numbers-tell
 
 -- ---- After every list of calls, from a fresh state. `heard calls` are the texts of those that were lent enough; the others do nothing. `docket_report`,
--- `docket_outputs`, `docket_units_taken` and `docket_cheapest_runs` only read the state, so that they may be called in between
+-- `docket_outputs`, `docket_units_taken`, `docket_cheapest_runs` and `docket_forced_statuses` only read the state, so that they may be called in between
 
 module _ (v w : List ℕ) (room : long v w ≡ true) (calls : List Lending) where
   abbrev s : State
@@ -243,6 +262,12 @@ module _ (v w : List ℕ) (room : long v w ≡ true) (calls : List Lending) wher
       → let told = runs-of (after texts) q r fixed rows short in
       Tells (s .numbers) (s .rows) q r fixed rows short value (runs-number (told .answer)) (told .rows) (told .short) (value-told (told .answer) value)
   runs-told = hosted.runs-told s (after texts) state-holds
+
+  -- The entries of forced statuses that are told are those of the docket after the texts (`forced-told` there)
+  pub forced-told : (q r fixed : List ℕ) (values : List ℤ) (stuck : List ℕ)
+      → let told = forced-of (after texts) q r fixed values stuck in
+      Forces (s .numbers) (s .rows) q r fixed values stuck (forced-number (told .answer)) (told .values) (told .stuck)
+  forced-told = hosted.forced-told s (after texts) state-holds
 
   -- A report's length is at most 171, or too little room is said; in 256 bytes there is room
   pub report-length : (b : List ℕ) (k : ℕ) → (report-answer (s .numbers) (s .rows) b k ≤ 171) ⊎ (report-answer (s .numbers) (s .rows) b k ≡ too-little-room)

@@ -1,4 +1,5 @@
--- What calls on a state that holds a docket give: its answers, its reports, its outputs, and what it tells of the units that `short` takes.
+-- What calls on a state that holds a docket give: its answers, its reports, its outputs, and what it tells of the units that `short` takes, of the runs of a
+-- price leaf and of forced statuses.
 use mathlib.Core.Path.{_≡_, refl, sym, ap, _∙_}
 use mathlib.Core.Bool.{Bool, true, false, cond}
 use mathlib.Core.List.{List}
@@ -28,7 +29,9 @@ use Rattle.docket.specs.ReportDue.{WrittenOr43, ReportDue}
 use Rattle.docket.specs.Promised.{after, answer}
 use Rattle.docket.specs.Taking.{taken-of}
 use Rattle.docket.specs.Drafting.{runs-of}
+use Rattle.docket.specs.Forcing.{forced-of}
 use Rattle.runs.specs.Drafts.{Drafted}
+use Rattle.forced.specs.Answers.{Told}
 use Rattle.docket.proofs.Lists.{reached-sound}
 use Rattle.docket.proofs.ReportSizes.{reached-most}
 use Rattle.docket.proofs.Promises.{reports}
@@ -36,10 +39,11 @@ use Rattle.state.specs.Kept.{State, state-next, HoldsDocket, outputs-count, out
 use Rattle.state.proofs.ReachedFits.{reached-fits}
 use Rattle.state.proofs.Outputs.{outputs-long}
 use Rattle.docket_host.specs.HostAnswer.{too-little-room}
-use Rattle.docket_host.specs.Calls.{lends, lodge-room, lodge-answer, lodge-line, lodge-values, report-number, report-answer, report-bytes, outputs-room, outputs-answer, outputs-rows, taken-room, taken-number, taken-written, taken-answer, taken-numbers, runs-number, value-told, Tells}
+use Rattle.docket_host.specs.Calls.{lends, lodge-room, lodge-answer, lodge-line, lodge-values, report-number, report-answer, report-bytes, outputs-room, outputs-answer, outputs-rows, taken-room, taken-number, taken-written, taken-answer, taken-numbers, runs-number, value-told, Tells, forced-number, Forces}
 use Rattle.docket_host.specs.Lending.{Lending, called, HostReport}
 use Rattle.docket_host.proofs.Calls.{lodge-by, report-by, outputs-by, taken-by}
 use Rattle.docket_host.proofs.RunsCalls.{runs-done}
+use Rattle.docket_host.proofs.ForcedCalls.{forced-done}
 
 -- ---- one call
 
@@ -150,3 +154,14 @@ module _ (s : State) (d : Docket) (h : HoldsDocket s d) (q r fixed rows short : 
   runs-told =
       runs-done (s .numbers) (s .rows) q r fixed rows short value (h .room) (h .is) one d (sym (h .docket-is)) (draft .answer) refl (draft .rows) refl (draft .short) refl
       (runs-number (draft .answer)) refl (value-told (draft .answer) value) refl
+
+-- ---- forced statuses
+
+module _ (s : State) (d : Docket) (h : HoldsDocket s d) (q r fixed : List ℕ) (values : List ℤ) (stuck : List ℕ) where
+  abbrev entries : Told
+  entries = forced-of d q r fixed values stuck
+
+  pub forced-told : Forces (s .numbers) (s .rows) q r fixed values stuck (forced-number (entries .answer)) (entries .values) (entries .stuck)
+  forced-told =
+      forced-done (s .numbers) (s .rows) q r fixed values stuck (h .room) (h .is) d (sym (h .docket-is)) (entries .answer) refl (entries .values) refl (entries .stuck) refl
+      (forced-number (entries .answer)) refl

@@ -3,6 +3,7 @@ pub mod ListingSizes
 pub mod HostAnswers
 pub mod Calls
 pub mod RunsCalls
+pub mod ForcedCalls
 pub mod Hosted
 pub mod AfterCalls
 pub mod Contracts

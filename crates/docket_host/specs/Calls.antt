@@ -22,7 +22,11 @@ use Rattle.docket.specs.Taking.{taken-of}
 use Rattle.runs.specs.declared.drafting.RunsAnswer.{RunsAnswer}
 use Rattle.runs.specs.declared.drafting.RunsAnswer.the-variants as runs
 use Rattle.runs.specs.Drafts.{Drafted, unwritten}
+use Rattle.forced.specs.declared.answering.ForcedAnswer.{ForcedAnswer}
+use Rattle.forced.specs.declared.answering.ForcedAnswer.the-variants as forced
+use Rattle.forced.specs.Answers.{Told}
 use Rattle.docket.specs.Drafting.{runs-of}
+use Rattle.docket.specs.Forcing.{forced-of}
 use Rattle.state.specs.Layout.{docket-in}
 use Rattle.state.specs.Kept.{long, holds, kept-numbers, kept-rows, lodged-numbers, lodged-rows, outputs-count, outputs-of}
 use Rattle.docket_host.specs.HostAnswer.{too-little-room}
@@ -178,3 +182,28 @@ module _ (v w q s fixed rows short : List ℕ) (value : List ℤ) where
   -- a number and three lists are what is answered, and what the slices then hold
   abbrev pub Tells : ℕ → List ℕ → List ℕ → List ℤ → Type 0
   Tells r rows′ short′ value′ = (r ≡ runs-answer) × ((rows′ ≡ runs-rows) × ((short′ ≡ runs-short) × (value′ ≡ runs-value)))
+
+-- ---- forced statuses: the lengths of all slices but the state's are exact
+
+-- 0 where the entries are written, 1 where no problem is known, 2 where the question does not fit it
+abbrev pub forced-number : ForcedAnswer → ℕ
+forced-number forced.NoProblem = 1
+forced-number forced.Unfit = 2
+forced-number forced.Found = 0
+
+module _ (v w q s fixed : List ℕ) (values : List ℤ) (stuck : List ℕ) where
+  abbrev pub forced-there : Told
+  forced-there = forced-of (docket-in v w) q s fixed values stuck
+
+  unfoldable pub forced-answer : ℕ
+  forced-answer = guarded (long v w) (holds v w) too-little-room no-docket (forced-number (forced-there .answer))
+
+  unfoldable pub forced-values : List ℤ
+  forced-values = guarded (long v w) (holds v w) values values (forced-there .values)
+
+  unfoldable pub forced-stuck : List ℕ
+  forced-stuck = guarded (long v w) (holds v w) stuck stuck (forced-there .stuck)
+
+  -- a number and two lists are what is answered, and what the slices then hold
+  abbrev pub Forces : ℕ → List ℤ → List ℕ → Type 0
+  Forces r values′ stuck′ = (r ≡ forced-answer) × ((values′ ≡ forced-values) × (stuck′ ≡ forced-stuck))

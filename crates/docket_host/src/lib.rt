@@ -7,9 +7,10 @@ ghost use lib.ListN.{length};
 ghost use Rattle.list.specs.Listing.{listed-of, output-of};
 ghost use Rattle.state.specs.Layout.{numbers-count, rows-count};
 ghost use Rattle.docket_host.specs.HostAnswer.{host-answer};
-ghost use Rattle.docket_host.specs.Calls.{rules, fresh-answer, fresh-numbers, fresh-rows, lodge-room, lodge-answer, lodge-numbers, lodge-rows, lodge-line, lodge-values, report-number, report-answer, report-bytes, outputs-room, outputs-answer, outputs-rows, taken-room, taken-number, taken-written, taken-answer, taken-numbers, Few, runs-number, value-told, runs-answer, runs-rows, runs-short, runs-value};
+ghost use Rattle.docket_host.specs.Calls.{rules, fresh-answer, fresh-numbers, fresh-rows, lodge-room, lodge-answer, lodge-numbers, lodge-rows, lodge-line, lodge-values, report-number, report-answer, report-bytes, outputs-room, outputs-answer, outputs-rows, taken-room, taken-number, taken-written, taken-answer, taken-numbers, Few, runs-number, value-told, runs-answer, runs-rows, runs-short, runs-value, forced-number, forced-answer, forced-values, forced-stuck};
 use docket::Docket;
 use docket::taking::TakenAnswer;
+use forced::answering::ForcedAnswer;
 use list::Listed;
 use report::ReportAnswer;
 use runs::drafting::RunsAnswer;
@@ -278,6 +279,46 @@ pub extern "C" fn docket_cheapest_runs(
                 return 2;
             }
             return 1;
+        }
+        return NO_DOCKET;
+    }
+    TOO_SMALL
+}
+
+// The answer as one number.
+fn forced_number(answer: ForcedAnswer) -> usize
+    ensures { λ r. ⌜ r ≡ forced-number answer ⌝ }
+{
+    match answer {
+        ForcedAnswer::NoProblem => 1,
+        ForcedAnswer::Unfit => 2,
+        ForcedAnswer::Found => 0,
+    }
+}
+
+// Each unit's least value at these multipliers under these statuses with the status of each period forced besides: 0, and `values` has the values, unit u's from u times
+// twice the periods on, off forced before on forced, and `stuck` 1 where the unit is then stuck, else 0; 1 where no problem is known; 2 where the question does not fit it,
+// by the length of one of the slices too. Or TOO_SMALL or NO_DOCKET. Nothing else is changed.
+#[no_mangle]
+pub extern "C" fn docket_forced_statuses(
+    numbers: &[u64],
+    rows: &[u16],
+    q: &[u64],
+    s: &[u64],
+    fixed: &[u8],
+    values: &mut [i64],
+    stuck: &mut [u8],
+) -> usize
+    ensures answer { λ r. ⌜ r ≡ forced-answer (now (numbers .entry)) (now (rows .entry)) (now (q .entry)) (now (s .entry)) (now (fixed .entry)) (now (values .entry)) (now (stuck .entry)) ⌝ }
+    ensures values { λ _. ⌜ now (values .exit) ≡ forced-values (now (numbers .entry)) (now (rows .entry)) (now (q .entry)) (now (s .entry)) (now (fixed .entry)) (now (values .entry)) (now (stuck .entry)) ⌝ }
+    ensures stuck { λ _. ⌜ now (stuck .exit) ≡ forced-stuck (now (numbers .entry)) (now (rows .entry)) (now (q .entry)) (now (s .entry)) (now (fixed .entry)) (now (values .entry)) (now (stuck .entry)) ⌝ }
+{
+    if state::is_long(numbers, rows) {
+        let opened = state::opened_in(numbers, rows);
+        if opened.is {
+            let docket = opened.docket;
+            let answer = docket.forced_statuses(q, s, fixed, values, stuck);
+            return forced_number(answer);
         }
         return NO_DOCKET;
     }

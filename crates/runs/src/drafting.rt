@@ -26,7 +26,7 @@ pub enum RunsAnswer {
 }
 
 // Whether every number is a multiplier.
-fn are_prices(prices: &[u64]) -> bool
+pub fn are_prices(prices: &[u64]) -> bool
     ensures { λ r. ⌜ r ≡ every is-price (now (prices .entry)) ⌝ }
 {
     let mut i = 0;

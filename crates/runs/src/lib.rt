@@ -1,7 +1,7 @@
 // The runs behind the least values of a price leaf's units, and how far they fall short of the demand.
 pub mod drafting;
 mod short;
-mod status;
-mod table;
+pub mod status;
+pub mod table;
 mod unit;
 mod units;

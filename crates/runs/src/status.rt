@@ -84,7 +84,7 @@ pub fn periods_spent(on: bool, k: usize, next: bool) -> usize
 }
 
 // The status in a period that costs so much in it, with the value after it; coded.
-fn branch_value(
+pub fn branch_value(
     g: Generator,
     mark: u8,
     cost: u64,

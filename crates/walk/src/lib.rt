@@ -90,7 +90,7 @@ fn own_back(
 }
 
 // The smaller of two numbers of states.
-fn smaller(x: usize, y: usize) -> usize
+pub fn smaller(x: usize, y: usize) -> usize
     ensures { λ r. ⌜ r ≡ min x y ⌝ }
 {
     if x < y {

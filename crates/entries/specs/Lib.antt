@@ -1,0 +1,2 @@
+-- Entries worked out by hand.
+pub mod EntryExamples
