@@ -77,7 +77,7 @@ impl<'a> Pricing<'a> {
 
     /// For each period, nothing if the unit is off, and if it is on the least of running cost minus
     /// q·p + s·pU.
-    fn worths(&mut self, unit: usize, prices: &[i64], reserves: &[i64]) -> Vec<Worth> {
+    pub fn worths(&mut self, unit: usize, prices: &[i64], reserves: &[i64]) -> Vec<Worth> {
         let generator = &self.problem.units[unit];
         let mut worths = Vec::new();
         for (&price, reserve) in prices.iter().zip(reserves) {

@@ -9,14 +9,16 @@
 //! - `above`: what the split lines above a node say
 //! - `leaf`: when a leaf holds and what it is worth
 //! - `taken`: how many units the sum for `short` takes
-//! - `runs`: the cheapest runs at a price leaf; `trying`: the same by trying every row
+//! - `runs`: the cheapest runs at a price leaf; `forced`: least values there with a status forced;
+//!   `trying`: both by trying every row
 //! - `tree`: nodes and the bound
 //! - `docket`: what is held, and the report
 //! - `listing`: the listing program on bytes
-//! - `inputs`: inputs of the listing program and questions about runs from a seed, to compare with
+//! - `inputs`: inputs of the listing program and questions at a price leaf from a seed, to compare with
 
 pub mod above;
 pub mod docket;
+pub mod forced;
 pub mod generator;
 pub mod inputs;
 pub mod leaf;
@@ -33,9 +35,10 @@ pub mod tree;
 pub mod trying;
 
 pub use docket::{fresh, lodge, report, Answer, Docket, Figures, HeldBound, HeldCost};
+pub use forced::{forced_statuses, ForcedAnswer};
 pub use listing::listing;
 pub use refusal::Refusal;
 pub use runs::{cheapest_runs, RunsAnswer};
 pub use taken::{capacity_taken, Taken, TakenAnswer};
 pub use tree::Bound;
-pub use trying::runs_by_trying;
+pub use trying::{forced_by_trying, runs_by_trying};

@@ -1,10 +1,11 @@
-//! The cheapest runs of a small price leaf, found by trying every row of outputs (document 02, [7];
-//! decided points 127 and 128).
+//! The cheapest runs of a small price leaf, and its units' least values with a status forced, found by
+//! trying every row of outputs (document 02, [7] and [5]; decided points 127, 128 and 135).
 //!
 //! A row is judged and its cost taken by the rules for a schedule. The number of rows grows with the
 //! power of the periods, so that this is for few periods and few outputs.
 
 use crate::docket::Docket;
+use crate::forced::{self, ForcedAnswer};
 use crate::generator::Generator;
 use crate::runs::{Question, RunsAnswer};
 use crate::schedule::{breaks_up_or_down_time, cost, is_on, row_cost};
@@ -27,6 +28,35 @@ pub fn runs_by_trying(docket: &Docket, q: &[u64], s: &[u64], fixed: &[u8]) -> Ru
         short: short_of_demand(&question, &rows),
         rows: rows.iter().map(|row| whole(row)).collect(),
     }
+}
+
+/// What `forced_statuses` answers: each entry is the least value of the rows that have its status in
+/// its period.
+pub fn forced_by_trying(docket: &Docket, q: &[u64], s: &[u64], fixed: &[u8]) -> ForcedAnswer {
+    let question = match forced::read(docket, q, s, fixed) {
+        Ok(question) => question,
+        Err(answer) => return answer,
+    };
+    let units = 0..question.problem.units.len();
+    let entries = units.flat_map(|unit| forced_entries(&question, unit));
+    ForcedAnswer::found(entries)
+}
+
+/// A unit's entries: for each period off and on, `None` where no row has that status there.
+fn forced_entries(question: &Question, unit: usize) -> Vec<Option<i64>> {
+    let periods = question.problem.periods();
+    let mut least: Vec<Option<i64>> = vec![None; 2 * periods];
+    for row in all_rows(&question.problem.units[unit], periods) {
+        if !is_permitted(question, unit, &row) {
+            continue;
+        }
+        let value = row_value(question, unit, &row);
+        for (period, &output) in row.iter().enumerate() {
+            let entry = &mut least[2 * period + usize::from(is_on(output))];
+            *entry = Some(entry.map_or(value, |least| least.min(value)));
+        }
+    }
+    least
 }
 
 /// All rows of a unit (from 0) that have the least value, in the order in which they are tried; none

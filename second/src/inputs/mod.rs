@@ -1,5 +1,5 @@
 //! Inputs of the listing program, made from a seed: valid, nearly valid and damaged; and questions
-//! about the cheapest runs.
+//! about the cheapest runs, which serve for forced statuses too.
 
 pub mod damage;
 pub mod kinds;
