@@ -2,9 +2,11 @@
 //!
 //! An input is a list of texts. One of at most 65,536 bytes is listed: the whole listing, on bytes. The pieces of a longer one, which a
 //! listing would refuse, are lodged in turn. Both do so from a fresh docket, in this process, the input being in memory before the clock
-//! starts. They take turns, and the best time of each counts. Before that what they write is compared.
+//! starts. They take turns, and the best time of each counts. Before that what they write is compared. A question about forced statuses is
+//! asked of a docket that holds its problem.
 mod cases;
 mod entries;
+mod forced;
 mod inputs;
 
 use cases::{Case, Last};
@@ -34,6 +36,7 @@ fn main() {
             run(&case, runs);
         }
     }
+    forced::rows(runs, &names);
 }
 
 /// How many answers a listing has.

@@ -1,5 +1,7 @@
 //! The docket: a problem, and under it no more than one schedule and one bound.
+use crate::forced;
 use crate::judge::{self, Rows};
+use crate::least;
 use crate::problem::{Problem, MOST_PERIODS, MOST_UNITS};
 use crate::tree::{self, Figures};
 use crate::Refusal;
@@ -108,6 +110,23 @@ impl<const ALL: bool> Docket<ALL> {
             writer: figures.writer,
         });
         Ok(Answer::TreeHeld(figures))
+    }
+
+    /// The value of a price leaf under the held problem, or None where a unit is stuck.
+    pub fn leaf_value(&self, q: &[u64], s: &[u64], fixed: &[u8]) -> Option<i64> {
+        least::leaf_value::<ALL>(&self.problem, q, s, fixed)
+    }
+
+    /// Each unit's least value with each status forced, and which of them are not there.
+    pub fn forced_statuses(
+        &self,
+        q: &[u64],
+        s: &[u64],
+        fixed: &[u8],
+        values: &mut [i64],
+        stuck: &mut [u8],
+    ) {
+        forced::forced_statuses(&self.problem, q, s, fixed, values, stuck)
     }
 
     /// The rows of the held schedule.

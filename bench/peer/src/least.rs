@@ -4,11 +4,11 @@
 //! value that is not there is a number so large that sums with it stay above every value that is.
 use crate::problem::{Problem, Unit, MOST_PERIODS};
 
-const MOST_UP: usize = 48;
-const MOST_DOWN: usize = 97;
+pub const MOST_UP: usize = 48;
+pub const MOST_DOWN: usize = 97;
 
 /// What stands for a value that is not there, and the least number that means so.
-const NONE: i64 = 1 << 61;
+pub const NONE: i64 = 1 << 61;
 pub const AT_LEAST_NONE: i64 = 1 << 60;
 
 pub const OFF: u8 = 1;

@@ -5,6 +5,7 @@
 //! made, statuses and counts set and taken back in arrays, and a large number for a value that is not there.
 
 mod docket;
+mod forced;
 mod judge;
 mod least;
 mod lines;
