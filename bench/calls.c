@@ -72,21 +72,38 @@ static void copy_outputs(struct docket *d) {
     need(length < DOCKET_NO_DOCKET, "docket_outputs");
 }
 
-/* The runs of a price leaf with nothing fixed, at one price and one reserve price in every period. */
+/* A price leaf with nothing fixed, at a price and a reserve price in every period. */
 static size_t periods, units;
+static uint64_t q[48], s[48];
+static uint8_t fixed[DOCKET_OUTPUTS];
 
-static void draft(struct docket *d) {
-    static uint64_t q[48], s[48], runs[DOCKET_OUTPUTS], shortfalls[48];
-    static uint8_t fixed[DOCKET_OUTPUTS];
-    int64_t value;
+static void make_leaf(size_t many, size_t long_) {
+    units = many;
+    periods = long_;
     for (size_t t = 0; t < periods; t++) {
         q[t] = 2200 + 10 * t;
         s[t] = 5;
     }
+}
+
+/* Its runs. */
+static void draft(struct docket *d) {
+    static uint64_t runs[DOCKET_OUTPUTS], shortfalls[48];
+    int64_t value;
     size_t places = units * periods;
     size_t answer = docket_cheapest_runs(d->numbers, NUMBERS, d->rows, ROWS, q, periods, s, periods, fixed, places, runs, places,
                                          shortfalls, periods, &value, 1);
     need(answer == DOCKET_RUNS_FOUND, "docket_cheapest_runs");
+}
+
+/* What its units are worth with a status forced. */
+static void force(struct docket *d) {
+    static int64_t entries[2 * DOCKET_OUTPUTS];
+    static uint8_t stuck[2 * DOCKET_OUTPUTS];
+    size_t places = units * periods;
+    size_t answer = docket_forced_statuses(d->numbers, NUMBERS, d->rows, ROWS, q, periods, s, periods, fixed, places, entries,
+                                           2 * places, stuck, 2 * places);
+    need(answer == DOCKET_FORCED_FOUND, "docket_forced_statuses");
 }
 
 static void fresh(struct docket *d) { need(docket_fresh(d->numbers, NUMBERS, d->rows, ROWS) == 0, "docket_fresh"); }
@@ -125,12 +142,12 @@ static void begin(const char *folder, const char *name) {
     read_text(folder, name, "text.txt");
 }
 
-/* The row of a draft under the problem of the name. */
-static void time_draft(const char *folder, const char *name, size_t many, size_t long_) {
+/* The rows of a draft and of forced statuses under the problem of the name. */
+static void time_leaf(const char *folder, const char *name, size_t many, size_t long_) {
     begin(folder, name);
-    units = many;
-    periods = long_;
+    make_leaf(many, long_);
     printf("| draft, %s | | %.1f | |\n", name, best(draft));
+    printf("| forced statuses, %s | | %.1f | |\n", name, best(force));
 }
 
 /* The row of a text: lodged in a docket that holds its problem alone, then in one that holds the text too. */
@@ -158,8 +175,8 @@ int main(int argc, char **argv) {
     need(lodge_before() == DOCKET_HELD, "32-by-48");
     printf("| report | | %.2f | |\n| outputs | | %.2f | |\n", best(report), best(copy_outputs));
     printf("| fresh | | %.2f | |\n", best(fresh));
-    time_draft(argv[1], "small", 2, 2);
-    time_draft(argv[1], "ten-by-24", 10, 24);
-    time_draft(argv[1], "32-by-48", 32, 48);
+    time_leaf(argv[1], "small", 2, 2);
+    time_leaf(argv[1], "ten-by-24", 10, 24);
+    time_leaf(argv[1], "32-by-48", 32, 48);
     return 0;
 }

@@ -175,7 +175,7 @@ c_tests() {
   counted "C$how: test_states" program test_states "${examples[@]%.txt}"
   counted "C$how: test_trees" program test_trees "${deep[@]%.txt}"
   counted "C$how: test_kept" program test_kept tests/states
-  for name in test_keeping test_room test_taken test_runs; do
+  for name in test_keeping test_room test_taken test_runs test_forced; do
     counted "C$how: $name" program "$name"
   done
 }

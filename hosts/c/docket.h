@@ -5,17 +5,18 @@
  * A docket that stays open is two stretches of memory that the caller owns: `numbers`, of docket_numbers() numbers of 64 bits,
  * and `rows`, of docket_rows() numbers of 16 bits. docket_fresh makes a docket of them, docket_lodge lodges a text in it,
  * docket_report and docket_outputs tell what it holds, docket_units_taken how many units `short` takes in a period of its
- * problem, and docket_cheapest_runs the runs behind a price leaf's value. A copy of both stretches is a docket of its own. No
- * call ends a docket: its memory is the caller's.
+ * problem, docket_cheapest_runs the runs behind a price leaf's value, and docket_forced_statuses what each unit is worth there
+ * with a status forced. A copy of both stretches is a docket of its own. No call ends a docket: its memory is the caller's.
  *
  * What every call here does, for every input, is proved: crates/docket_host/proofs/HostPromises.antt, Contracts.antt.
  *
  * What the caller owes, of every call:
  * - No pointer is null, also where no bytes or numbers are lent; each points to as many as its length says.
  * - The stretches lent to one call do not overlap. `numbers`, `values`, `taken`, `q`, `s`, `runs` and `shortfalls` are aligned
- *   for uint64_t, `value` for int64_t, `rows` and `outputs` for uint16_t.
+ *   for uint64_t, `value` and the `values` of docket_forced_statuses for int64_t, `rows` and `outputs` for uint16_t.
  * - Nobody writes meanwhile to what a call reads, or touches what it writes. So threads may call at once, each with a docket of
- *   its own, and may at once ask one docket for reports, outputs, units taken and runs, each with buffers of its own.
+ *   its own, and may at once ask one docket for reports, outputs, units taken, runs and forced statuses, each with buffers of
+ *   its own.
  * - DOCKET_STACK_BYTES of stack are free.
  *
  * Nothing is allocated, nothing is kept between calls, no file is touched, and every call returns. A text, and the multipliers
@@ -35,7 +36,7 @@ extern "C" {
 
 /* Too little room: fewer numbers, rows, bytes or values are lent than the call asks for. This is looked at first, whatever the
  * state is; but how much room a report needs is asked of a docket, and how many statuses a question has is part of it, as is
- * all that docket_cheapest_runs is lent besides the state. */
+ * all that docket_cheapest_runs and docket_forced_statuses are lent besides the state. */
 #define DOCKET_TOO_SMALL SIZE_MAX
 
 /* No docket: what is lent as its state was never begun, is that of another layout, or was changed so that its problem or its
@@ -43,8 +44,8 @@ extern "C" {
 #define DOCKET_NO_DOCKET (SIZE_MAX - 1)
 
 /* ---- what to lend; more may be lent. What a call does not name as written stays as it was, within the asked-for part too.
- * Exact, so that more does not fit either, are the length of `fixed` and all that docket_cheapest_runs is lent besides the
- * state. */
+ * Exact, so that more does not fit either, are the length of `fixed` and all that docket_cheapest_runs and
+ * docket_forced_statuses are lent besides the state. */
 
 /* for the line of an answer: docket_lodge asks for so many bytes, whatever the answer */
 #define DOCKET_LINE_BYTES ((size_t)128)
@@ -192,6 +193,31 @@ size_t docket_cheapest_runs(const uint64_t *numbers, size_t numbers_length, cons
                             const uint64_t *q, size_t q_length, const uint64_t *s, size_t s_length, const uint8_t *fixed,
                             size_t fixed_length, uint64_t *runs, size_t runs_length, uint64_t *shortfalls,
                             size_t shortfalls_length, int64_t *value, size_t value_length);
+
+/* What docket_forced_statuses returns where there is a docket: `values` and `stuck` are written; the docket knows no problem; the
+ * question does not fit the problem. */
+enum docket_forced_answer { DOCKET_FORCED_FOUND = 0, DOCKET_FORCED_NO_PROBLEM = 1, DOCKET_FORCED_UNFIT = 2 };
+
+/* Finds what each unit is worth at a price leaf with a status forced, for every period and either status.
+ *
+ * The leaf is `q`, `s` and `fixed`, as docket_cheapest_runs has them. An entry is the least that a run of the unit is worth, of
+ * those that agree with what is fixed and have the forced status in its period. It is the unit's own: the leaf's part for D and
+ * R is not in it. Where there is no such run the entry says stuck; so it does where the period is fixed the other way, for forcing
+ * does not undo what is fixed, and so does every entry of a unit to which what is fixed leaves no run. That is no error: the
+ * other units' entries are given. The lesser of a period's two entries is what the unit's cheapest run is worth, and how far the
+ * other is above it is what it costs to force that status.
+ *
+ * The lengths are exact: T for `q` and `s`, units times T for `fixed`, and twice units times T, so at most 2 * DOCKET_OUTPUTS, for
+ * `values` and `stuck`.
+ *
+ * Returned: DOCKET_FORCED_FOUND, and both are written: for unit u and period t, both counted from 0, with off forced at the place
+ * 2 * (u * T + t), with on forced at the one after it. An entry that says stuck is 1 in `stuck` and 0 in `values`; any other is 0
+ * in `stuck`, and its value, which may be below 0, in `values`. Or, with both as they were and in this order: DOCKET_TOO_SMALL,
+ * where the state is too short; DOCKET_NO_DOCKET; DOCKET_FORCED_NO_PROBLEM; DOCKET_FORCED_UNFIT, where a length is another one, a
+ * multiplier is above 1,000,000,000 or a byte of `fixed` above 2. The state is only read. */
+size_t docket_forced_statuses(const uint64_t *numbers, size_t numbers_length, const uint16_t *rows, size_t rows_length,
+                              const uint64_t *q, size_t q_length, const uint64_t *s, size_t s_length, const uint8_t *fixed,
+                              size_t fixed_length, int64_t *values, size_t values_length, uint8_t *stuck, size_t stuck_length);
 
 /* ---- a whole listing at once */
 

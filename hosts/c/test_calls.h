@@ -50,6 +50,24 @@ static const struct priced {
                       {{0, 0}, {9, 9}, {1, 2, 2, 1}, DOCKET_RUNS_STUCK + 1, {0}, {0}, 0}};
 #define EXAMPLE_PRICED (sizeof example_priced / sizeof *example_priced)
 
+/* The same leaves and one with all off, and what each unit is worth with a status forced: in period 1 off, on, in period 2 off, on.
+ * At prices 10 and 14 unit 1 is worth 100 where it is on in period 1 and -220 in 2, and its stop costs 5; unit 2 is worth 80 and
+ * 40, and its start costs 60. At 12 and 18 the four are -60, -540, 60 and -160, with the reserve 3 -140, -220, -70 and 40; at no
+ * price and the reserve 9 unit 2 is worth -270 in period 1. */
+static const struct forced {
+    uint64_t q[2], s[2];
+    uint8_t fixed[4];
+    int64_t values[8];
+    uint8_t stuck[8];
+} example_forced[] = {{{10, 14}, {0, 0}, {0, 0, 0, 0}, {5, -120, 5, -120, 0, 140, 0, 100}, {0}},
+                      {{10, 14}, {0, 0}, {0, 0, 0, 2}, {5, -120, 5, -120, 100, 180, 0, 100}, {0, 0, 0, 0, 0, 0, 1, 0}},
+                      {{12, 18}, {0, 0}, {0, 0, 0, 0}, {5, -600, -55, -600, -100, -40, 0, -100}, {0}},
+                      {{10, 14}, {3, 0}, {0, 0, 0, 0}, {5, -360, -135, -360, 0, -10, -10, 30}, {0}},
+                      {{10, 14}, {0, 0}, {1, 2, 0, 0}, {0, 0, 0, 0, 0, 140, 0, 100}, {1, 1, 1, 1, 0, 0, 0, 0}},
+                      {{0, 0}, {9, 9}, {1, 2, 2, 1}, {0, 0, 0, 0, 0, -210, -210, 0}, {1, 1, 1, 1, 1, 0, 0, 1}},
+                      {{10, 14}, {0, 0}, {1, 1, 1, 1}, {5, 0, 5, 0, 0, 0, 0, 0}, {0, 1, 0, 1, 0, 1, 0, 1}}};
+#define EXAMPLE_FORCED (sizeof example_forced / sizeof *example_forced)
+
 /* The number at the place, which moves behind it; 0 where no digit stands there. */
 static inline uint64_t read_number(const char **place) {
     uint64_t number = 0;
@@ -240,6 +258,31 @@ static inline int prices_example(const struct docket *d, size_t wanted) {
     return good;
 }
 
+/* Whether the docket returns this to a question about forced statuses of the example's problem, and writes what is due where it
+ * finds it, and else nothing. */
+static inline int answers_forced(const struct docket *d, const struct forced *forced, size_t wanted) {
+    int64_t values[8];
+    uint8_t stuck[8];
+    memset(values, PAINT, sizeof values);
+    memset(stuck, PAINT, sizeof stuck);
+    size_t answer = docket_forced_statuses(d->numbers, d->numbers_length, d->rows, d->rows_length, forced->q, 2, forced->s, 2,
+                                           forced->fixed, 4, values, 8, stuck, 8);
+    if (wanted != DOCKET_FORCED_FOUND) {
+        return answer == wanted && painted(values, sizeof values) && painted(stuck, sizeof stuck);
+    }
+    return answer == wanted && memcmp(values, forced->values, sizeof values) == 0 &&
+           memcmp(stuck, forced->stuck, sizeof stuck) == 0;
+}
+
+/* Whether it does so to each of them. */
+static inline int forces_example(const struct docket *d, size_t wanted) {
+    int good = 1;
+    for (size_t k = 0; k < EXAMPLE_FORCED; k++) {
+        good = answers_forced(d, &example_forced[k], wanted) && good;
+    }
+    return good;
+}
+
 /* Whether the example's texts, lodged in a docket that holds nothing, are held. */
 static inline int lodges_example(struct docket *d) {
     return lodges(d, PROBLEM, PROBLEM_HELD) && lodges(d, SCHEDULE, SCHEDULE_HELD) && lodges(d, TREE, TREE_HELD);
@@ -248,7 +291,7 @@ static inline int lodges_example(struct docket *d) {
 /* Whether the docket holds what the example's texts gave it. */
 static inline int holds_example(const struct docket *d) {
     return reports(d, ALL_HELD) && gives(d, example_outputs, 4) && answers_example(d, DOCKET_TAKEN_TOLD) &&
-           prices_example(d, DOCKET_RUNS_FOUND);
+           prices_example(d, DOCKET_RUNS_FOUND) && forces_example(d, DOCKET_FORCED_FOUND);
 }
 
 /* Whether the texts of the input, lodged in turn in the docket, begun anew, give the answers of its listing, then the report. */

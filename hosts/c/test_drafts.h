@@ -1,4 +1,4 @@
-/* Price leaves for docket_cheapest_runs, and what they must be answered, found apart from the archive. */
+/* Price leaves, and what docket_cheapest_runs must answer to them, found apart from the archive. */
 #ifndef TEST_DRAFTS_H
 #define TEST_DRAFTS_H
 
@@ -20,11 +20,14 @@ struct plant {
     struct unit all[32];
 };
 
-/* what is lent besides the state, how wide a number of it is, and how many there may be: more than a problem asks for */
+/* what is lent besides the state, how wide a number of it is, and how many there may be: more than a problem asks for; the first
+ * three parts are only read */
 enum leaf_part { PRICES, RESERVES, STATUSES, RUNS, SHORTFALLS, VALUE, LEAF_PARTS };
 static const size_t part_widths[LEAF_PARTS] = {8, 8, 1, 8, 8, 8};
+#define READ_PARTS 3
 #define LONGEST_PART ((size_t)2048)
 
+/* A leaf, and how many numbers of each part are lent. */
 struct leaf {
     uint64_t q[LONGEST_PART], s[LONGEST_PART];
     uint8_t fixed[LONGEST_PART];
@@ -45,10 +48,9 @@ static inline void fit_lengths(const struct plant *of, size_t lengths[LEAF_PARTS
     memcpy(lengths, fit, sizeof fit);
 }
 
-static inline int is_leaf_fit(const struct plant *of, const struct leaf *leaf) {
-    size_t fit[LEAF_PARTS];
-    fit_lengths(of, fit);
-    int good = memcmp(leaf->lengths, fit, sizeof fit) == 0;
+/* Whether the leaf fits the problem, and its first parts have the lengths that fit. */
+static inline int is_leaf_fit(const struct plant *of, const struct leaf *leaf, const size_t *fit, size_t parts) {
+    int good = memcmp(leaf->lengths, fit, parts * sizeof *fit) == 0;
     for (size_t t = 0; t < of->periods; t++) {
         good = good && leaf->q[t] <= MOST_MULTIPLIER && leaf->s[t] <= MOST_MULTIPLIER;
     }
@@ -142,8 +144,10 @@ static inline struct way cheapest_way(const struct unit *unit, size_t periods, c
 
 /* What is due to a leaf. */
 static inline void find_draft(const struct plant *of, const struct leaf *leaf, struct draft *due) {
+    size_t fit[LEAF_PARTS];
+    fit_lengths(of, fit);
     due->answer = of->periods == 0 ? DOCKET_RUNS_NO_PROBLEM : DOCKET_RUNS_UNFIT;
-    if (of->periods == 0 || !is_leaf_fit(of, leaf)) {
+    if (of->periods == 0 || !is_leaf_fit(of, leaf, fit, LEAF_PARTS)) {
         return;
     }
     due->value = 0;
@@ -175,50 +179,59 @@ struct leaf_room {
     int from;
 };
 
+/* for each part: more than twice as many numbers as a problem has statuses */
+#define PART_BYTES (2 * LONGEST_PART * sizeof(uint64_t))
+
 static inline struct leaf_room room_for_leaf(int from) {
     struct leaf_room room = {.from = from};
     for (int part = 0; part < LEAF_PARTS; part++) {
-        room.starts[part] = pages(pages_for(LONGEST_PART * sizeof(uint64_t)));
+        room.starts[part] = pages(pages_for(PART_BYTES));
     }
     return room;
 }
 
-/* Where so many numbers of a part are lent. */
-static inline void *lend_part(const struct leaf_room *room, enum leaf_part part, size_t length) {
-    size_t all = LONGEST_PART * sizeof(uint64_t);
-    return room->from ? room->starts[part] : room->starts[part] + all - length * part_widths[part];
+/* Lends a leaf's parts, whose numbers are so wide: those that are only read as they are, the others painted. */
+static inline void lend_parts(const struct leaf_room *room, const struct leaf *leaf, size_t parts, const size_t *widths,
+                              void **lent) {
+    const void *read[READ_PARTS] = {leaf->q, leaf->s, leaf->fixed};
+    for (size_t part = 0; part < parts; part++) {
+        size_t bytes = leaf->lengths[part] * widths[part];
+        lent[part] = room->from ? room->starts[part] : room->starts[part] + PART_BYTES - bytes;
+        if (part < READ_PARTS) {
+            memcpy(lent[part], read[part], bytes);
+        } else {
+            memset(lent[part], PAINT, bytes);
+        }
+    }
+}
+
+/* Whether what is only read of the lent parts is as it was, and the others have what is written; where that is none, nothing is. */
+static inline int are_written(const struct leaf *leaf, size_t parts, const size_t *widths, void *const *lent,
+                              const void *const *written) {
+    const void *read[READ_PARTS] = {leaf->q, leaf->s, leaf->fixed};
+    int good = 1;
+    for (size_t part = 0; part < parts; part++) {
+        size_t bytes = leaf->lengths[part] * widths[part];
+        const void *due = part < READ_PARTS ? read[part] : written[part];
+        good = good && (due == NULL ? painted(lent[part], bytes) : memcmp(lent[part], due, bytes) == 0);
+    }
+    return good;
 }
 
 /* Whether the docket answers the leaf as is due, writes the draft where there is one and nothing else, and leaves what it reads
  * of the leaf. */
 static inline int answers_leaf(const struct docket *d, const struct leaf *leaf, const struct leaf_room *room,
                                const struct draft *due) {
-    const void *read[LEAF_PARTS] = {leaf->q, leaf->s, leaf->fixed};
-    const void *written[LEAF_PARTS] = {[RUNS] = due->runs, [SHORTFALLS] = due->shortfalls, [VALUE] = &due->value};
+    const void *found[LEAF_PARTS] = {[RUNS] = due->runs, [SHORTFALLS] = due->shortfalls, [VALUE] = &due->value};
+    const void *nothing[LEAF_PARTS] = {0};
     const size_t *lengths = leaf->lengths;
     void *lent[LEAF_PARTS];
-    for (int part = 0; part < LEAF_PARTS; part++) {
-        lent[part] = lend_part(room, part, lengths[part]);
-        memset(lent[part], PAINT, lengths[part] * part_widths[part]);
-        if (read[part] != NULL) {
-            memcpy(lent[part], read[part], lengths[part] * part_widths[part]);
-        }
-    }
+    lend_parts(room, leaf, LEAF_PARTS, part_widths, lent);
     size_t answer = docket_cheapest_runs(d->numbers, d->numbers_length, d->rows, d->rows_length, lent[PRICES], lengths[PRICES],
                                          lent[RESERVES], lengths[RESERVES], lent[STATUSES], lengths[STATUSES], lent[RUNS],
                                          lengths[RUNS], lent[SHORTFALLS], lengths[SHORTFALLS], lent[VALUE], lengths[VALUE]);
-    int good = answer == due->answer;
-    for (int part = 0; part < LEAF_PARTS; part++) {
-        size_t bytes = lengths[part] * part_widths[part];
-        if (read[part] != NULL) {
-            good = good && memcmp(lent[part], read[part], bytes) == 0;
-        } else if (due->answer == DOCKET_RUNS_FOUND) {
-            good = good && memcmp(lent[part], written[part], bytes) == 0;
-        } else {
-            good = good && painted(lent[part], bytes);
-        }
-    }
-    return good;
+    const void *const *written = due->answer == DOCKET_RUNS_FOUND ? found : nothing;
+    return answer == due->answer && are_written(leaf, LEAF_PARTS, part_widths, lent, written);
 }
 
 /* how often an answer came, as tests count them: runs, a stuck unit, no problem, unfit */
@@ -261,11 +274,15 @@ static inline uint64_t make_price(const struct unit *unit) {
     return price < (int64_t)MOST_MULTIPLIER ? (uint64_t)price : MOST_MULTIPLIER;
 }
 
-/* Makes a leaf, one in four of them unfit for the problem in one way or two. */
-static inline void make_leaf(const struct plant *of, struct leaf *leaf) {
+/* A problem to make leaves for, where none is known. */
+static inline const struct plant *plant_or_other(const struct plant *of) {
     static const struct plant other = {.periods = 3, .units = 2, .all = {{.pl = 1, .pu = 9}, {.pl = 2, .pu = 2}}};
-    const struct plant *plant = of->periods > 0 ? of : &other;
-    uint64_t reserves = between(0, 3), often = between(0, 2), chance = between(0, 8);
+    return of->periods > 0 ? of : &other;
+}
+
+/* Makes the multipliers and statuses of a leaf. */
+static inline void make_prices(const struct plant *plant, struct leaf *leaf) {
+    uint64_t reserves = between(0, 3), often = between(0, 2);
     size_t all = plant->units * plant->periods;
     memset(leaf, 0, sizeof *leaf);
     for (size_t t = 0; t < plant->periods; t++) {
@@ -275,9 +292,14 @@ static inline void make_leaf(const struct plant *of, struct leaf *leaf) {
     for (uint64_t times = often == 0 ? 0 : between(1, often == 1 ? 4 : 4 + all / 8); times > 0; times--) {
         leaf->fixed[between(0, all - 1)] = (uint8_t)between(DOCKET_FIXED_OFF, DOCKET_FIXED_ON);
     }
-    fit_lengths(plant, leaf->lengths);
+}
+
+/* Makes a leaf with so many parts, one in four, unfit for the problem in one way or two. */
+static inline void spoil_some(const struct plant *plant, struct leaf *leaf, size_t parts) {
+    uint64_t chance = between(0, 8);
+    size_t all = plant->units * plant->periods;
     for (uint64_t ways = chance / 7 + chance / 8; ways > 0; ways--) {
-        size_t part = between(0, LEAF_PARTS - 1), length = leaf->lengths[part], t = between(0, plant->periods - 1);
+        size_t part = between(0, parts - 1), length = leaf->lengths[part], t = between(0, plant->periods - 1);
         switch (between(0, 5)) {
         case 0: leaf->q[t] = above(MOST_MULTIPLIER); break;
         case 1: leaf->s[t] = above(MOST_MULTIPLIER); break;
@@ -286,6 +308,14 @@ static inline void make_leaf(const struct plant *of, struct leaf *leaf) {
         default: leaf->lengths[part] = length == 0 || between(0, 1) == 0 ? length + 1 : length - 1;
         }
     }
+}
+
+/* Makes a leaf for docket_cheapest_runs, one in four of them unfit for the problem. */
+static inline void make_leaf(const struct plant *of, struct leaf *leaf) {
+    const struct plant *plant = plant_or_other(of);
+    make_prices(plant, leaf);
+    fit_lengths(plant, leaf->lengths);
+    spoil_some(plant, leaf, LEAF_PARTS);
 }
 
 /* A number, which may have a minus. */

@@ -26,8 +26,8 @@ static int is_no_docket(struct docket d) {
     paint(&w);
     return lodge(&d, (const uint8_t *)SCHEDULE, strlen(SCHEDULE), w.line, w.values) == DOCKET_NO_DOCKET &&
            report(&d, w.buffer) == DOCKET_NO_DOCKET && copy_outputs(&d, w.outputs) == DOCKET_NO_DOCKET &&
-           answers_example(&d, DOCKET_NO_DOCKET) && prices_example(&d, DOCKET_NO_DOCKET) && same_docket(&d, &kept) &&
-           is_unwritten(&w);
+           answers_example(&d, DOCKET_NO_DOCKET) && prices_example(&d, DOCKET_NO_DOCKET) &&
+           forces_example(&d, DOCKET_NO_DOCKET) && same_docket(&d, &kept) && is_unwritten(&w);
 }
 
 /* Whether a state of fewer numbers, lent as it was kept, is told to be too small, and all is left as it was. */
@@ -41,6 +41,7 @@ static int is_too_small(const struct bytes *state, const struct docket *present)
     return kept < present->numbers_length && lodge(&d, (const uint8_t *)SCHEDULE, strlen(SCHEDULE), w.line, w.values) == DOCKET_TOO_SMALL &&
            report(&d, w.buffer) == DOCKET_TOO_SMALL && copy_outputs(&d, w.outputs) == DOCKET_TOO_SMALL &&
            answers_example(&d, DOCKET_TOO_SMALL) && prices_example(&d, DOCKET_TOO_SMALL) &&
+           forces_example(&d, DOCKET_TOO_SMALL) &&
            memcmp(d.numbers, state->start, kept * sizeof *d.numbers) == 0 && is_unwritten(&w);
 }
 

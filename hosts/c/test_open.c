@@ -1,13 +1,14 @@
 /* Tests of the open docket: ./test_open FILE.. lodges the texts of each FILE.txt in turn, the memory lent between pages that may
  * not be touched, on a stack that shows how far it was used, and compares with FILE.out; after each text it asks how many units
- * are taken, and for the runs of price leaves. An input that is too long for a listing is left out. SEED repeats the questions of
- * a printed seed. The last line is 'N passed, M failed'. */
-#include "test_drafts.h"
+ * are taken, and for the runs of price leaves and the entries with a status forced. An input that is too long for a listing is
+ * left out. SEED repeats the questions of a printed seed. The last line is 'N passed, M failed'. */
+#include "test_forced.h"
 #include "test_questions.h"
 
-/* how many questions about units taken, and about price leaves, are asked after each text */
+/* how many questions about units taken, and about price leaves, their runs and their entries, are asked after each text */
 #define QUESTIONS 4
 #define LEAVES 3
+#define FORCED_LEAVES 2
 
 /* A stretch of memory that is lent: how many bytes the call asks for, how many are lent, and how many there are up to a page that
  * may not be touched. */
@@ -130,6 +131,10 @@ static int answers_leaves(const struct lent *lent, const struct plant *known, co
         make_leaf(known, &leaf);
         good = drafts_rightly(&d, known, &leaf, &lent->leaf) && good;
     }
+    for (int k = 0; k < FORCED_LEAVES; k++) {
+        make_forced(known, &leaf);
+        good = forces_rightly(&d, known, &leaf, &lent->leaf) && good;
+    }
     return good && same_docket(&d, before);
 }
 
@@ -235,6 +240,7 @@ int main(int argc, char **argv) {
     }
     count_answers(20);
     count_drafts(5);
+    count_entries(5);
     size_t own = run_painted(nothing, NULL);
     printf("stack used by the calls: at most %zu bytes, %zu of them the thread's own, by %s\n", most, own, deepest);
     count(most > 0 && most <= DOCKET_STACK_BYTES, "the stack named in docket.h");

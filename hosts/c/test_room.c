@@ -54,6 +54,18 @@ static size_t call_cheapest_runs(void) {
                                 shortfalls, 2, value, 1);
 }
 
+/* The same of forced statuses. */
+static size_t call_forced_statuses(void) {
+    static const uint64_t q[2], s[2];
+    static const uint8_t fixed[4];
+    static int64_t values[8];
+    static uint8_t stuck[9];
+    static size_t length;
+    length = length % 3 + 1;
+    return docket_forced_statuses(slice(NUMBERS), lent[NUMBERS], slice(ROWS), lent[ROWS], q, 2, s, 2, fixed, 4, values, 8, stuck,
+                                  length + 6);
+}
+
 /* The calls, and which slices each is lent. */
 static const struct call {
     const char *name;
@@ -64,7 +76,8 @@ static const struct call {
              {"docket_report", call_report, {1, 1, 0, 0, 1, 0, 0}},
              {"docket_outputs", call_outputs, {1, 1, 0, 0, 0, 1, 0}},
              {"docket_units_taken", call_units_taken, {1, 1, 0, 0, 0, 0, 1}},
-             {"docket_cheapest_runs", call_cheapest_runs, {1, 1, 0, 0, 0, 0, 0}}};
+             {"docket_cheapest_runs", call_cheapest_runs, {1, 1, 0, 0, 0, 0, 0}},
+             {"docket_forced_statuses", call_forced_statuses, {1, 1, 0, 0, 0, 0, 0}}};
 
 /* What a slice holds before each call: as much of the state as is lent of it; paint in the others. */
 static const void *content(enum slice s) {

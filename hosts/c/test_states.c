@@ -2,12 +2,12 @@
  * call. SEED repeats the changes of a printed seed. The last line is 'N passed, M failed'. */
 #include "test_calls.h"
 #include "test_changes.h"
-#include "test_drafts.h"
+#include "test_forced.h"
 #include "test_questions.h"
 
 #define STATES 100000
 
-/* of how many states that are sound one is asked for runs, which take longer */
+/* of how many states that are sound one is asked for runs, and one for entries with a status forced, which take longer */
 #define UNTIL_RUNS 4
 
 enum kind { MARK_CHANGED, PROBLEM_OUT_OF_RANGE, FIGURE_TOO_LARGE, HELD_WITHOUT_PROBLEM, STILL_SOUND, KINDS };
@@ -175,6 +175,21 @@ static int answers_price_leaf(int sound) {
     return good && same_docket(&changed, &before);
 }
 
+/* The same of the entries of a price leaf with a status forced. */
+static int answers_forced_leaf(int sound) {
+    static struct leaf leaf;
+    static struct leaf_room room;
+    static const struct entries none = {.answer = DOCKET_NO_DOCKET};
+    if (sound && between(1, UNTIL_RUNS) > 1) {
+        return 1;
+    }
+    room = room.starts[0] == NULL ? room_for_leaf(0) : room;
+    struct plant known = sound ? known_plant(before.numbers) : (struct plant){0};
+    make_forced(&known, &leaf);
+    int good = sound ? forces_rightly(&changed, &known, &leaf, &room) : answers_entries(&changed, &leaf, &room, &none);
+    return good && same_docket(&changed, &before);
+}
+
 /* Lodges a text in the changed state, which is then laid out again; whether that is answered as it must be. */
 static int lodges_rightly(const uint8_t *text, size_t length, int sound) {
     size_t answer = lodge(&changed, text, length, w.line, w.values);
@@ -199,7 +214,7 @@ static int ask_all(const struct input *input, int sound) {
     good = good && (sound || did_nothing(bytes));
     size_t held = copy_outputs(&changed, w.outputs);
     good = good && (sound ? tells(bytes, held) : did_nothing(held));
-    return answers_question(sound) && answers_question(sound) && answers_price_leaf(sound) && good;
+    return answers_question(sound) && answers_question(sound) && answers_price_leaf(sound) && answers_forced_leaf(sound) && good;
 }
 
 int main(int argc, char **argv) {
@@ -228,6 +243,7 @@ int main(int argc, char **argv) {
     }
     count_answers(STATES / 200);
     count_drafts(STATES / 2000);
+    count_entries(STATES / 2000);
     for (size_t k = 0; k < inputs_count; k++) {
         free_input(&inputs[k]);
     }

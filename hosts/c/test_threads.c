@@ -6,7 +6,7 @@
 #define THREADS 8
 #define TIMES 50000
 
-/* how often a thread asks until it asks for runs, which take longer */
+/* how often a thread asks until it asks for runs and for forced statuses, which take longer */
 #define UNTIL_RUNS 20
 
 /* where the threads wait for one another before they begin */
@@ -40,7 +40,8 @@ static void *ask(void *given) {
         int good = reports(&w->d, w->report) && gives(&w->d, w->outputs, 4) && answers_told(&w->d, told, DOCKET_TAKEN_TOLD);
         if (k % UNTIL_RUNS == 0) {
             const struct priced *priced = &example_priced[(w->first + k / UNTIL_RUNS) % EXAMPLE_PRICED];
-            good = answers_priced(&w->d, priced, DOCKET_RUNS_FOUND) && good;
+            const struct forced *forced = &example_forced[(w->first + k / UNTIL_RUNS) % EXAMPLE_FORCED];
+            good = answers_priced(&w->d, priced, DOCKET_RUNS_FOUND) && answers_forced(&w->d, forced, DOCKET_FORCED_FOUND) && good;
         }
         w->wrong += !good;
     }

@@ -28,6 +28,7 @@ from ._docket import Docket
 from ._library import MOST_INPUT, MOST_TEXT, STACK_BYTES
 from ._listing import listing, rules
 from .answer import NEVER, Answer, Figures, Held, Never, Passed, Problem, Refused, Schedule, Tree, Verdict
+from .forced import Forced, ForcedStatuses
 from .report import Report
 from .runs import CheapestRuns, Draft, Stuck
 from .taken import Fixed, UnitsTaken
@@ -43,6 +44,8 @@ __all__ = [
     "Draft",
     "Figures",
     "Fixed",
+    "Forced",
+    "ForcedStatuses",
     "Held",
     "Never",
     "Passed",

@@ -7,6 +7,7 @@ from typing import Any, NoReturn, final
 from ._lent import Bytes, lent
 from ._library import LINE_BYTES, MOST_TEXT, OUTPUTS, REPORT_BYTES, TAKEN, VALUES, checked, library
 from .answer import Answer, answer_of
+from .forced import ForcedStatuses, forced_of
 from .report import Report, report_of
 from .runs import CheapestRuns, multipliers_of, runs_of
 from .taken import UnitsTaken, most_of, period_of, taken_of
@@ -21,6 +22,17 @@ _Report = ctypes.c_char * REPORT_BYTES
 _Outputs = ctypes.c_uint16 * OUTPUTS
 _Taken = ctypes.c_uint64 * TAKEN
 _Value = ctypes.c_int64 * 1
+_Multipliers = ctypes.Array[ctypes.c_uint64]
+
+
+def _leaf_of(
+    call: str, prices: Iterable[int], reserves: Iterable[int], fixed: Bytes
+) -> tuple[_Multipliers, _Multipliers, bytes]:
+    """A price leaf given to a call, as the library is lent it."""
+    q, s = multipliers_of(call, "prices", prices), multipliers_of(call, "reserves", reserves)
+    # a problem has as many statuses as outputs, and more do not fit, however many there are
+    given = lent(call, fixed, OUTPUTS, is_text=False, called="fixed")[: OUTPUTS + 1]
+    return (ctypes.c_uint64 * len(q))(*q), (ctypes.c_uint64 * len(s))(*s), given
 
 
 @final
@@ -111,10 +123,7 @@ class Docket:
         and T reserves, a multiplier is not 0 to 1,000,000,000, there are not as many bytes as units times periods, or
         one is above 2. For what is no whole number or no bytes there is a TypeError.
         """
-        q, s = multipliers_of("prices", prices), multipliers_of("reserves", reserves)
-        # a problem has as many statuses as outputs, and more do not fit, however many there are
-        given = lent("cheapest_runs", fixed, OUTPUTS, is_text=False, called="fixed")[: OUTPUTS + 1]
-        lent_prices, lent_reserves = (ctypes.c_uint64 * len(q))(*q), (ctypes.c_uint64 * len(s))(*s)
+        q, s, given = _leaf_of("cheapest_runs", prices, reserves, fixed)
         runs, shortfalls = (ctypes.c_uint64 * len(given))(), (ctypes.c_uint64 * len(q))()
         value = _Value()
         with self._lock:
@@ -123,9 +132,9 @@ class Docket:
                 _NUMBERS,
                 self._rows,
                 _ROWS,
-                lent_prices,
+                q,
                 len(q),
-                lent_reserves,
+                s,
                 len(s),
                 given,
                 len(given),
@@ -137,6 +146,44 @@ class Docket:
                 1,
             )
         return runs_of(checked(answer), value[0], runs[:], shortfalls[:])
+
+    def forced_statuses(self, prices: Iterable[int], reserves: Iterable[int], fixed: Bytes) -> ForcedStatuses:
+        """What each unit is worth at a price leaf with a status forced, for every period and either status.
+
+        The leaf is `prices`, `reserves` and `fixed`, as `cheapest_runs` has them. A value is the least that a run of
+        the unit is worth, of those that agree with what is fixed and have the forced status in the period. It is the
+        unit's own: the leaf's part for D and R is not in it. The lesser of a period's two values is what the unit's
+        cheapest run is worth, and how far the other is above it is what it costs to force that status.
+
+        A value is None where the unit is stuck: no such run is left, as where the period is fixed the other way, for
+        forcing does not undo what is fixed. Of a unit to which what is fixed leaves no run at all every value is None;
+        the other units' values are given.
+
+        A ValueError says that the docket knows no problem, or that the question does not fit it: there are not T prices
+        and T reserves, a multiplier is not 0 to 1,000,000,000, there are not as many bytes as units times periods, or
+        one is above 2. For what is no whole number or no bytes there is a TypeError.
+        """
+        q, s, given = _leaf_of("forced_statuses", prices, reserves, fixed)
+        entries = 2 * len(given)
+        values, stuck = (ctypes.c_int64 * entries)(), (ctypes.c_uint8 * entries)()
+        with self._lock:
+            answer = library.docket_forced_statuses(
+                self._numbers,
+                _NUMBERS,
+                self._rows,
+                _ROWS,
+                q,
+                len(q),
+                s,
+                len(s),
+                given,
+                len(given),
+                values,
+                entries,
+                stuck,
+                entries,
+            )
+        return forced_of(checked(answer), values[:], stuck[:], len(q))
 
     def copy(self) -> "Docket":
         """A docket of its own that holds the same."""

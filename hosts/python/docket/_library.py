@@ -41,6 +41,7 @@ CALLS = {
     "docket_outputs": _STATE + _STRETCH,
     "docket_units_taken": _STATE + 2 * [_LENGTH] + 2 * _STRETCH,
     "docket_cheapest_runs": _STATE + 6 * _STRETCH,
+    "docket_forced_statuses": _STATE + 5 * _STRETCH,
     "docket_listing": 2 * _STRETCH,
 }
 

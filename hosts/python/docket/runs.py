@@ -41,22 +41,22 @@ _LARGEST = 2**64 - 1
 _STUCK = range(101, 133)
 
 
-def multipliers_of(name: str, given: Iterable[int]) -> list[int]:
-    """The multipliers as the library takes them: of more than a problem has periods, one more; for a number that the
-    library cannot be given the largest, which is too large a multiplier."""
+def multipliers_of(call: str, name: str, given: Iterable[int]) -> list[int]:
+    """The multipliers given to a call, as the library takes them: of more than a problem has periods, one more; for a
+    number that the library cannot be given the largest, which is too large a multiplier."""
     try:
         row = iter(given)
     except TypeError:
-        raise TypeError(f"cheapest_runs takes a row of whole numbers for {name}, not {type(given).__name__}") from None
-    return [_whole(name, number) for number in itertools.islice(row, _MOST_PERIODS + 1)]
+        raise TypeError(f"{call} takes a row of whole numbers for {name}, not {type(given).__name__}") from None
+    return [_whole(call, name, number) for number in itertools.islice(row, _MOST_PERIODS + 1)]
 
 
-def _whole(name: str, given: int) -> int:
+def _whole(call: str, name: str, given: int) -> int:
     """The whole number that is given, if the library can be given it."""
     try:
         number = operator.index(given)
     except TypeError:
-        raise TypeError(f"cheapest_runs takes whole numbers for {name}, not {type(given).__name__}") from None
+        raise TypeError(f"{call} takes whole numbers for {name}, not {type(given).__name__}") from None
     return number if 0 <= number <= _LARGEST else _LARGEST
 
 

@@ -1,6 +1,6 @@
 /* A library with the calls of docket.h that answers as ODD says: 1 too little room, 2 no docket, 3 an answer, 4 figures
- * and 5 a report that nobody knows, 6 answers about units taken and about runs that nobody knows, 7 and 8 others about
- * runs. With 0 it lacks a call. */
+ * and 5 a report that nobody knows, 6 answers about units taken, runs and forced statuses that nobody knows, 7 and 8
+ * others about the latter two. With 0 it lacks a call. */
 #include <stdint.h>
 #include <string.h>
 
@@ -42,6 +42,13 @@ size_t docket_cheapest_runs(const uint64_t *numbers, size_t n, const uint16_t *r
     (void)numbers, (void)n, (void)rows, (void)r, (void)q, (void)a, (void)s, (void)b, (void)fixed, (void)c, (void)runs;
     (void)d, (void)shortfalls, (void)e, (void)value, (void)v;
     return ODD == 1 ? SIZE_MAX : ODD == 2 ? SIZE_MAX - 1 : ODD == 6 ? 9 : ODD == 7 ? 100 : ODD == 8 ? 133 : 1;
+}
+size_t docket_forced_statuses(const uint64_t *numbers, size_t n, const uint16_t *rows, size_t r, const uint64_t *q,
+                              size_t a, const uint64_t *s, size_t b, const uint8_t *fixed, size_t c, int64_t *values,
+                              size_t d, uint8_t *stuck, size_t e) {
+    (void)numbers, (void)n, (void)rows, (void)r, (void)q, (void)a, (void)s, (void)b, (void)fixed, (void)c, (void)values;
+    (void)d, (void)stuck, (void)e;
+    return ODD == 1 ? SIZE_MAX : ODD == 2 ? SIZE_MAX - 1 : ODD == 6 ? 9 : ODD == 7 ? 3 : ODD == 8 ? 101 : 1;
 }
 size_t docket_listing(const uint8_t *input, size_t i, uint8_t *output, size_t o) {
     (void)input, (void)i, (void)output, (void)o;

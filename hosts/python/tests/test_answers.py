@@ -11,6 +11,8 @@ from docket import (
     Answer,
     Docket,
     Draft,
+    Forced,
+    ForcedStatuses,
     Held,
     Never,
     Passed,
@@ -110,8 +112,11 @@ class Answers(unittest.TestCase):
         self.assertEqual(taken, UnitsTaken(False, 1))
         draft = desk.cheapest_runs([12, 18], [0, 0], bytes(4))
         self.assertEqual(draft, Draft(1820, ((80, 80), (0, 50)), (0, 0)))
+        forced = desk.forced_statuses([10, 14], [0, 0], bytes([2, 2, 1, 1]))
+        first, second = (Forced(None, -120),) * 2, (Forced(0, None),) * 2
+        self.assertEqual(forced, ForcedStatuses((first, second)))
         values = (answer, answer.verdict, answer.verdict.figures, refused, desk.report(), Schedule(1), taken)
-        for value in (*values, draft, Stuck(1)):
+        for value in (*values, draft, Stuck(1), forced, forced.units[0][0]):
             for field in dataclasses.fields(value):
                 with self.assertRaises(dataclasses.FrozenInstanceError):
                     setattr(value, field.name, 1)

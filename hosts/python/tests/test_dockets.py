@@ -6,7 +6,7 @@ import weakref
 
 import docket
 from common import NOTHING, PROBLEM, ROOT, SCHEDULE, TREE, schedule
-from docket import Docket, Draft, Held, Passed, Problem, Refused, Schedule, Tree, UnitsTaken
+from docket import Docket, Draft, Forced, Held, Passed, Problem, Refused, Schedule, Tree, UnitsTaken
 
 COPIES = {"copy": Docket.copy, "copy.copy": copy.copy, "copy.deepcopy": copy.deepcopy}
 
@@ -94,7 +94,9 @@ class Dockets(unittest.TestCase):
         desk._numbers[0] += 1
         taken = [lambda fixed=fixed: desk.units_taken(1, fixed=fixed) for fixed in (bytes(4), b"", bytes([9]))]
         runs = [lambda fixed=fixed: desk.cheapest_runs([1, 2], [0], fixed) for fixed in (bytes(4), b"", bytes([9]))]
-        for call in (desk.report, desk.outputs, lambda: desk.lodge(SCHEDULE), desk.copy().report, *taken, *runs):
+        forced = [lambda fixed=fixed: desk.forced_statuses([1, 2], [0], fixed) for fixed in (bytes(4), b"", bytes([9]))]
+        other = (desk.report, desk.outputs, lambda: desk.lodge(SCHEDULE), desk.copy().report)
+        for call in (*other, *taken, *runs, *forced):
             with self.assertRaises(RuntimeError) as caught:
                 call()
             self.assertEqual(str(caught.exception), "this is no docket: its state was changed from outside")
@@ -108,13 +110,17 @@ class Dockets(unittest.TestCase):
         self.assertEqual(desk.outputs(), [60, 80, 0, 20])
         self.assertEqual(desk.units_taken(2, fixed=bytes(4)), UnitsTaken(False, 2))
         self.assertEqual(desk.cheapest_runs([10, 14], [0, 0], bytes(4)), Draft(1880, ((20, 80), (0, 0)), (40, 20)))
+        forced = desk.forced_statuses([10, 14], [0, 0], bytes(4))
+        self.assertEqual(forced.units, ((Forced(5, -120),) * 2, (Forced(0, 140), Forced(0, 100))))
         self.assertEqual(desk.lodge(SCHEDULE).verdict, Passed(Schedule(1980)))
         self.assertIn("layout-1.state", kept)
         for name, state in kept.items():
             with self.subTest(name):
                 desk = opened(state)
                 asked = (lambda: desk.lodge(SCHEDULE), lambda: desk.units_taken(2, fixed=bytes(4)))
-                for call in (desk.report, desk.outputs, *asked, lambda: desk.cheapest_runs([1, 2], [0, 0], bytes(4))):
+                leaves = (desk.cheapest_runs, desk.forced_statuses)
+                priced = (lambda ask=ask: ask([1, 2], [0, 0], bytes(4)) for ask in leaves)
+                for call in (desk.report, desk.outputs, *asked, *priced):
                     with self.assertRaisesRegex(RuntimeError, "this is no docket"):
                         call()
 

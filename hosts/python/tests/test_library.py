@@ -140,14 +140,17 @@ class Search(unittest.TestCase):
         self.assertEqual(line, f"RuntimeError: {words[1]}")
         ask = "import docket; docket.Docket().units_taken(1, fixed=b'')"
         runs = "import docket; docket.Docket().cheapest_runs([], [], b'')"
+        forced = "import docket; docket.Docket().forced_statuses([], [], b'')"
         for odd, said in {1: words[1], 2: words[2], 6: words[3]}.items():
             library = compiled(PYTHON / "tests" / "odd_library.c", self.folder / f"{odd}.so", f"-DODD={odd}")
             self.assertEqual(self.last_line(library, ask), f"RuntimeError: {said}")
             self.assertEqual(self.last_line(library, runs), f"RuntimeError: {said}")
-        for odd, number in {7: 100, 8: 133}.items():
+            self.assertEqual(self.last_line(library, forced), f"RuntimeError: {said}")
+        for odd, numbers in {7: {runs: 100, forced: 3}, 8: {runs: 133, forced: 101}}.items():
             library = compiled(PYTHON / "tests" / "odd_library.c", self.folder / f"{odd}.so", f"-DODD={odd}")
-            said = f"the library gives an answer that this module does not know: {number}"
-            self.assertEqual(self.last_line(library, runs), f"RuntimeError: {said}")
+            for call, number in numbers.items():
+                said = f"the library gives an answer that this module does not know: {number}"
+                self.assertEqual(self.last_line(library, call), f"RuntimeError: {said}")
 
     def test_the_error_names_the_file(self) -> None:
         program = "try:\n import docket\nexcept ImportError as error:\n print(error.name, error.path)"

@@ -59,7 +59,7 @@ class LodgeFiles(unittest.TestCase):
 class Example(unittest.TestCase):
     def test_they_stand_in_readme(self) -> None:
         readme = (ROOT / "README.md").read_text()
-        for name in ("example.py", "units_taken.py", "cheapest_runs.py"):
+        for name in ("example.py", "units_taken.py", "cheapest_runs.py", "forced_statuses.py"):
             lines = (PYTHON / name).read_text().splitlines()
             shown = "".join(f"    {line}\n" if line else "\n" for line in lines)
             self.assertTrue(f"\n\n{shown}\n" in readme, f"README.md does not show {name} as it is")
@@ -77,6 +77,13 @@ class Example(unittest.TestCase):
         ]
         ran = run_python(str(PYTHON / "cheapest_runs.py"))
         self.assertEqual((ran.returncode, ran.stdout.splitlines(), ran.stderr), (0, said, ""))
+
+    def test_the_forced_statuses(self) -> None:
+        first = ["unit 1 in period 1 off 5 on -120", "unit 1 in period 2 off 5 on -120"]
+        free = ["unit 2 in period 1 off 0 on 140", "unit 2 in period 2 off 0 on 100"]
+        fixed = ["unit 2 in period 1 off 100 on 180", "unit 2 in period 2 off stuck on 100"]
+        ran = run_python(str(PYTHON / "forced_statuses.py"))
+        self.assertEqual((ran.returncode, ran.stdout.splitlines(), ran.stderr), (0, first + free + first + fixed, ""))
 
     def test_what_it_prints(self) -> None:
         said = [

@@ -11,9 +11,8 @@ import unittest
 from collections.abc import Iterator, Sequence
 
 from common import PROBLEM, SCHEDULE, TREE
-from docket import Docket, Draft, Fixed, Stuck
-
-FREE, OFF, ON = Fixed.FREE, Fixed.OFF, Fixed.ON
+from docket import Docket, Draft, Stuck
+from leaves import FAR, FREE, OFF, ON, Unit, knowing
 
 NO_PROBLEM = "the docket knows no problem yet: cheapest_runs asks about the problem that was lodged"
 UNFIT = (
@@ -21,73 +20,9 @@ UNFIT = (
     "each, 0 to 1,000,000,000, and fixed has I * T bytes, each 0, 1 or 2"
 )
 
-#: Whole numbers that are no multipliers, some equal to one in their last bits.
-POWERS = [2**power for power in (30, 32, 33, 63, 64, 65, 128, 20_000)]
-FAR = [1_000_000_001, -1, -1_000_000_000, *POWERS, *(power + 10 for power in POWERS), *(-power for power in POWERS)]
-
 #: The first question of document 01's problem: its prices, its reserves, its statuses, and its draft.
 ASKED = ([10, 14], [0, 0], bytes(4))
 FOUND = Draft(1880, ((20, 80), (0, 0)), (40, 20))
-
-
-def knowing(units: Sequence[str], demand: Sequence[int], spare: Sequence[int]) -> Docket:
-    """A docket that knows a problem of these units' numbers, demand and spare."""
-    loads = "".join(f"{key}={','.join(map(str, row))}\n" for key, row in (("demand", demand), ("spare", spare)))
-    lines = "".join(f"unit={unit}\n" for unit in units)
-    desk = Docket()
-    head = f"kind=problem\nperiods={len(demand)}\nunits={len(units)}\n"
-    answer = desk.lodge(f"{head}{loads}{lines}end=problem\n".encode("ascii"))
-    if answer.line != "answer=held":
-        raise ValueError(answer)
-    return desk
-
-
-#: What a row is worth, and the row.
-Run = tuple[int, tuple[int, ...]]
-
-
-class Unit:
-    """The numbers of a unit line, chosen so small that rows are often worth the same."""
-
-    def __init__(self, chosen: random.Random) -> None:
-        self.a, self.b, self.c = chosen.choice([0, 0, 1, 3]), chosen.randint(0, 5), chosen.choice([0, 0, 1])
-        self.least = chosen.randint(1, 3)
-        self.most = self.least + chosen.randint(0, 3)
-        self.up, self.down, self.cold = chosen.randint(1, 3), chosen.randint(1, 3), chosen.randint(0, 2)
-        self.before = chosen.choice([-4, -3, -2, -1, 1, 2, 3])
-        self.hot_start = chosen.choice([0, 0, 1, 3])
-        self.cold_start = self.hot_start + chosen.choice([0, 0, 2])
-        self.stop = chosen.choice([0, 0, 1, 4])
-
-    def __str__(self) -> str:
-        head = (self.a, self.b, self.c, self.least, self.most, self.up, self.down, self.before, 1, 1)
-        tail = (self.hot_start, self.cold_start, self.cold, self.stop, self.least if self.before > 0 else 0)
-        return ",".join(map(str, head + tail))
-
-    def worth(self, row: Sequence[int], prices: Sequence[int], reserves: Sequence[int]) -> int | None:
-        """What a row is worth; None where it breaks the up and down times."""
-        on, spent, worth = self.before > 0, abs(self.before), 0
-        for output, price, reserve in zip(row, prices, reserves):
-            if (output > 0) == on:
-                spent += 1
-            else:
-                if spent < (self.up if on else self.down):
-                    return None
-                start = self.hot_start if spent <= self.down + self.cold else self.cold_start
-                worth += self.stop if on else start
-                on, spent = not on, 1
-            if on:
-                worth += self.a + self.b * output + self.c * output * output - price * output - reserve * self.most
-        return worth
-
-    def cheapest(self, prices: Sequence[int], reserves: Sequence[int], fixed: bytes) -> Run | None:
-        """The cheapest row that agrees with what is fixed, and what it is worth: of equal ones the first by its
-        outputs, period by period."""
-        every = [0, *range(self.least, self.most + 1)]
-        allowed = {FREE: every, OFF: every[:1], ON: every[1:]}
-        rows = itertools.product(*(allowed[status] for status in fixed))
-        worths = [(worth, row) for row in rows if (worth := self.worth(row, prices, reserves)) is not None]
-        return min(worths, default=None)
 
 
 def wanted(
@@ -100,13 +35,15 @@ def wanted(
 ) -> Draft | Stuck:
     """What is told of a price leaf, found by trying every row of each unit."""
     periods = len(demand)
-    found = [unit.cheapest(prices, reserves, fixed[at * periods :][:periods]) for at, unit in enumerate(units)]
+    runs = [unit.runs(prices, reserves, fixed[at * periods :][:periods]) for at, unit in enumerate(units)]
+    # of equal ones the first by its outputs, period by period
+    found = [min(rows, default=None) for rows in runs]
     if None in found:
         return Stuck(found.index(None) + 1)
     needed = sum(q * d + s * (d + r) for q, s, d, r in zip(prices, reserves, demand, spare))
-    runs = tuple(row for _, row in found)
-    shortfalls = tuple(max(0, d - sum(column)) for d, column in zip(demand, zip(*runs)))
-    return Draft(needed + sum(worth for worth, _ in found), runs, shortfalls)
+    cheapest = tuple(row for _, row in found)
+    shortfalls = tuple(max(0, d - sum(column)) for d, column in zip(demand, zip(*cheapest)))
+    return Draft(needed + sum(worth for worth, _ in found), cheapest, shortfalls)
 
 
 class Runs(unittest.TestCase):

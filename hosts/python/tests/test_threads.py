@@ -5,7 +5,7 @@ from collections.abc import Callable
 
 import docket
 from common import PROBLEM, SCHEDULE, cut, inputs, run_python, schedule
-from docket import Docket, Draft, Held, Schedule, Stuck, UnitsTaken
+from docket import Docket, Draft, Forced, Held, Schedule, Stuck, UnitsTaken
 
 MANY = 8
 
@@ -21,7 +21,9 @@ told = []
 def tell(number, frame):
     taken = desk.units_taken(2, fixed=bytes(4)).units
     value = desk.cheapest_runs([10, 14], [0, 0], bytes(4)).value
-    told.append((desk.lodge(SCHEDULE).line, desk.report().cost, desk.outputs(), desk.copy().outputs(), taken, value))
+    on = desk.forced_statuses([10, 14], [0, 0], bytes(4)).units[1][1].on
+    held = desk.lodge(SCHEDULE).line, desk.report().cost, desk.outputs(), desk.copy().outputs()
+    told.append((*held, taken, value, on))
 
 signal.signal(signal.SIGALRM, tell)
 signal.setitimer(signal.ITIMER_REAL, 0.0005, 0.0005)
@@ -31,6 +33,7 @@ while time.monotonic() < end:
     desk.report()
     desk.units_taken(1, fixed=bytes(4))
     desk.cheapest_runs([10, 14], [0, 0], bytes(4))
+    desk.forced_statuses([10, 14], [0, 0], bytes(4))
 signal.setitimer(signal.ITIMER_REAL, 0)
 print(len(told) > 10, lines, set(map(str, told[1:])))
 """
@@ -81,6 +84,9 @@ class Threads(unittest.TestCase):
                 runs = desk.cheapest_runs([10, 14], [0, 0], bytes(4))
                 self.assertEqual(runs, Draft(1880, ((20, 80), (0, 0)), (40, 20)))
                 self.assertEqual(desk.cheapest_runs([10, 14], [0, 0], bytearray([1, 2, 0, 0])), Stuck(1))
+                forced = desk.forced_statuses([10, 14], [0, 0], bytearray([1, 2, 0, 0]))
+                stuck = (Forced(None, None),) * 2
+                self.assertEqual(forced.units, (stuck, (Forced(0, 140), Forced(0, 100))))
 
         for turn in range(5):
             order = sorted(written, key=lambda writer: writer * 7919 % 257, reverse=turn % 2 == 1)
@@ -119,6 +125,7 @@ class Threads(unittest.TestCase):
             desk.copy,
             lambda: desk.units_taken(1, fixed=bytes(4)),
             lambda: desk.cheapest_runs([10, 14], [0, 0], bytes(4)),
+            lambda: desk.forced_statuses([10, 14], [0, 0], bytes(4)),
         )
         threads = [threading.Thread(target=call) for call in calls]
         with desk._lock:
@@ -133,6 +140,6 @@ class Threads(unittest.TestCase):
 
     def test_a_signal_may_use_the_docket_that_it_interrupts(self) -> None:
         ran = run_python("-c", f"import sys; sys.path.append('hosts/python/tests')\n{SIGNALS}")
-        told = "('answer=passed,1980', 1980, [60, 80, 0, 20], [60, 80, 0, 20], 2, 1880)"
+        told = "('answer=passed,1980', 1980, [60, 80, 0, 20], [60, 80, 0, 20], 2, 1880, 100)"
         self.assertEqual((ran.returncode, ran.stderr), (0, ""))
         self.assertEqual(ran.stdout, f"True {{'answer=refused,12,1,0,0'}} {{{told!r}}}\n")

@@ -1,6 +1,7 @@
 //! A docket that stays open.
 
 use crate::answer::Answer;
+use crate::forced::ForcedStatuses;
 use crate::report::Report;
 use crate::runs::CheapestRuns;
 use crate::sys;
@@ -20,7 +21,7 @@ pub fn rules() -> u64 {
 ///
 /// It lives in memory: what must be kept for good are the texts that were lodged, for they decide everything. Calls run on their
 /// caller's stack, of which [`STACK_BYTES`](crate::STACK_BYTES) are enough. Threads that lodge in one docket share it in a `Mutex`;
-/// reports, outputs, units taken and runs may be asked for at once.
+/// reports, outputs, units taken, runs and forced statuses may be asked for at once.
 ///
 /// ```
 /// use docket::{Bound, Docket, Figures, Verdict};
@@ -197,6 +198,67 @@ impl Docket {
             },
         );
         CheapestRuns::of(answer, value[0], &runs, shortfalls)
+    }
+
+    /// What each unit is worth at a price leaf with a status forced, for every period and either status.
+    ///
+    /// The leaf is prices, reserves and `fixed`, as [`cheapest_runs`](Docket::cheapest_runs) has them. A value is the least that a
+    /// run of the unit is worth, of those that agree with what is fixed and have the forced status in the period. It is the
+    /// unit's own: the leaf's part for D and R is not in it. The lesser of a period's two values is what the unit's cheapest run
+    /// is worth, and how far the other is above it is what it costs to force that status.
+    ///
+    /// There is no value where the unit is stuck: no such run is left, as where the period is fixed the other way, for forcing does
+    /// not undo what is fixed. Of a unit to which what is fixed leaves no run at all there is none in any period; the other units'
+    /// values are given.
+    ///
+    /// The question is [`Unfit`](ForcedStatuses::Unfit) where there are not T prices and T reserves, a multiplier is above
+    /// 1,000,000,000, or there are not as many statuses as units times periods. The docket stays as it is.
+    ///
+    /// ```
+    /// use docket::{Docket, Fixed, ForcedStatuses};
+    ///
+    /// let mut docket = Docket::new();
+    /// let mut fixed = [Fixed::Free; 4];
+    /// assert_eq!(docket.forced_statuses(&[10, 14], &[0, 0], &fixed), ForcedStatuses::NoProblem);
+    ///
+    /// docket.lodge(b"kind=problem\nperiods=2\nunits=2\ndemand=60,100\nspare=10,10\n\
+    ///                unit=100,10,0,20,80,2,2,3,30,30,50,90,1,5,60\n\
+    ///                unit=40,14,0,10,50,1,1,-2,50,50,20,60,0,0,0\nend=problem\n");
+    /// match docket.forced_statuses(&[10, 14], &[0, 0], &fixed) {
+    ///     ForcedStatuses::Found(table) => {
+    ///         // unit 2 in period 2: off it is worth nothing, on its start costs 60 and it loses 40
+    ///         let forced = table.units[1][1];
+    ///         assert_eq!((forced.off, forced.on), (Some(0), Some(100)));
+    ///     }
+    ///     other => panic!("{other:?}"),
+    /// }
+    ///
+    /// // fixed on there it cannot be off
+    /// fixed[3] = Fixed::On;
+    /// match docket.forced_statuses(&[10, 14], &[0, 0], &fixed) {
+    ///     ForcedStatuses::Found(table) => assert_eq!(table.units[1][1].off, None),
+    ///     other => panic!("{other:?}"),
+    /// }
+    /// ```
+    pub fn forced_statuses(
+        &self,
+        prices: &[u64],
+        reserves: &[u64],
+        fixed: &[Fixed],
+    ) -> ForcedStatuses {
+        // as much as fits; where there are more statuses than a problem has, nothing does
+        let entries = 2 * fixed.len().min(sys::OUTPUTS);
+        let (mut values, mut stuck) = (vec![0; entries], vec![0; entries]);
+        let answer = sys::forced_statuses(
+            &self.numbers,
+            &self.rows,
+            prices,
+            reserves,
+            sys::bytes(fixed),
+            &mut values,
+            &mut stuck,
+        );
+        ForcedStatuses::of(answer, &values, &stuck, prices.len())
     }
 }
 

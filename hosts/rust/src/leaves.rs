@@ -122,7 +122,7 @@ fn compared(what: &str, leaf: &RunsQuestion, small: bool) -> &'static str {
 }
 
 /// Compares so many leaves, as many at once as there are processors; how often each kind of answer came.
-fn compare(
+pub fn compare(
     count: u64,
     kind_of: impl Fn(u64) -> &'static str + Sync,
 ) -> BTreeMap<&'static str, u64> {
@@ -170,14 +170,14 @@ fn large_leaves_get_the_second_implementations_runs() {
 }
 
 /// Document 01's problem, of two units and two periods.
-const PROBLEM: &[u8] = b"kind=problem\nperiods=2\nunits=2\ndemand=60,100\nspare=10,10\n\
+pub const PROBLEM: &[u8] = b"kind=problem\nperiods=2\nunits=2\ndemand=60,100\nspare=10,10\n\
     unit=100,10,0,20,80,2,2,3,30,30,50,90,1,5,60\nunit=40,14,0,10,50,1,1,-2,50,50,20,60,0,0,0\nend=problem\n";
 
 /// The room that fits it.
 const FIT: Room = [4, 2, 1];
 
 /// A leaf of it with these multipliers and statuses.
-fn leaf(q: &[u64], s: &[u64], fixed: &[u8]) -> RunsQuestion {
+pub fn leaf(q: &[u64], s: &[u64], fixed: &[u8]) -> RunsQuestion {
     RunsQuestion {
         problem: PROBLEM.to_vec(),
         q: q.to_vec(),

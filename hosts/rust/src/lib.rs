@@ -25,6 +25,9 @@ mod answer;
 mod bound;
 mod docket;
 #[cfg(test)]
+mod entries;
+mod forced;
+#[cfg(test)]
 mod leaves;
 mod listing;
 #[cfg(test)]
@@ -40,6 +43,7 @@ mod taken;
 pub use answer::{Answer, Figures, Refusal, Verdict};
 pub use bound::Bound;
 pub use docket::{rules, Docket, MOST_TEXT};
+pub use forced::{Forced, ForcedStatuses, ForcedTable};
 pub use listing::{listing, listing_of, Error, MOST_INPUT, OUTPUT_BYTES};
 pub use report::Report;
 pub use runs::{CheapestRuns, Draft};

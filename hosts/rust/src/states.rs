@@ -48,6 +48,21 @@ fn drafted(numbers: &[u64], rows: &[u16]) -> (usize, [u64; 4], [u64; 2], [i64; 1
     (answer, runs, shortfalls, value)
 }
 
+/// What the call answers of forced statuses at the same leaf, and writes over 7.
+fn forced(numbers: &[u64], rows: &[u16]) -> (usize, [i64; 8], [u8; 8]) {
+    let (mut values, mut stuck) = ([7; 8], [7; 8]);
+    let answer = sys::forced_statuses(
+        numbers,
+        rows,
+        &[10, 14],
+        &[0; 2],
+        &[0; 4],
+        &mut values,
+        &mut stuck,
+    );
+    (answer, values, stuck)
+}
+
 /// Every kept state, and whether it is the one of the present layout.
 fn kept() -> Vec<(PathBuf, bool)> {
     let folder = Path::new(env!("CARGO_MANIFEST_DIR")).join("../../tests/states");
@@ -75,6 +90,8 @@ fn the_present_one_is_a_docket() {
     assert_eq!((told, taken), (sys::TOLD, [0, 2]));
     let draft = (sys::TOLD, [20, 80, 0, 0], [40, 20], [1880]);
     assert_eq!(drafted(&numbers, &rows), draft);
+    let entries = (sys::TOLD, [5, -120, 5, -120, 0, 140, 0, 100], [0; 8]);
+    assert_eq!(forced(&numbers, &rows), entries);
     let length = sys::lodge(&mut numbers, &mut rows, SCHEDULE, &mut line, &mut values);
     assert_eq!(line.get(..length), Some(&b"answer=passed,1980\n"[..]));
 }
@@ -104,6 +121,7 @@ fn every_other_one_is_none() {
         assert_eq!(taken, [7; sys::TAKEN]);
         let unwritten = (NO_DOCKET, [7; 4], [7; 2], [7]);
         assert_eq!(drafted(&numbers, &rows), unwritten);
+        assert_eq!(forced(&numbers, &rows), (NO_DOCKET, [7; 8], [7; 8]));
         assert_eq!((after, rows_after), (numbers, rows));
         assert_eq!((line, values), ([7; sys::LINE_BYTES], [7; sys::VALUES]));
         assert!(buffer.iter().all(|&byte| byte == 7) && outputs.iter().all(|&output| output == 7));

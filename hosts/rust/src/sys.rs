@@ -40,13 +40,13 @@ pub const A_BOUND_BELOW_0: u64 = 3;
 /// Second of an answer's numbers: a tree's bound is never.
 pub const NEVER: u64 = 4;
 
-/// The answer of `docket_units_taken` and `docket_cheapest_runs` that have written what they tell.
+/// The answer of `docket_units_taken`, `docket_cheapest_runs` and `docket_forced_statuses` that have written what they tell.
 pub const TOLD: usize = 0;
 
-/// The answer of `docket_units_taken` and `docket_cheapest_runs` of a docket that knows no problem.
+/// The answer of the same calls of a docket that knows no problem.
 pub const NO_PROBLEM: usize = 1;
 
-/// The answer of `docket_units_taken` and `docket_cheapest_runs` to a question that does not fit the problem.
+/// The answer of the same calls to a question that does not fit the problem.
 pub const UNFIT: usize = 2;
 
 /// The answers of `docket_cheapest_runs` where a unit is stuck are this number and the unit's.
@@ -129,6 +129,23 @@ unsafe extern "C" {
         shortfalls_length: usize,
         value: *mut i64,
         value_length: usize,
+    ) -> usize;
+
+    fn docket_forced_statuses(
+        numbers: *const u64,
+        numbers_length: usize,
+        rows: *const u16,
+        rows_length: usize,
+        q: *const u64,
+        q_length: usize,
+        s: *const u64,
+        s_length: usize,
+        fixed: *const u8,
+        fixed_length: usize,
+        values: *mut i64,
+        values_length: usize,
+        stuck: *mut u8,
+        stuck_length: usize,
     ) -> usize;
 
     fn docket_listing(
@@ -277,6 +294,37 @@ pub fn cheapest_runs(
             shortfalls.len(),
             value.as_mut_ptr(),
             value.len(),
+        )
+    }
+}
+
+/// `docket_forced_statuses` on slices.
+pub fn forced_statuses(
+    numbers: &[u64],
+    rows: &[u16],
+    q: &[u64],
+    s: &[u64],
+    fixed: &[u8],
+    values: &mut [i64],
+    stuck: &mut [u8],
+) -> usize {
+    // SAFETY: five slices that are only read and two borrowed apart.
+    unsafe {
+        docket_forced_statuses(
+            numbers.as_ptr(),
+            numbers.len(),
+            rows.as_ptr(),
+            rows.len(),
+            q.as_ptr(),
+            q.len(),
+            s.as_ptr(),
+            s.len(),
+            fixed.as_ptr(),
+            fixed.len(),
+            values.as_mut_ptr(),
+            values.len(),
+            stuck.as_mut_ptr(),
+            stuck.len(),
         )
     }
 }

@@ -3,7 +3,7 @@ mod common;
 
 use common::both::Both;
 use common::{example, texts};
-use docket::{Bound, CheapestRuns, Docket, Fixed, UnitsTaken, Verdict};
+use docket::{Bound, CheapestRuns, Docket, Fixed, ForcedStatuses, UnitsTaken, Verdict};
 use std::thread;
 
 /// Other texts for the problem of the example: a dearer schedule, a tree with a lower bound, a schedule against the rules.
@@ -46,6 +46,8 @@ fn a_docket_begins_with_nothing() {
         assert_eq!(answer, UnitsTaken::NoProblem);
         let answer = docket.cheapest_runs(&[], &[], &[]);
         assert_eq!(answer, CheapestRuns::NoProblem);
+        let answer = docket.forced_statuses(&[], &[], &[]);
+        assert_eq!(answer, ForcedStatuses::NoProblem);
     }
     assert_eq!(docket::rules(), 4);
 }

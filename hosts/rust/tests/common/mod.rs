@@ -1,6 +1,7 @@
 //! What several tests use.
 #![allow(dead_code)]
 pub mod both;
+pub mod leaves;
 
 use docket::{Docket, MOST_INPUT, OUTPUT_BYTES};
 use std::fs;
