@@ -59,6 +59,9 @@ extern "C" {
 /* for the outputs of the held schedule: docket_outputs asks for so many, whatever is held */
 #define DOCKET_OUTPUTS ((size_t)1536)
 
+/* for entries with a status forced: docket_forced_statuses takes twice units times T, at most so many */
+#define DOCKET_ENTRIES (2 * DOCKET_OUTPUTS)
+
 /* for what `short` takes: docket_units_taken asks for so many numbers */
 #define DOCKET_TAKEN ((size_t)2)
 
@@ -205,10 +208,11 @@ enum docket_forced_answer { DOCKET_FORCED_FOUND = 0, DOCKET_FORCED_NO_PROBLEM = 
  * R is not in it. Where there is no such run the entry says stuck; so it does where the period is fixed the other way, for forcing
  * does not undo what is fixed, and so does every entry of a unit to which what is fixed leaves no run. That is no error: the
  * other units' entries are given. The lesser of a period's two entries is what the unit's cheapest run is worth, and how far the
- * other is above it is what it costs to force that status.
+ * other is above it is what it costs to force that status; where one says stuck, its 0 in `values` means nothing, and the other is
+ * what the run is worth.
  *
- * The lengths are exact: T for `q` and `s`, units times T for `fixed`, and twice units times T, so at most 2 * DOCKET_OUTPUTS, for
- * `values` and `stuck`.
+ * The lengths are exact: T for `q` and `s`, units times T for `fixed`, and twice units times T for `values` and `stuck`, however much
+ * room there is: DOCKET_ENTRIES is enough for every problem.
  *
  * Returned: DOCKET_FORCED_FOUND, and both are written: for unit u and period t, both counted from 0, with off forced at the place
  * 2 * (u * T + t), with on forced at the one after it. An entry that says stuck is 1 in `stuck` and 0 in `values`; any other is 0

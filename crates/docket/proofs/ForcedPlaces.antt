@@ -1,4 +1,4 @@
--- The entries of all units in one list: how long it is, where each entry stands in it, and that there is no other place.
+-- The entries of all units in one list: where each entry stands in it, and that there is no other place.
 use mathlib.Core.Path.{_≡_, refl, sym, ap, _∙_}
 use mathlib.Core.Bool.{Bool, true, false}
 use mathlib.Core.List.{List, [], _∷_, map}
@@ -6,13 +6,14 @@ use mathlib.Core.Logic.{_⊎_, inl, inr}
 use mathlib.Core.Option.{none}
 use Prim.Native.Nat.{ℕ, zero, suc, _+_, _*_, _-_, _<_, _≤_}
 use native.Mathlib.Omega.{arith}
-use lib.ListN.{length, getD, length-append, List·getD-append}
+use lib.ListN.{length, getD, List·getD-append}
 use lib.Seq.{ext-getD, getD-append-add}
 use Rattle.model.specs.declared.generator.Generator.{Generator}
 use Rattle.model.specs.Above.{Mark, Marks, rest}
 use Rattle.model.specs.Leaf.{gather, range}
 use Rattle.model.specs.Forced.{forced-least, forced-pair, forced-table, forced-tables}
 use Rattle.model.proofs.Lowest.{compare}
+use Rattle.forced.proofs.UnitEntries.{forced-table-long}
 use Rattle.docket.specs.Requested.{place}
 
 -- a member inside a list, of what it is mapped to
@@ -83,14 +84,6 @@ module _ (n : ℕ) where
 -- ---- one unit
 
 module _ (n : ℕ) (q s : ℕ → ℕ) (g : Generator) (m : ℕ → Mark) where
-  table-long : length (forced-table n q s g m) ≡ 2 * n
-  unfolding forced-table
-  table-long = go 0 n
-    where
-      go : (k r : ℕ) → length (gather (forced-pair n q s g m) (range k r)) ≡ 2 * r
-      go k zero = omega arith
-      go k (suc r) = omega (arith, go (suc k) r)
-
   table-at : (t : ℕ) → t < n → (d : Bool) → getD (forced-table n q s g m) (place n 0 t d) none ≡ forced-least n q s g m t d
   unfolding forced-table
   table-at t l d = let e : 0 + t ≡ t = omega arith in go 0 n t l d ∙ ap (λ (i : ℕ). forced-least n q s g m i d) e
@@ -106,21 +99,15 @@ module _ (n : ℕ) (q s : ℕ → ℕ) (g : Generator) (m : ℕ → Mark) where
 -- ---- all units
 
 module _ (n : ℕ) (q s : ℕ → ℕ) where
-  pub tables-long : (gs : List Generator) (m : Marks) → length (forced-tables n q s gs m) ≡ 2 * (length gs * n)
-  unfolding forced-tables
-  tables-long [] m = omega arith
-  tables-long (g ∷ gs) m =
-      omega (arith, length-append (forced-table n q s g (m 0)) (forced-tables n q s gs (rest m)), table-long n q s g (m 0), tables-long gs (rest m))
-
   pub tables-at : (gs : List Generator) (m : Marks) (a : Generator) (u : ℕ) → u < length gs → (t : ℕ) → t < n → (d : Bool)
       → getD (forced-tables n q s gs m) (place n u t d) none ≡ forced-least n q s (getD gs u a) (m u) t d
   unfolding forced-tables
   tables-at [] m a u h t l d = absurd (omega arith)
   tables-at (g ∷ gs) m a zero h t l d =
-      List·getD-append (forced-table n q s g (m 0)) (forced-tables n q s gs (rest m)) none (place n 0 t d) (omega (arith, table-long n q s g (m 0), place-first n t l d))
+      List·getD-append (forced-table n q s g (m 0)) (forced-tables n q s gs (rest m)) none (place n 0 t d) (omega (arith, forced-table-long n q s g (m 0), place-first n t l d))
       ∙ table-at n q s g (m 0) t l d
   tables-at (g ∷ gs) m a (suc u) h t l d =
-      let e : place n (suc u) t d ≡ length (forced-table n q s g (m 0)) + place n u t d = omega (arith, place-next n u t d, table-long n q s g (m 0)) in
+      let e : place n (suc u) t d ≡ length (forced-table n q s g (m 0)) + place n u t d = omega (arith, place-next n u t d, forced-table-long n q s g (m 0)) in
       rw e
       (getD-append-add (forced-table n q s g (m 0)) (forced-tables n q s gs (rest m)) (place n u t d) none
       ∙ tables-at gs (rest m) a u (omega arith) t l d)

@@ -7,7 +7,7 @@ use mathlib.Core.Logic.{_↔_}
 use mathlib.Core.Option.{Option, none, some}
 use Prim.Native.Nat.{ℕ, _*_, _<_}
 use native.Mathlib.Omega.{arith}
-use lib.Dec.{T, eqb}
+use lib.Dec.{T}
 use lib.IntN.{ℤ, pos}
 use lib.ListN.{length, getD, length-map}
 use Rattle.model.specs.declared.generator.Generator.{Generator}
@@ -18,8 +18,7 @@ use Rattle.model.specs.Above.{Mark, fixed, Marks, allows, root}
 use Rattle.model.specs.Agreement.{LeafOf, above, leaf-at}
 use Rattle.model.specs.Leaf.{is-stuck, unit-least}
 use Rattle.model.specs.Forced.{unit-answer, force, forced-least, forced-tables, value-number, stuck-number}
-use Rattle.model.specs.Tree.{price, Tree, GoodLeaf, Limits, Holds}
-use Rattle.model.proofs.Extents.{Same, is-stuck-ext, unit-least-ext}
+use Rattle.model.specs.Tree.{price, Tree, GoodLeaf, Limits}
 use Rattle.least.specs.declared.unit.Least.the-variants.{Stuck, Value}
 use Rattle.least.specs.UnitLeasts.{least-of}
 use Rattle.least.proofs.UnitParts.{all-getD}
@@ -28,6 +27,9 @@ use Rattle.forced.specs.declared.answering.ForcedAnswer.the-variants as answer
 use Rattle.forced.specs.Answers as entries
 use Rattle.forced.specs.Answers.{fits, FitQuestion, untold, entries-asked, told-under}
 use Rattle.forced.proofs.Questions.{fits-is}
+use Rattle.forced.proofs.Answers.{found, fit-told}
+use Rattle.forced.proofs.UnitEntries.{forced-least-ext}
+use Rattle.forced.proofs.AllEntries.{tables-long}
 use Rattle.docket.specs.declared.Docket.{Docket}
 use Rattle.docket.specs.Verdicts.{Verdict}
 use Rattle.docket.specs.Texts.{Are}
@@ -38,7 +40,7 @@ use Rattle.docket.specs.Requested as said
 use Rattle.docket.specs.Requested.{as-entry, place, Entries, EntriesTold, status-bytes}
 use Rattle.docket.proofs.AskedUnder.{its-known, none-known, judged-known, given-known, none-given}
 use Rattle.docket.proofs.StatusBytes.{bytes-long, all-bytes, bytes-same, good-leaf}
-use Rattle.docket.proofs.ForcedPlaces.{map-at, place-inside, placed-same, tables-long, tables-at}
+use Rattle.docket.proofs.ForcedPlaces.{map-at, place-inside, placed-same, tables-at}
 use Rattle.docket.proofs.ForcedAsked.{forced-known, forced-none}
 
 -- ---- one entry
@@ -141,23 +143,9 @@ told-one q s fx values stuck (some P) _ _ (said.found {x = x} {y = y} F a) (said
     let e = one-entries P (marks-asked P fx) (λ t. q at t) (λ t. s at t) x x′ y y′ a b in
     ap₂ (λ (v : List ℤ) (w : List ℕ). record { answer = answer.Found; values = v; stuck = w }) (e .0) (e .1)
 
--- ---- under the same marks
+-- ---- a price leaf of a tree
 
-module _ (n : ℕ) (q s : ℕ → ℕ) (g : Generator) (good : GoodUnit g) (m m′ : ℕ → Mark) (h : Same n m m′) where
-  answer-ext : unit-answer n q s g m ≡ unit-answer n q s g m′
-  answer-ext =
-      ap₂ (λ (b : Bool) (z : ℤ). cond b none (some z)) (is-stuck-ext n g m m′ h)
-      (unit-least-ext n g m m′ h good q q s s (λ t l. refl) (λ t l. refl))
-
-module _ (n : ℕ) (q s : ℕ → ℕ) (g : Generator) (good : GoodUnit g) (m m′ : ℕ → Mark) (h : Same n m m′) where
-  pub forced-least-ext : (t : ℕ) → t < n → (d : Bool) → forced-least n q s g m t d ≡ forced-least n q s g m′ t d
-  forced-least-ext t l d =
-      ap₂ (λ (a : Mark) (x : Option ℤ). cond (allows a d) x none) (h t l)
-      (answer-ext n q s g good (force t d m) (force t d m′) (λ i k. ap (λ (a : Mark). cond (eqb t i) (fixed d) a) (h i k)))
-
--- ---- a price leaf of an accepted tree
-
-module _ (P : Instance) (W : WellFormed P) (t : Tree) (limits : Limits P root 0 t) (holds : Holds P root t) (i : LeafOf t) (q s : List ℕ) (is : leaf-at t i ≡ price q s) where
+module _ (P : Instance) (W : WellFormed P) (t : Tree) (limits : Limits P root 0 t) (i : LeafOf t) (q s : List ℕ) (is : leaf-at t i ≡ price q s) where
   abbrev m : Marks
   m = above root t i .marks
 
@@ -193,10 +181,8 @@ module _ (P : Instance) (W : WellFormed P) (t : Tree) (limits : Limits P root 0 
     }
 
     -- what is told of it is its entries
-    leaf-under : told-under P q s bytes values stuck
-        ≡ record { answer = answer.Found; values = map value-number (entries-asked P q s bytes); stuck = map stuck-number (entries-asked P q s bytes) }
-    unfolding told-under
-    leaf-under = rw (fits-is P q s bytes (length values) (length stuck) .1 leaf-fits) refl
+    leaf-under : told-under P q s bytes values stuck ≡ found P q s bytes
+    leaf-under = sym (fit-told P q s bytes values stuck (fits-is P q s bytes (length values) (length stuck) .1 leaf-fits))
 
     pub leaf-entries : (d : Docket) → Long d → JudgesBy d (some P) → (x : List ℤ) × (y : List ℕ) × Entries P m (λ t. q at t) (λ t. s at t) x y
         × (forced-of d q s bytes values stuck ≡ record { answer = answer.Found; values = x; stuck = y })

@@ -34,6 +34,7 @@ pub mod StatusBytes
 pub mod RunsTold
 pub mod ForcedPlaces
 pub mod ForcedTold
+pub mod ForcedSplits
 pub mod Midnight
 pub mod Requested
 pub mod Interleaved

@@ -1,7 +1,7 @@
 -- What document 02 asks, request by request and clause by clause, each proved in a line; then witnesses. The words used are defined in specs/; what
 -- the texts of a list are is `Is` and `Are` (specs/Texts.antt). What a request changes in problems, rules and refusals is in the definitions of which
 -- Promises.antt speaks.
-use mathlib.Core.Path.{_≡_, refl}
+use mathlib.Core.Path.{_≡_, refl, sym, ap, _∙_}
 use mathlib.Core.Bool.{Bool, true, false, not}
 use mathlib.Core.List.{List, [], _∷_, _++_, map, flatten}
 use mathlib.Core.Logic.{_⊎_, _↔_}
@@ -10,7 +10,7 @@ use Prim.Native.Nat.{ℕ, suc, pred, _+_, _*_, _-_, _≤_, _<_, min}
 use native.Mathlib.Omega.{arith}
 use lib.Dec.{T, lit<, lit≤}
 use lib.IntN.{ℤ, pos, negℤ, _+ℤ_, _-ℤ_, _*ℤ_}
-use lib.ListN.{length, getD, take}
+use lib.ListN.{length, getD, take, set}
 use lib.Signed.{_≤ℤ_}
 use Rattle.decimal.specs.Decimal.{digits, digits-by}
 use Rattle.model.specs.declared.generator.Generator.{Generator}
@@ -20,8 +20,9 @@ use Rattle.model.specs.Rules.{on, if-on, output, FirstRamp, MeetsPrinted, Meets
 use Rattle.model.specs.Cost.{row-cost, cost}
 use Rattle.model.specs.Breach.{Breach}
 use Rattle.model.specs.Broken.{Of, OffRamp, Broken, Lower}
+use Rattle.model.specs.Held.{blank-generator}
 use Rattle.model.specs.Above as marks
-use Rattle.model.specs.Above.{Mark, Above, root, count, side, allows, obeys}
+use Rattle.model.specs.Above.{Mark, Above, root, count, side, allows, obeys, Marks, mark}
 use Rattle.model.specs.Largest.{total, falling, largest, LargestSum, FallingOrder}
 use Rattle.model.specs.Leaf.{usable, available, not-off, Crowded, those, is-stuck, any-stuck, rows-of, revenue, value, unit-least, units-least, requirement, leaf-value}
 use Rattle.model.specs.Forced.{unit-answer, force, forced-least, lesser-entry, forced-table, forced-tables}
@@ -47,7 +48,7 @@ use Rattle.model.proofs.ForcedLeasts as forced-leasts
 use Rattle.model.proofs.LeastRows as rows
 use Rattle.model.proofs.LeafRuns as leaf-runs
 use Rattle.model.proofs.Unread as unread
-use Rattle.walk.specs.Marks.{mark-of, marks-in}
+use Rattle.walk.specs.Marks.{mark-of, marks-in, marks-of}
 use Rattle.text.specs.Lines.{Line, ended, later, lines-of, kind-tree, end-problem}
 use Rattle.text.specs.Rendering.{plain-line}
 use Rattle.text.specs.LineRefused.{Renders}
@@ -83,7 +84,7 @@ use Rattle.docket.specs.Docket.{sound}
 use Rattle.docket.specs.Taking.{FitQuestion, asked, taken-under, taken-of}
 use Rattle.docket.specs.Drafting.{runs-of}
 use Rattle.docket.specs.Forcing.{forced-of}
-use Rattle.docket.specs.Requested.{NodeLineDue, PartLineDue, TakenThere, Told, AsAsked, Midnight, in-period-1, UnitLineDue, as-entry, Entries, EntriesTold, LeafRuns, DraftTold, leaf-runs, status-bytes}
+use Rattle.docket.specs.Requested.{NodeLineDue, PartLineDue, TakenThere, Told, AsAsked, Midnight, in-period-1, UnitLineDue, as-entry, Entries, EntriesTold, LeafRuns, DraftTold, leaf-runs, status-bytes, status-byte}
 use Rattle.docket.proofs.SpecimenTexts.{is-listed-problem}
 use Rattle.docket.proofs.SpecimenList.{specimens-answered}
 use Rattle.docket.proofs.CountLines as count-lines
@@ -91,6 +92,7 @@ use Rattle.docket.proofs.RampLines as ramp-texts
 use Rattle.docket.proofs.UnitsTold as telling
 use Rattle.docket.proofs.RunsTold as drafting
 use Rattle.docket.proofs.ForcedTold as forcing
+use Rattle.docket.proofs.ForcedSplits as splits
 use Rattle.docket.proofs.Midnight as midnight
 use Rattle.docket.proofs.Promises as promises
 
@@ -271,6 +273,9 @@ ramps-unread = ignored.ramps-ignore
 
 -- ---- [5] All forced statuses of a unit together
 
+-- That all come from one walk forward and one backward is no statement: it is read in `fill_entries` (crates/forced/src/unit.rt), whose contract is that they are the single walks'. What
+-- is proved of the walk forward stands in crates/model/proofs (`Passed`, `passed-next`, `entry-is`)
+
 module _ (n : ℕ) (q s : ℕ → ℕ) (g : Generator) (m : ℕ → Mark) (t : ℕ) (d : Bool) where
   -- An entry is a unit's least value at the prices and the fixed statuses with period t forced to d. Where t is not fixed the other way it equals what the single walk
   -- (`unit_least`, crates/least) gives with d fixed in t too
@@ -300,6 +305,13 @@ module _ (n : ℕ) (q s : ℕ → ℕ) (g : Generator) (m : ℕ → Mark) (t : �
   pub forced-other : m t ≡ marks.fixed (not d) → forced-least n q s g m t d ≡ none
   forced-other = forced-leasts.forced-other n q s g m t d
 
+-- The same of bytes, as `unit_least` takes them: the single walk with the byte of t set to d's
+pub forced-as-bytes : (n : ℕ) (q s : ℕ → ℕ) (g : Generator) (bytes : List ℕ) (t : ℕ) (d : Bool) → t < length bytes → T (allows (mark-of (bytes at t)) d)
+    → forced-least n q s g (marks-of bytes) t d ≡ as-entry (least-of n q s g (marks-of (set bytes t (status-byte (marks.fixed d)))))
+forced-as-bytes n q s g bytes t d l h =
+    let e = forced-as-fixed n q s g (marks-of bytes) t d h in
+    e .0 ∙ e .1 ∙ ap (λ (m : ℕ → Mark). as-entry (least-of n q s g m)) (sym (splits.forced-bytes bytes t l d))
+
 -- The lesser of a period's two entries, one that says stuck left out, is what the unit answers: in every period the same
 pub forced-agree : (n : ℕ) (q s : ℕ → ℕ) (g : Generator) → GoodUnit g → (m : ℕ → Mark) (t : ℕ) → t < n
     → lesser-entry (forced-least n q s g m t false) (forced-least n q s g m t true) ≡ unit-answer n q s g m
@@ -315,15 +327,23 @@ pub forced-one : (q s fixed : List ℕ) (values : List ℤ) (stuck : List ℕ) (
     → EntriesTold q s fixed values stuck o x → EntriesTold q s fixed values stuck o y → x ≡ y
 forced-one = forcing.told-one
 
--- Of every price leaf of an accepted tree, asked with the statuses that are fixed above it of a docket that judges by the tree's problem: what the slices hold are the entries at
+-- Of every price leaf of a tree within the limits, so of every accepted tree, asked with the statuses that are fixed above it of a docket that judges by the tree's problem: what the slices hold are the entries at
 -- the leaf's prices and under those statuses
-pub forced-at-leaf : (P : Instance) → WellFormed P → (t : Tree) → Limits P root 0 t → Holds P root t → (i : LeafOf t) (q s : List ℕ) → leaf-at t i ≡ price q s
+pub forced-at-leaf : (P : Instance) → WellFormed P → (t : Tree) → Limits P root 0 t → (i : LeafOf t) (q s : List ℕ) → leaf-at t i ≡ price q s
     → (values : List ℤ) (bytes : List ℕ) → length values ≡ 2 * (length (P .units) * P .periods) → length bytes ≡ 2 * (length (P .units) * P .periods)
     → (d : Docket) → Long d → JudgesBy d (some P)
     → let A = above root t i in
     (x : List ℤ) × (y : List ℕ) × Entries P (A .marks) (λ t. q at t) (λ t. s at t) x y
     × (forced-of d q s (status-bytes (length (P .units)) (P .periods) (A .marks)) values bytes ≡ record { answer = forced.Found; values = x; stuck = y })
 forced-at-leaf = forcing.leaf-entries
+
+-- What an entry foretells of a split on unit u in period t at a price leaf with m above it: where the entry of d is z, with d fixed the leaf's value is as far from what it is as z from
+-- the unit's least value; where it says stuck, and d is not fixed otherwise, a unit is stuck on that side
+pub forced-foretells : (P : Instance) (m : Marks) (q s : ℕ → ℕ) (u : ℕ) → u < length (P .units) → (t : ℕ) (d : Bool)
+    → let g = getD (P .units) u blank-generator in
+    ((z : ℤ) → forced-least (P .periods) q s g (m u) t d ≡ some z → leaf-value P (mark u t d m) q s +ℤ unit-least (P .periods) q s g (m u) ≡ leaf-value P m q s +ℤ z)
+    × (T (allows (m u t) d) → forced-least (P .periods) q s g (m u) t d ≡ none → T (any-stuck (P .periods) (P .units) (mark u t d m)))
+forced-foretells P m q s u h t d = (splits.leaf-raised P m q s u h t d, splits.leaf-stuck P m q s u h t d)
 
 -- ---- [7] The run behind a minimum
 

@@ -131,8 +131,8 @@ impl Docket {
     }
 
     // Each unit's least value at these multipliers under these statuses with the status of each period forced besides: in `values`, unit u's from u times twice the periods
-    // on, off forced before on forced; `stuck` has 1 where the unit is then stuck, and 0 else. Or why there is none, and both are as they were. A docket that is not sound
-    // knows no problem.
+    // on, off forced before on forced; `stuck` has 1 where the unit is then stuck, and 0 else. Or why there are no entries, and both are as they were. A docket that is not
+    // sound knows no problem.
     pub fn forced_statuses(
         self,
         q: &[u64],

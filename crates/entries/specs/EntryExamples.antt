@@ -1,6 +1,6 @@
 -- Document 02, [5]: what is told of forced statuses, on numbers: document 01's problem, and each end of each range of a question. Every line is found by computing.
 use mathlib.Core.Path.{_≡_, refl}
-use mathlib.Core.Bool.{true}
+use mathlib.Core.Bool.{true, false}
 use mathlib.Core.List.{List, [], _∷_, map}
 use Prim.Native.Nat.{ℕ}
 use lib.IntN.{ℤ, pos, negℤ}
@@ -11,7 +11,6 @@ use Rattle.model.specs.Leaf.{rows-of, is-stuck, revenue, value, unit-least}
 use Rattle.model.specs.Forced.{forced-table, forced-tables}
 use Rattle.model.specs.Examples.{line, example, unit1}
 use Rattle.walk.specs.Marks.{mark-of, marks-in}
-use Rattle.forced.specs.declared.answering.ForcedAnswer.{ForcedAnswer}
 use Rattle.forced.specs.declared.answering.ForcedAnswer.the-variants.{Unfit, Found}
 use Rattle.forced.specs.Answers.{Told, untold, told-under}
 
@@ -28,7 +27,7 @@ minus n = negℤ (pos n)
 abbrev none : List ℕ
 none = 0 ∷ 0 ∷ []
 
--- document 01's problem at 10 and 14: unit 1 on in both periods is worth 120, off in both costs 5 and on in the first alone 105; with unit 2 fixed on in period 2
+-- document 01's problem at 10 and 14: unit 1 on in both periods is worth 120, off in both costs 5 and on in the first alone 105; unit 2 off in both costs 0, on in one period alone 140 or 100, in both 180. With unit 2 fixed on in period 2
 plant : (asked example (10 ∷ 14 ∷ []) none (0 ∷ 0 ∷ 0 ∷ 0 ∷ []) 8 8
     ≡ found (pos 5 ∷ minus 120 ∷ pos 5 ∷ minus 120 ∷ pos 0 ∷ pos 140 ∷ pos 0 ∷ pos 100 ∷ []) (0 ∷ 0 ∷ 0 ∷ 0 ∷ 0 ∷ 0 ∷ 0 ∷ 0 ∷ []))
     × (asked example (10 ∷ 14 ∷ []) none (0 ∷ 0 ∷ 0 ∷ 2 ∷ []) 8 8
@@ -44,6 +43,17 @@ second-stuck : asked twins none none (0 ∷ 0 ∷ 1 ∷ 2 ∷ []) 8 8
     ≡ found (pos 5 ∷ pos 305 ∷ pos 5 ∷ pos 600 ∷ pos 0 ∷ pos 0 ∷ pos 0 ∷ pos 0 ∷ []) (0 ∷ 0 ∷ 0 ∷ 0 ∷ 1 ∷ 1 ∷ 1 ∷ 1 ∷ [])
 unfolding twins told-under forced-tables forced-table is-stuck marks-in mark-of unit-least value revenue rows-of row-cost
 second-stuck = refl
+
+-- two units in three periods at 3, each worth 3 in a period on. The first, off for 3 periods at least and for 1 before period 1, may be on in period 3 alone; the second is fixed off in
+-- period 1, and its start costs 2 in period 2 and, as a cold one, 5 in period 3
+three : Instance
+three = record { periods = 3; demand = 1 ∷ 1 ∷ 1 ∷ []; spare = 0 ∷ 0 ∷ 0 ∷ []; units = line 0 0 0 1 1 1 3 false 1 10 10 0 0 0 0 0 ∷ line 0 0 0 1 1 1 1 false 1 10 10 2 5 1 0 0 ∷ [] }
+
+two-by-three : asked three (3 ∷ 3 ∷ 3 ∷ []) (0 ∷ 0 ∷ 0 ∷ []) (0 ∷ 0 ∷ 0 ∷ 1 ∷ 0 ∷ 0 ∷ []) 12 12
+    ≡ found (minus 3 ∷ pos 0 ∷ minus 3 ∷ pos 0 ∷ pos 0 ∷ minus 3 ∷ minus 4 ∷ pos 0 ∷ pos 0 ∷ minus 4 ∷ minus 1 ∷ minus 4 ∷ [])
+    (0 ∷ 1 ∷ 0 ∷ 1 ∷ 0 ∷ 0 ∷ 0 ∷ 1 ∷ 0 ∷ 0 ∷ 0 ∷ 0 ∷ [])
+unfolding three told-under forced-tables forced-table is-stuck marks-in mark-of unit-least value revenue rows-of row-cost
+two-by-three = refl
 
 -- one unit in two periods, 2 to 4 at 5 each
 abbrev tiny : Instance
@@ -74,7 +84,7 @@ statuses = refl
 lengths : (map (λ q. asked tiny q none none 4 4) ((0 ∷ []) ∷ (0 ∷ 0 ∷ 0 ∷ []) ∷ []) ≡ left ∷ left ∷ [])
     × (map (λ s. asked tiny none s none 4 4) ((0 ∷ []) ∷ (0 ∷ 0 ∷ 0 ∷ []) ∷ []) ≡ left ∷ left ∷ [])
     × (map (λ f. asked tiny none none f 4 4) ((0 ∷ []) ∷ (0 ∷ 0 ∷ 0 ∷ []) ∷ []) ≡ left ∷ left ∷ [])
-    × (map (λ k. asked tiny none none none k 4 .answer) (3 ∷ 5 ∷ []) ≡ Unfit ∷ Unfit ∷ [])
-    × (map (λ j. asked tiny none none none 4 j .answer) (3 ∷ 5 ∷ []) ≡ Unfit ∷ Unfit ∷ [])
+    × (map (λ k. asked tiny none none none k 4) (3 ∷ 5 ∷ []) ≡ map (λ k. untold (replicate k (pos 7)) (replicate 4 7) Unfit) (3 ∷ 5 ∷ []))
+    × (map (λ j. asked tiny none none none 4 j) (3 ∷ 5 ∷ []) ≡ map (λ j. untold (replicate 4 (pos 7)) (replicate j 7) Unfit) (3 ∷ 5 ∷ []))
 unfolding told-under
 lengths = (refl, refl, refl, refl, refl)

@@ -30,10 +30,6 @@ module _ (n : ℕ) (q s : ℕ → ℕ) where
   abbrev pub front-tables : ℕ → List Generator → Marks → List (Option ℤ)
   front-tables u l m = forced-tables n q s (take u l) m
 
-  pub front-none : (l : List Generator) (m : Marks) → front-tables 0 l m ≡ []
-  unfolding forced-tables
-  front-none l m = refl
-
   -- one unit more
   front-more : (u : ℕ) (l : List Generator) (d : Generator) (m : Marks) → u < length l → front-tables (suc u) l m ≡ front-tables u l m ++ forced-table n q s (getD l u d) (m u)
   unfolding forced-tables

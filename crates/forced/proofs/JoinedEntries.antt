@@ -10,6 +10,7 @@ use Rattle.model.specs.declared.generator.Generator.{Generator}
 use Rattle.model.specs.Instance.{_at_}
 use Rattle.model.specs.Walk.{lesser}
 use Rattle.model.specs.ForcedWalk.{both, least-upto}
+use Rattle.model.proofs.Coded.{lesser-none}
 use Rattle.runs.specs.Kept.{first-of, kept-in}
 use Rattle.forced.specs.Entries.{entry-of}
 
@@ -39,11 +40,6 @@ least-more i f found value e h = rw (add-one i) (ap₂ lesser e h)
 pub first-most : (d : Bool) → first-of d ≤ 48
 first-most true = omega arith
 first-most false = omega arith
-
-lesser-none : (x : ℕ) → lesser x 0 ≡ x
-unfolding lesser
-lesser-none zero = refl
-lesser-none (suc x) = refl
 
 -- what is found in the list of the states, by the number of the states and the place where their values begin
 module _ (g : Generator) (table : List ℕ) (t : ℕ) (d : Bool) (l : List ℕ) (own reached begin found : ℕ) (r : reached ≡ min t (length l)) (b : begin ≡ t * 145 + first-of d)

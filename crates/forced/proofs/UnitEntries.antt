@@ -90,13 +90,13 @@ forced-walk-ext n g m m′ w w′ h i t l d =
     ap₂ (λ (a : Mark) (v : ℕ). cond (allows a d) v 0) (h t l)
     (walk-ext n g (force t d m) (force t d m′) w w′ (λ j k. ap (λ (a : Mark). cond (eqb t j) (fixed d) a) (h j k)) i (g .on) (g .since))
 
--- and neither does the table
+-- and neither does an entry, or the table
 module _ (n : ℕ) (q s : ℕ → ℕ) (g : Generator) (good : GoodUnit g) (m m′ : ℕ → Mark) (h : Same n m m′) where
   abbrev w : ℕ → Bool → ℕ
   w t = worth g (q t) (s t)
 
-  least-ext : (d : Bool) (t : ℕ) → t < n → forced-least n q s g m t d ≡ forced-least n q s g m′ t d
-  least-ext d t l =
+  pub forced-least-ext : (t : ℕ) → t < n → (d : Bool) → forced-least n q s g m t d ≡ forced-least n q s g m′ t d
+  forced-least-ext t l d =
       forced-decoded n q s g good m t d
       ∙ ap (λ (v : ℕ). decoded v (offset n q s g)) (forced-walk-ext n g m m′ w w h (λ t l d. refl) t l d)
       ∙ sym (forced-decoded n q s g good m′ t d)
@@ -105,7 +105,7 @@ module _ (n : ℕ) (q s : ℕ → ℕ) (g : Generator) (good : GoodUnit g) (m m�
   unfolding forced-table
   forced-table-ext =
       pairs-ext (λ t. forced-least n q s g m t false) (λ t. forced-least n q s g m t true) (λ t. forced-least n q s g m′ t false) (λ t. forced-least n q s g m′ t true)
-      0 n (λ t l. least-ext false t (omega arith)) (λ t l. least-ext true t (omega arith))
+      0 n (λ t l. forced-least-ext t (omega arith) false) (λ t l. forced-least-ext t (omega arith) true)
 
 pub forced-table-long : (n : ℕ) (q s : ℕ → ℕ) (g : Generator) (m : ℕ → Mark) → length (forced-table n q s g m) ≡ 2 * n
 unfolding forced-table

@@ -10,6 +10,8 @@ ghost use Rattle.walk.specs.Limits.{GoodValue};
 ghost use Rattle.runs.specs.Kept.{first-of};
 ghost use Rattle.forced.specs.Entries.{entry-of};
 use model::generator::Generator;
+use runs::table::FIRST_OFF;
+use runs::table::STATES;
 use runs::table::kept_at;
 use walk::smaller;
 use walk::table::lesser_value;
@@ -42,11 +44,6 @@ fn join_states(states: &[u64], reached: usize, table: &[u64], begin: usize) -> u
     }
     found
 }
-
-// So many states a period has in the table at most, and the states off begin there.
-const STATES: usize = 145;
-
-const FIRST_OFF: usize = 48;
 
 // Where the values kept before period t begin, of a status.
 fn begin_of(t: usize, status: bool) -> usize

@@ -19,7 +19,7 @@ use walk::smaller;
 use walk::table::kept_value;
 use walk::table::lesser_value;
 
-// The least value of the states from `from` to `to`.
+// The least value of the states from `from` up to `to`, which is not among them.
 fn least_state(states: &[u64], from: usize, to: usize) -> u64
     requires { ⌜ to ≤ length (now states) ⌝ }
     ensures { λ r. ⌜ r ≡ least-upto (to - from) (λ i. (now (states .entry)) at (from + i)) ⌝ }

@@ -53,7 +53,7 @@ fn fill_forward(
     }
 }
 
-// The same over what the periods cost: one walk back with its values kept, and one forward.
+// Fills in the coded entries over what the periods cost: one walk back with its values kept, and one forward.
 fn fill_entries(g: Generator, on: &[u64], off: &[u64], fixed: &[u8], entries: &mut [u64])
     requires { ⌜ GoodUnit g ⌝ }
     requires { ⌜ GoodCosts (length (now on)) (now on) (now off) × (length (now fixed) ≡ length (now on)) ⌝ }

@@ -21,12 +21,6 @@ both-inv zero y h = absurd (omega arith)
 both-inv (suc x) zero h = absurd (omega arith)
 both-inv (suc x) (suc y) h = (omega arith, omega arith)
 
-pub both-most : (x y M N : ℕ) → x ≤ M → y ≤ N → both x y ≤ M + N
-unfolding both
-both-most zero y M N h k = omega arith
-both-most (suc x) zero M N h k = omega arith
-both-most (suc x) (suc y) M N h k = omega arith
-
 -- ---- the least
 
 -- it is there if one of them is, and then no more than that one

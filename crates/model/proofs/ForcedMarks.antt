@@ -47,14 +47,6 @@ module _ (t : ℕ) (d : Bool) (m : ℕ → Mark) where
       go true k = refl
       go false k = absurd k
 
-  -- in any other
-  pub force-other : (i : ℕ) → (i ≡ t → ⊥) → force t d m i ≡ m i
-  force-other i h = go (eqb t i) (λ k. h (sym (eqb→eq t i k)))
-    where
-      go : (c : Bool) → (T c → ⊥) → cond c (fixed d) (m i) ≡ m i
-      go true k = absurd (k tt)
-      go false k = refl
-
   -- a status that is fixed already changes nothing
   pub force-fixed : m t ≡ fixed d → force t d m ≡ m
   force-fixed e = fun-ext (λ i. go i (eqb t i) (λ k. eqb→eq t i k))

@@ -40,7 +40,7 @@ late : entries (line 0 0 0 1 1 1 3 false 1 10 10 0 0 0 0 0) nothing 3 (3 âˆ· 3 â
 unfolding forced-table is-stuck unit-least rows-of value revenue row-cost
 late = refl
 
--- a start costs 2 up to TD + Tcold, 2, periods off and 5 after more; it is off for 1 before period 1. Fixed off in period 1, in periods 1 and 2
+-- a start costs 2 up to TD + Tcold, 2, periods off and 5 after more; it is off for 1 before period 1. Nothing fixed, off in period 1, off in periods 1 and 2
 abbrev cold : Generator
 cold = line 0 0 0 1 1 1 1 false 1 10 10 2 5 1 0 0
 

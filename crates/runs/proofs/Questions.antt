@@ -15,7 +15,7 @@ use Rattle.model.proofs.RangeTests.{and-is, leb-is, eqb-is, every-is}
 use Rattle.walk.specs.Marks.{is-status}
 use Rattle.runs.specs.Drafts.{is-price, fits-in, fits, FitQuestion}
 
-price-is : (v : ℕ) → T (is-price v) ↔ GoodPrice v
+pub price-is : (v : ℕ) → T (is-price v) ↔ GoodPrice v
 price-is v = (λ t. (omega arith, leb-is v 1000000000 .0 t), λ p. leb-is v 1000000000 .1 (p .1))
 
 -- ---- the test of a question

@@ -15,10 +15,10 @@ use walk::place;
 use walk::table::step_back;
 
 // So many states a period has at most.
-const STATES: usize = 145;
+pub const STATES: usize = 145;
 
 // The states off begin there.
-const FIRST_OFF: usize = 48;
+pub const FIRST_OFF: usize = 48;
 
 // Stores the values before period t.
 fn store_states(table: &mut [u64], t: usize, ons: &[u64], offs: &[u64])

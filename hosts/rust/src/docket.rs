@@ -204,8 +204,9 @@ impl Docket {
     ///
     /// The leaf is prices, reserves and `fixed`, as [`cheapest_runs`](Docket::cheapest_runs) has them. A value is the least that a
     /// run of the unit is worth, of those that agree with what is fixed and have the forced status in the period. It is the
-    /// unit's own: the leaf's part for D and R is not in it. The lesser of a period's two values is what the unit's cheapest run
-    /// is worth, and how far the other is above it is what it costs to force that status.
+    /// unit's own: the leaf's part for D and R is not in it. The lesser of a period's two values, or
+    /// the one that is there, is what the unit's cheapest run is worth, and how far the other is above it is what it costs to force
+    /// that status.
     ///
     /// There is no value where the unit is stuck: no such run is left, as where the period is fixed the other way, for forcing does
     /// not undo what is fixed. Of a unit to which what is fixed leaves no run at all there is none in any period; the other units'

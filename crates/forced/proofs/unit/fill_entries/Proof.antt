@@ -1,5 +1,5 @@
 -- `fill_entries` meets its contract: the walk back is kept in a table of zeros, and the walk forward starts with nothing in its lists.
-use mathlib.Core.Path.{_≡_, refl, sym, _∙_}
+use mathlib.Core.Path.{_≡_, refl, sym}
 use mathlib.Core.Bool.{Bool, true, false, not}
 use Prim.Native.Nat.{ℕ, _+_, _≤_, _<_}
 use native.Mathlib.Omega.{arith}
