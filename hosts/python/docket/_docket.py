@@ -1,7 +1,7 @@
 """A docket that stays open."""
 import ctypes
 import threading
-from collections.abc import Iterable
+from collections.abc import Callable, Iterable, Sequence
 from typing import Any, NoReturn, final
 
 from ._lent import Bytes, lent
@@ -126,26 +126,8 @@ class Docket:
         q, s, given = _leaf_of("cheapest_runs", prices, reserves, fixed)
         runs, shortfalls = (ctypes.c_uint64 * len(given))(), (ctypes.c_uint64 * len(q))()
         value = _Value()
-        with self._lock:
-            answer = library.docket_cheapest_runs(
-                self._numbers,
-                _NUMBERS,
-                self._rows,
-                _ROWS,
-                q,
-                len(q),
-                s,
-                len(s),
-                given,
-                len(given),
-                runs,
-                len(given),
-                shortfalls,
-                len(q),
-                value,
-                1,
-            )
-        return runs_of(checked(answer), value[0], runs[:], shortfalls[:])
+        answer = self._leaf_asked(library.docket_cheapest_runs, q, s, given, runs, shortfalls, value)
+        return runs_of(answer, value[0], runs[:], shortfalls[:])
 
     def forced_statuses(self, prices: Iterable[int], reserves: Iterable[int], fixed: Bytes) -> ForcedStatuses:
         """What each unit is worth at a price leaf with a status forced, for every period and either status.
@@ -167,24 +149,14 @@ class Docket:
         q, s, given = _leaf_of("forced_statuses", prices, reserves, fixed)
         entries = 2 * len(given)
         values, stuck = (ctypes.c_int64 * entries)(), (ctypes.c_uint8 * entries)()
+        answer = self._leaf_asked(library.docket_forced_statuses, q, s, given, values, stuck)
+        return forced_of(answer, values[:], stuck[:], len(q))
+
+    def _leaf_asked(self, call: Callable[..., int], *slices: Sequence[int]) -> int:
+        """What a call about a price leaf answers: the leaf's slices, and those that are lent to be written to."""
         with self._lock:
-            answer = library.docket_forced_statuses(
-                self._numbers,
-                _NUMBERS,
-                self._rows,
-                _ROWS,
-                q,
-                len(q),
-                s,
-                len(s),
-                given,
-                len(given),
-                values,
-                entries,
-                stuck,
-                entries,
-            )
-        return forced_of(checked(answer), values[:], stuck[:], len(q))
+            parts = ((self._numbers, _NUMBERS), (self._rows, _ROWS), *((part, len(part)) for part in slices))
+            return checked(call(*(value for part in parts for value in part)))
 
     def copy(self) -> "Docket":
         """A docket of its own that holds the same."""
