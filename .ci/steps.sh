@@ -8,10 +8,6 @@ work=$(mktemp -d) || exit 1
 trap 'for job in $(jobs -p); do kill -- "-$job" 2>/dev/null; done; rm -rf "$work"' EXIT
 trap 'exit 1' INT TERM HUP
 
-# Up to four crates or edits are checked at a time, one for each 2 GB of memory that are free.
-room=$(awk '$1 == "MemAvailable:" { print int($2 / 2097152) }' /proc/meminfo)
-export RT_JOBS=${RT_JOBS:-$((room < 1 ? 1 : room > 4 ? 4 : room))}
-
 # say NAME: a line on what runs, with the seconds since the start
 say() { printf '== %s (%s s)\n' "$1" "$(($(date +%s) - began))"; }
 

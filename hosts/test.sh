@@ -62,11 +62,8 @@ finish() {
 }
 
 build_archive() {
-  [ -f "$archive" ] && [ -z "$(find crates crates.txt -newer "$archive" -print -quit)" ] && return
-  say 'rt staticlib docket_host'
-  rm -f "$archive"
-  rt staticlib docket_host
-  [ -f "$archive" ]
+  say 'tools/archive'
+  tools/archive --if-old && [ -f "$archive" ]
 }
 
 # The archive defines the calls of the header for others and nothing else, keeps no data that can be written, and calls the C

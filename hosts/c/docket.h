@@ -1,4 +1,4 @@
-/* The unit commitment docket for C, in the archive libdocket_host.a that `rt staticlib docket_host` writes. x86-64 Linux. Of the
+/* The unit commitment docket for C, in the archive libdocket_host.a that `tools/archive` writes. x86-64 Linux. Of the
  * C library the archive needs memcpy and memset alone. What texts, answers and reports are and what the number of a refusal
  * means is in the repository's README.md.
  *

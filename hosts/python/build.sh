@@ -6,7 +6,7 @@ here=$(cd "$(dirname "$0")" && pwd)
 header=$here/../c/docket.h
 archive=$here/../../target/staticlib/libdocket_host.a
 file=${1:-$here/docket/libdocket.so}
-[ -f "$archive" ] || { echo "no $archive: run 'rt staticlib docket_host' in the repository" >&2; exit 1; }
+[ -f "$archive" ] || { echo "no $archive: run 'tools/archive' in the repository" >&2; exit 1; }
 work=$(mktemp -d)
 trap 'rm -rf "$work" "$file.new"' EXIT
 calls=$(sed -n 's/^size_t \(docket_[a-z_]*\)(.*/\1;/p' "$header")

@@ -1,4 +1,4 @@
-//! Links the proved archive, which stands in the repository's target/ once `rt staticlib docket_host` was run there.
+//! Links the proved archive, which stands in the repository's target/ once `tools/archive` was run there.
 use std::env;
 use std::path::Path;
 use std::process::exit;
@@ -24,7 +24,7 @@ fn main() {
     println!("cargo:rerun-if-changed={}", archive.display());
     if !archive.is_file() {
         stop(&format!(
-            "no {}: run 'rt staticlib docket_host' in {}",
+            "no {}: run 'tools/archive' in {}",
             archive.display(),
             repository.display()
         ));

@@ -1,4 +1,6 @@
 // What lodging a text answers, and the line that shows it.
+#![tactic(auto)]
+
 ghost use Rattle.std.specs.Prelude.{◌≡◌, [], ◌∷◌, ◌++◌, ◌≤◌, length};
 ghost use Rattle.writer.specs.Written.{over, figure};
 ghost use Rattle.answer.specs.StatedAnswers.{its_cost, its_bound, stated};
@@ -11,7 +13,7 @@ use writer::Figure;
 pub mod values;
 
 // Refused; or held or passed, a schedule with its cost and a tree with its figures; or held, any other text, with none.
-#[derive(Drop)]
+#[derive(Clone, Copy)]
 pub enum Answer {
     Refused(Refusal),
     TextHeld,

@@ -1,4 +1,6 @@
 // Decimal numbers in bytes: the number that starts at a place of a text.
+#![tactic(auto)]
+
 ghost use Rattle.std.specs.Prelude.{◌≡◌, true, ◌+◌, ◌-◌, ◌*◌, ◌≤◌, min, length};
 ghost use Rattle.decimal.specs.Decimal.{is_digit};
 ghost use Rattle.decimal.specs.NumberRead.{read_cap, digits_after, digits_at, number_at};
@@ -10,15 +12,18 @@ const CAP: u64 = 10_000_000_000;
 // Most numbers have no more.
 const FIRST: usize = 5;
 
+// The byte of the digit 0.
+const ZERO: u8 = 48;
+
 // What stands at a place of a text: no number without leading zeros, or one, with its value and the place after it.
-#[derive(Drop)]
+#[derive(Clone, Copy)]
 pub enum Number {
     Malformed,
     Value { value: u64, next: usize },
 }
 
 // Digits at a place of a text: their value, or the cap, and the place after them.
-#[derive(Drop)]
+#[derive(Clone, Copy)]
 struct DigitsRead {
     value: u64,
     end: usize,
@@ -109,7 +114,7 @@ pub fn read_number(s: &[u8], at: usize) -> Number
         return Number::Malformed;
     }
     if at + 1 < end {
-        if s[at] == 48 {
+        if s[at] == ZERO {
             return Number::Malformed;
         }
         return Number::Value { value, next: end };

@@ -29,7 +29,7 @@ module _ {A : Type 0} (p : A → Bool) where
   every_mem (y ∷ l) h = T_and (p y) (every p l) (h y (Memᴰ.head refl)) (every_mem l (λ x m. h x (Memᴰ.tail m)))
 
   mem_every : (l : List A) → T (every p l) → (x : A) → Memᴰ x l → T (p x)
-  mem_every [] t x m = absurd (Memᴰ.not_nil m)
+  mem_every [] t x m = absurd (Memᴰ.not-nil m)
   mem_every (y ∷ l) t x m = go (Memᴰ.cases_cons m) (λ k. mem_every l (T_and_r (p y) (every p l) t) x k)
     where
       go : (x ≡ y) ⊎ Memᴰ x l → (Memᴰ x l → T (p x)) → T (p x)

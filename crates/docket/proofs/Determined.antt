@@ -62,7 +62,7 @@ answers_back (a ∷ l) =
 -- ---- what is held is one thing
 
 pub no_first : {A : Type 0} (better : A → A → Bool) (h : A) (l : List A) → First better h l → l ≡ [] → ⊥
-no_first better h l f e = Memᴰ.not_nil (subst (λ (k : List _). Memᴰ h k) e (first_mem better h l f))
+no_first better h l f e = Memᴰ.not-nil (subst (λ (k : List _). Memᴰ h k) e (first_mem better h l f))
 
 module _ (P : Instance) where
   cost_one : (l : List Costed) (c c' : HeldCost) (rows rows' : List ℕ) → CostHeld P l c rows → CostHeld P l c' rows' → (c ≡ c') × (rows ≡ rows')

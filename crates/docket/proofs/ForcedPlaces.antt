@@ -1,7 +1,7 @@
 -- The entries of all units in one list: where each entry stands in it, and that there is no other place.
 use mathlib.Core.Path.{◌≡◌, refl, sym, ap, ◌∙◌}
 use mathlib.Core.Bool.{Bool, true, false}
-use mathlib.Core.List.{List, [], ◌∷◌, map}
+use mathlib.Core.List.{List, [], ◌∷◌}
 use mathlib.Core.Logic.{◌⊎◌, inl, inr}
 use mathlib.Core.Option.{none}
 use Prim.Native.Nat.{ℕ, zero, suc, ◌+◌, ◌*◌, ◌-◌, ◌<◌, ◌≤◌}
@@ -15,12 +15,6 @@ use Rattle.model.specs.Forced.{forced_least, forced_pair, forced_table, forced_t
 use Rattle.model.proofs.Lowest.{compare}
 use Rattle.forced.proofs.UnitEntries.{forced_table_long}
 use Rattle.docket.specs.Requested.{place}
-
--- a member inside a list, of what it is mapped to
-pub map_at : {A B : Type 0} (f : A → B) (l : List A) (i : ℕ) (a : A) (b : B) → i < length l → get_or (map f l) i b ≡ f (get_or l i a)
-map_at f [] i a b h = absurd (omega arith)
-map_at f (x ∷ l) zero a b h = refl
-map_at f (x ∷ l) (suc i) a b h = map_at f l i a b (omega arith)
 
 -- ---- places
 

@@ -19,6 +19,7 @@ use Rattle.model.specs.Agreement.{LeafOf, above, leaf_at}
 use Rattle.model.specs.Leaf.{is_stuck, unit_least}
 use Rattle.model.specs.Forced.{unit_answer, force, forced_least, forced_tables, value_number, stuck_number}
 use Rattle.model.specs.Tree.{price, Tree, GoodLeaf, Limits}
+use Rattle.layout.proofs.Ranks.{map_at}
 use Rattle.least.specs.declared.unit.Least.TheVariants.{Stuck, Value}
 use Rattle.least.specs.UnitLeasts.{least_of}
 use Rattle.least.proofs.UnitParts.{all_get_d}
@@ -40,7 +41,7 @@ use Rattle.docket.specs.Requested as said
 use Rattle.docket.specs.Requested.{as_entry, place, Entries, EntriesTold, status_bytes}
 use Rattle.docket.proofs.AskedUnder.{its_known, none_known, judged_known, given_known, none_given}
 use Rattle.docket.proofs.StatusBytes.{bytes_long, all_bytes, bytes_same, good_leaf}
-use Rattle.docket.proofs.ForcedPlaces.{map_at, place_inside, placed_same, tables_at}
+use Rattle.docket.proofs.ForcedPlaces.{place_inside, placed_same, tables_at}
 use Rattle.docket.proofs.ForcedAsked.{forced_known, forced_none}
 
 -- ---- one entry

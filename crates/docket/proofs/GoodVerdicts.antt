@@ -72,7 +72,7 @@ module _ {A : Type 0} (R : A → Type 0) where
   all_both (x ∷ a) b h k = (h.0, all_both a b h.1 k)
 
   pub all_mem : (l : List A) → All R l → (x : A) → Memᴰ x l → R x
-  all_mem [] h x m = absurd (Memᴰ.not_nil m)
+  all_mem [] h x m = absurd (Memᴰ.not-nil m)
   all_mem (y ∷ l) h x m = go (Memᴰ.cases_cons m) (λ k. all_mem l h.1 x k)
     where
       go : (x ≡ y) ⊎ Memᴰ x l → (Memᴰ x l → R x) → R x

@@ -35,7 +35,7 @@ use Rattle.problem.proofs.WhichLine as problem_lines
 use Rattle.schedule.specs.Refusals.{Written}
 use Rattle.schedule.specs.Refusals as of_schedule
 use Rattle.schedule.proofs.WhichLine as schedule_lines_refused
-use Rattle.tree.specs.Refusals as of_Tree
+use Rattle.tree.specs.Refusals as of_tree
 use Rattle.tree.proofs.WhichLine as tree_lines_refused
 use Rattle.schedule.specs.WellFormed as schedule_lines
 use Rattle.tree.specs.WellFormed as tree_lines
@@ -107,8 +107,8 @@ module _ (P : Instance) (W : WellFormed P) where
       → (v : Written) → Beginning of_schedule.written_lines (of_schedule.InLimits P) (r.before ++ (x ∷ [])) v → ⊥
   schedule_line text n m = schedule_lines_refused.with_it_none P W.periods_in.0 n m (later (lines_of text))
 
-  pub tree_line : (text : List ℕ) (n m : ℕ) (r : of_Tree.RefusedAt P text n m) (x : Line) (rest : List Line) → r.left ≡ x ∷ rest
-      → (v : of_Tree.WrittenTree) → Beginning of_Tree.written_lines (of_Tree.HoldsSoFar P) (r.before ++ (x ∷ [])) v → ⊥
+  pub tree_line : (text : List ℕ) (n m : ℕ) (r : of_tree.RefusedAt P text n m) (x : Line) (rest : List Line) → r.left ≡ x ∷ rest
+      → (v : of_tree.WrittenTree) → Beginning of_tree.written_lines (of_tree.HoldsSoFar P) (r.before ++ (x ∷ [])) v → ⊥
   tree_line text n m = tree_lines_refused.with_it_none P W.periods_in.0 n m text
 
 -- ---- Demand 2, of a tree's bound: it is the smallest value of its leaves (one without prices has never, which is above every number)

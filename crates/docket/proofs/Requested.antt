@@ -144,16 +144,16 @@ module _ (P : Instance) (W : WellFormed P) where
     -- Above every node the numbers of units on that are possible in a period, between the counts that stand, are `possible` in a row, and one at least
     pub counts_possible : (n : NodeOf t) (v : ℕ) → (1 ≤ possible P (above_node root t n) v)
         × ((k : ℕ) → Possible P (above_node root t n) v k ↔ (((above_node root t n).least v ≤ k) × (k < (above_node root t n).least v + possible P (above_node root t n) v)))
-    counts_possible n v = (narrowing.node_possible P W.Units_in.0 t limits n v, narrowing.node_numbers P W.Units_in.0 t limits n v)
+    counts_possible n v = (narrowing.node_possible P W.units_in.0 t limits n v, narrowing.node_numbers P W.units_in.0 t limits n v)
 
     -- so at most I counts of a period stand above a leaf,
     pub counts_within : (i : LeafOf t) (v : ℕ) → counts_above t i v ≤ length P.units
-    counts_within = narrowing.counts_within P W.Units_in.0 t limits
+    counts_within = narrowing.counts_within P W.units_in.0 t limits
 
   -- since a count leaves fewer of its period on either side, and of no other fewer or more
   pub counts_narrow : (A : Above) (t K : ℕ) → GoodFork P A (count t K) → (b : Bool)
       → (possible P (side (count t K) b A) t < possible P A t) × ((v : ℕ) → (t ≡ v → ⊥) → possible P (side (count t K) b A) v ≡ possible P A v)
-  counts_narrow A t K g b = (narrowing.counts_narrow P W.Units_in.0 A t K g b, narrowing.others_keep P A t K b)
+  counts_narrow A t K g b = (narrowing.counts_narrow P W.units_in.0 A t K g b, narrowing.others_keep P A t K b)
 
 -- ---- [2] The capacity sum may stop when enough
 

@@ -10,7 +10,7 @@ use lib.ListN.{length, length-append, get_or-append}
 use lib.Seq.{get_or-append-add}
 use Rattle.model.specs.Instance.{Instance, ◌at◌}
 use Rattle.model.specs.Ranges.{All}
-use Rattle.model.specs.Above.{Mark, free, fixed, Marks, rest, Above}
+use Rattle.model.specs.Above.{side, Mark, free, fixed, Marks, rest, Above}
 use Rattle.model.specs.Agreement.{LeafOf, leaf_at}
 use Rattle.model.specs.Leaf.{range}
 use Rattle.model.specs.Tree.{Tree, leaf, fork, GoodLeaf, Limits}
@@ -71,5 +71,5 @@ bytes_same P m u h v l =
 pub good_leaf : (P : Instance) (A : Above) (d : ℕ) (t : Tree) → Limits P A d t → (i : LeafOf t) → GoodLeaf P (leaf_at t i)
 unfolding Limits
 good_leaf P A d (leaf l) h i = h
-good_leaf P A d (fork f x y) h (inl i) = good_leaf P _ _ x h.2 i
-good_leaf P A d (fork f x y) h (inr i) = good_leaf P _ _ y h.3 i
+good_leaf P A d (fork f x y) h (inl i) = good_leaf P (side f false A) (suc d) x h.2 i
+good_leaf P A d (fork f x y) h (inr i) = good_leaf P (side f true A) (suc d) y h.3 i

@@ -16,7 +16,7 @@ use Rattle.schedule.specs.Rendering as schedules
 use Rattle.schedule.specs.Acceptance.{RefusedFor}
 use Rattle.tree.specs.Rendering as trees
 use Rattle.tree.specs.Acceptance.{bounded}
-use Rattle.tree.specs.Refusals as of_Tree
+use Rattle.tree.specs.Refusals as of_tree
 use Rattle.docket.specs.Verdicts.{Verdict, refused, problem, schedule, tree, known_after}
 
 -- at most 1,048,576 bytes
@@ -54,7 +54,7 @@ pub data Is : Option Instance → List ℕ → Verdict → Type 0 where
       → GoodWriter w → GoodRows P s → Meets P s
       → Is (some P) text (schedule (record { writer = w; cost = cost P s; rows = s }))
   -- a tree: 12 to 14 or 31 to 37 at a line; else the text is that of a tree within the limits, every leaf of which meets its rule
-  tree_refused : {P : Instance} {text : List ℕ} (n l : ℕ) → Short text → Begins text kind_tree → of_Tree.RefusedAt P text n l → Is (some P) text (refused_line n l)
+  tree_refused : {P : Instance} {text : List ℕ} (n l : ℕ) → Short text → Begins text kind_tree → of_tree.RefusedAt P text n l → Is (some P) text (refused_line n l)
   a_tree : {P : Instance} {text : List ℕ} (w : ℕ) (t : Tree) → Short text → text ≡ trees.render w t
       → GoodWriter w → Limits P root 0 t → Holds P root t
       → Is (some P) text (tree (bounded w (tree_figures P t)))

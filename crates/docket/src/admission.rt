@@ -7,7 +7,7 @@ use refusal::Refusal;
 use text::Kind;
 
 // Refused before its lines, or judged by the lines of its kind.
-#[derive(Drop)]
+#[derive(Clone, Copy)]
 pub enum Admission {
     Refused(Refusal),
     Problem,
@@ -16,7 +16,7 @@ pub enum Admission {
 }
 
 // Refused before its lines, or left to be judged by them, whatever its kind.
-#[derive(Drop)]
+#[derive(Clone, Copy)]
 pub enum Screened {
     Refused(Refusal),
     Admitted,

@@ -1,34 +1,34 @@
 // What is held: a cost and a bound, each with its writer.
 
 // A held cost and its writer.
-#[derive(Drop)]
+#[derive(Clone, Copy)]
 pub struct CostBy {
     pub cost: u64,
     pub writer: u64,
 }
 
 // None, or a number with its writer.
-#[derive(Drop)]
+#[derive(Clone, Copy)]
 pub enum HeldCost {
     Nothing,
     Number(CostBy),
 }
 
 // A held number and its writer.
-#[derive(Drop)]
+#[derive(Clone, Copy)]
 pub struct BoundBy {
     pub value: i64,
     pub writer: u64,
 }
 
 // The writer of a held `never`.
-#[derive(Drop)]
+#[derive(Clone, Copy)]
 pub struct NeverBy {
     pub writer: u64,
 }
 
 // None, a number or never, with its writer.
-#[derive(Drop)]
+#[derive(Clone, Copy)]
 pub enum HeldBound {
     Nothing,
     Number(BoundBy),
@@ -36,7 +36,7 @@ pub enum HeldBound {
 }
 
 // The held cost and the held bound.
-#[derive(Drop)]
+#[derive(Clone, Copy)]
 pub struct Held {
     pub cost: HeldCost,
     pub bound: HeldBound,

@@ -1,4 +1,6 @@
 // The docket: what it holds, what lodging a text answers, its report, and what it tells of the units that `short` takes and of the runs behind a price leaf's value.
+#![tactic(auto)]
+
 ghost use Rattle.std.specs.Prelude.{◌≡◌};
 ghost use Rattle.docket.specs.Docket.{fresh_docket};
 ghost use Rattle.docket.specs.Lodging.{lodge_of};
@@ -25,7 +27,7 @@ pub mod sound;
 pub mod taking;
 
 // A problem if one is known, what is held under it, and the held schedule's rows: row u from u times T on, zeros after the last.
-#[derive(Drop)]
+#[derive(Clone, Copy)]
 pub struct Docket {
     pub known: bool,
     pub problem: Problem,
@@ -34,14 +36,14 @@ pub struct Docket {
 }
 
 // The docket after a text was lodged in it, and the answer to the text.
-#[derive(Drop)]
+#[derive(Clone, Copy)]
 pub struct Lodged {
     pub docket: Docket,
     pub answer: Answer,
 }
 
 // The docket as it was, and the answer to a report asked for.
-#[derive(Drop)]
+#[derive(Clone, Copy)]
 pub struct Reported {
     pub docket: Docket,
     pub answer: ReportAnswer,

@@ -11,7 +11,7 @@ use leaves::short::{Taken, sum_until};
 use model::arrays::Problem;
 
 // What is answered: that no problem is known, that the question does not fit the problem, or what was taken.
-#[derive(Drop)]
+#[derive(Clone, Copy)]
 pub enum TakenAnswer {
     NoProblem,
     Unfit,

@@ -1,5 +1,7 @@
 // The docket for programs in C, Rust and Python (hosts/), in the archive libdocket_host.a: a docket that stays open, whose state lies in two
 // slices that the caller lends and keeps between calls; and the listing, one function on bytes.
+#![tactic(auto)]
+
 ghost use Rattle.std.specs.Prelude.{◌≡◌, cond, ◌≤◌, length};
 ghost use Rattle.list.specs.Listing.{listed_of, output_of};
 ghost use Rattle.state.specs.Layout.{numbers_count, rows_count};

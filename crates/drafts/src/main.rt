@@ -1,20 +1,24 @@
 // Prints what a docket tells of the runs of price leaves that were worked out by hand: the answer, then the outputs, a unit's after another's, and the shortfalls. Where no
 // runs are found these are the sevens that were lent. The file stdout beside src/ has the lines; docs/DECISIONS.md, 126 to 129, says what is asked.
+#![tactic(auto)]
+
 ghost use Rattle.std.specs.Prelude.{◌≤◌};
 
 use docket::Docket;
-use libc::STDOUT_FILENO;
 use runs::drafting::RunsAnswer;
 use writer::Figure;
 
+// The file number of standard output.
+const STDOUT: i32 = 1;
+
 // Prints bytes as they are.
 fn print(s: &[u8]) {
-    io::write_all(STDOUT_FILENO, s);
+    io::write_all(STDOUT, s);
 }
 
 // Prints a number.
 fn print_number(n: u64) {
-    io::print_decimal(STDOUT_FILENO, n);
+    io::print_decimal(STDOUT, n);
 }
 
 // Prints a value.

@@ -8,7 +8,7 @@ use docket::Docket;
 use docket::held::{BoundBy, CostBy, Held, HeldBound, HeldCost};
 
 // The docket in hand, and those that are kept under 1 to 7.
-#[derive(Drop)]
+#[derive(Clone, Copy)]
 pub struct Dockets {
     pub all: [Docket; 8],
 }

@@ -3,10 +3,11 @@
 // `lodge`, `give`, `ask` and `units`; `fresh`, `keep` and `take`, which say in which docket; and `set`, which makes dockets that no lodging
 // makes. The file stdin beside src/ has the cases, and says above them what each order does. A line that is no order is printed, so that the
 // file stdout does not fit.
+#![tactic(auto)]
+
 ghost use Rattle.std.specs.Prelude.{◌≡◌, length};
 
 use crate::dockets::Dockets;
-use libc::STDIN_FILENO;
 
 mod dockets;
 mod orders;
@@ -14,6 +15,9 @@ mod questions;
 mod show;
 mod texts;
 mod words;
+
+// The file number of standard input.
+const STDIN: i32 = 0;
 
 // Zeros: room for the orders, and one byte more, which tells that there are too many.
 fn input_room() -> [u8; 65537]
@@ -35,7 +39,7 @@ fn run(input: &[u8], text: &mut [u8]) {
     let mut size = 0;
     let mut at = 0;
     while at < input.len() {
-        let end = bytes::scan::find(input, at, input.len(), 10);
+        let end = words::find(input, at, 10);
         let line = &input[at..end];
         let order = orders::read(line);
         size = texts::run(order, size, line, text);
@@ -50,7 +54,7 @@ fn run(input: &[u8], text: &mut [u8]) {
 fn main() {
     let mut input = input_room();
     let mut text = text_room();
-    let n = io::read_full(STDIN_FILENO, &mut input);
+    let n = io::read_full(STDIN, &mut input);
     if n == 65537 {
         show::misread(b"more than 65536 bytes");
     }

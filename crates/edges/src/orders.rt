@@ -4,7 +4,7 @@ use crate::words::Numeral;
 use crate::{show, words};
 
 // A line as it is read: its code, its numbers, and where what follows its beginning starts.
-#[derive(Drop)]
+#[derive(Clone, Copy)]
 pub struct Order {
     pub code: usize,
     pub a: u64,
@@ -33,7 +33,7 @@ fn begin(line: &[u8], beginnings: &[u8]) -> Order {
     let mut at = 0;
     let mut code = 0;
     while at < beginnings.len() {
-        let end = bytes::scan::find(beginnings, at, beginnings.len(), 47);
+        let end = words::find(beginnings, at, 47);
         if text::starts(line, 0, &beginnings[at..end]) {
             return bare(code, end - at);
         }

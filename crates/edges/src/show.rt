@@ -7,16 +7,18 @@ use docket::held::{HeldBound, HeldCost};
 use docket::taking::TakenAnswer;
 use docket::{Docket, Lodged};
 use leaves::short::Taken;
-use libc::STDOUT_FILENO;
 use model::arrays::Problem;
 use model::figures::{Bound, TreeFigures};
 use refusal::Refusal;
 use report::ReportAnswer;
 use writer::Figure;
 
+// The file number of standard output.
+const STDOUT: i32 = 1;
+
 // Prints bytes as they are.
 pub fn print(s: &[u8]) {
-    io::write_all(STDOUT_FILENO, s);
+    io::write_all(STDOUT, s);
 }
 
 // Prints a line that is no order.
@@ -28,7 +30,7 @@ pub fn misread(line: &[u8]) {
 
 // Prints a number.
 fn print_number(n: u64) {
-    io::print_decimal(STDOUT_FILENO, n);
+    io::print_decimal(STDOUT, n);
 }
 
 // Prints a comma and a number.

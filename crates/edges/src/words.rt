@@ -1,15 +1,31 @@
 // The words of an order.
-ghost use Rattle.std.specs.Prelude.{◌≡◌, ◌+◌, ◌-◌, ◌*◌, ◌≤◌, ◌&&◌, length, nat_lt};
-ghost use Rattle.bytes.specs.Bytes.{index_of};
+ghost use Rattle.std.specs.Prelude.{◌≡◌, ◌+◌, ◌-◌, ◌*◌, ◌≤◌, ◌&&◌, length, drop, nat_lt};
 ghost use Rattle.decimal.specs.Decimal.{is_digit, canonical};
-ghost use Rattle.edges.specs.Words.{first_word, rest_of};
+ghost use Rattle.edges.specs.Words.{index_of, first_word, rest_of};
 ghost use Rattle.edges.specs.Numbers.{limit, value_below, number_below};
 
 // No number, or its value.
-#[derive(Drop)]
+#[derive(Clone, Copy)]
 pub enum Numeral {
     Malformed,
     Value(u64),
+}
+
+// The place of the first byte b from `from` on, or the number of bytes where there is none.
+pub fn find(s: &[u8], from: usize, b: u8) -> usize
+    requires { from ≤ length s.now }
+    ensures value { result ≡ from + index_of b (drop from s.now) }
+    ensures lower_bound { from ≤ result }
+    ensures upper_bound { result ≤ length s.now }
+{
+    let mut i = from;
+    while i < s.len() {
+        if s[i] == b {
+            return i;
+        }
+        i += 1;
+    }
+    i
 }
 
 // The place of the first space, or the number of bytes where there is none.
@@ -17,7 +33,7 @@ fn space(s: &[u8]) -> usize
     ensures value { result ≡ index_of 32 s.now }
     ensures upper_bound { result ≤ length s.now }
 {
-    bytes::scan::find(s, 0, s.len(), 32)
+    find(s, 0, 32)
 }
 
 // The first word.

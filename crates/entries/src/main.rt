@@ -1,21 +1,25 @@
 // Prints what a docket tells of forced statuses in cases that were worked out by hand: the answer, then the values, unit by unit and period by period, off forced before on
 // forced, and which of the entries say stuck. Where none are written these are the sevens that were lent. The file stdout beside src/ has the lines; docs/DECISIONS.md, 134
 // to 137, says what is asked.
+#![tactic(auto)]
+
 ghost use Rattle.std.specs.Prelude.{◌≤◌};
 
 use docket::Docket;
 use forced::answering::ForcedAnswer;
-use libc::STDOUT_FILENO;
 use writer::Figure;
+
+// The file number of standard output.
+const STDOUT: i32 = 1;
 
 // Prints bytes as they are.
 fn print(s: &[u8]) {
-    io::write_all(STDOUT_FILENO, s);
+    io::write_all(STDOUT, s);
 }
 
 // Prints a number.
 fn print_number(n: u64) {
-    io::print_decimal(STDOUT_FILENO, n);
+    io::print_decimal(STDOUT, n);
 }
 
 // Prints a value.

@@ -6,8 +6,8 @@ use Prim.Native.Nat.{ℕ, zero, suc, ◌+◌, ◌*◌, ◌-◌, ◌≤◌, ◌<�
 use native.Mathlib.Numerals.{add-one}
 use native.Mathlib.Omega.{arith}
 use lib.IntN.{ℤ}
-use lib.ListN.{length, get_or, take, drop, length-append, length-drop, length-map}
-use lib.Seq.{take_all, take_at, take-length, length-take-le}
+use lib.ListN.{length, get_or, take, drop, length-append, length-map}
+use lib.Seq.{take_all, take-length}
 use borrow.Rule.Slice.PartMut.{put_mid}
 use Rattle.model.specs.declared.generator.Generator.{Generator}
 use Rattle.model.specs.Instance.{Instance}
@@ -16,6 +16,7 @@ use Rattle.model.specs.Above.{Marks, rest}
 use Rattle.model.specs.Forced.{forced_table, forced_tables}
 use Rattle.walk.specs.Marks.{marks_of, marks_in}
 use Rattle.least.proofs.UnitParts.{all_get_d, part_same}
+use Rattle.runs.proofs.PartsWritten.{part_behind}
 use Rattle.forced.proofs.UnitEntries.{forced_table_ext, forced_table_long}
 
 -- ---- one unit's entries, by its part of the fixed statuses
@@ -44,19 +45,6 @@ module _ (n : ℕ) (q s : ℕ → ℕ) where
   tables_long [] m = omega arith
   tables_long (g ∷ l) m =
       omega (arith, length-append (forced_table n q s g (m 0)) (forced_tables n q s l (rest m)), forced_table_long n q s g (m 0), tables_long l (rest m))
-
--- ---- a part written behind what is done
-
-part_behind : {A : Type 0} (begin end : ℕ) (whole done part : List A) → begin ≤ end → end ≤ length whole → take begin whole ≡ done → length part ≡ end - begin
-    → (length (put_mid begin (end - begin) whole part) ≡ length whole) × (take end (put_mid begin (end - begin) whole part) ≡ done ++ part)
-part_behind begin end whole done part l room e h =
-    let long : length (take begin whole) ≡ begin = length-take-le begin whole (omega arith) in
-    let after = drop (end - begin) (drop begin whole) in (
-      omega (arith, long, h, length-append (take begin whole) (part ++ after), length-append part after, length-drop (end - begin) (drop begin whole), length-drop begin whole),
-      ap (take end) (sym (append_assoc (take begin whole) part after))
-          ∙ take_at (take begin whole ++ part) after end (omega (arith, long, h, length-append (take begin whole) part))
-          ∙ ap (λ (x : List _). x ++ part) e,
-    )
 
 -- ---- the loop over the units
 

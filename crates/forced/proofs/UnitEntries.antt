@@ -194,7 +194,7 @@ module _ (g : Generator) (m : ℕ → Mark) (q s on off rest entries after : Lis
 
       same : (t : ℕ) → t < n → (d : Bool) → costs_of on off t d ≡ worth g (q at t) (s at t) d
       same t l true = K.on_at t l
-      same t l false = K.Off_at t l
+      same t l false = K.off_at t l
 
   -- the array of the entries begins with them
   entries_front : take (2 * n) (entries ++ after) ≡ entries

@@ -10,7 +10,7 @@ use model::arrays::Problem;
 use runs::drafting::are_prices;
 
 // That no problem is known, that the question does not fit the problem, or that the entries are written.
-#[derive(Drop)]
+#[derive(Clone, Copy)]
 pub enum ForcedAnswer {
     NoProblem,
     Unfit,

@@ -12,7 +12,7 @@ use model::arrays::Problem;
 use model::generator::Generator;
 
 // The rules of one unit in one period: 21, 24 and 25.
-#[derive(Drop)]
+#[derive(Clone, Copy)]
 pub enum Rule {
     Limits,
     UpDown,

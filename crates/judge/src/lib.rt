@@ -1,5 +1,7 @@
 // A schedule's judgement under a held problem: the first rule that it breaks, or its cost. Units and periods count from 0 in
 // the code, and from 1 in what it answers.
+#![tactic(auto)]
+
 ghost use Rattle.std.specs.Prelude.{◌≡◌};
 ghost use Rattle.model.specs.Held.{view};
 ghost use Rattle.judge.specs.Judgement.{judgement};
@@ -19,14 +21,14 @@ use crate::place::{Found, Place};
 use model::arrays::Problem;
 
 // A broken rule's number, 21 to 25, and the place of its first breach.
-#[derive(Drop)]
+#[derive(Clone, Copy)]
 pub struct Broken {
     pub number: u64,
     pub place: Place,
 }
 
 // The first rule that a schedule breaks, or its cost.
-#[derive(Drop)]
+#[derive(Clone, Copy)]
 pub enum Judgement {
     Breaks(Broken),
     Costs(u64),

@@ -1,14 +1,14 @@
 // Where a rule is broken first.
 
 // A unit and a period, which count from 1; unit 0 where no unit applies.
-#[derive(Drop)]
+#[derive(Clone, Copy)]
 pub struct Place {
     pub unit: usize,
     pub period: usize,
 }
 
 // The place of a rule's first breach, if there is one.
-#[derive(Drop)]
+#[derive(Clone, Copy)]
 pub enum Found {
     Nothing,
     At(Place),

@@ -11,7 +11,7 @@ use model::generator::Generator;
 
 // Where a walk along a row's statuses stands: the status last passed and the periods just spent in it, how many statuses were
 // not permitted, and what the starts and stops cost.
-#[derive(Drop)]
+#[derive(Clone, Copy)]
 struct Walk {
     on: bool,
     spent: usize,
@@ -20,7 +20,7 @@ struct Walk {
 }
 
 // The places at which a row, or a schedule, breaks 21, 24 and 25, and its cost.
-#[derive(Drop)]
+#[derive(Clone, Copy)]
 pub struct Tallies {
     pub limits: u16,
     pub updown: u16,

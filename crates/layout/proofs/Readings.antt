@@ -58,7 +58,7 @@ module _ (v : List ℕ) where
     of_rank_at f k e =
         sym (get_or-take (length (instance_in v).units) (drop k v) u 0 inside ∙ get_or-drop k v u 0)
         ∙ ap (λ (l : List ℕ). get_or l u 0) e
-        ∙ map_at f (ranked (instance_in v).units) u (omega (arith, inside, ranked_long (instance_in v).units))
+        ∙ map_at f (ranked (instance_in v).units) u 0 0 (omega (arith, inside, ranked_long (instance_in v).units))
 
   module _ (t : ℕ) (within : t < (instance_in v).periods) where
     pub demand_at : v at (2 + t) ≡ (instance_in v).demand at t

@@ -1,4 +1,6 @@
 // A problem's numbers in one array, so that they can be lent.
+#![tactic(auto)]
+
 ghost use Rattle.std.specs.Prelude.{◌≡◌, cond, ◌≤◌, ◌<◌, length, get_or};
 ghost use Rattle.model.specs.Instance.{◌at◌};
 ghost use Rattle.model.specs.Held.{blank_generator};

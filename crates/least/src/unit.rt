@@ -13,7 +13,7 @@ use model::generator::Generator;
 use walk::walk_value;
 
 // That a unit is stuck, or a least value.
-#[derive(Drop)]
+#[derive(Clone, Copy)]
 pub enum Least {
     Stuck,
     Value(i64),

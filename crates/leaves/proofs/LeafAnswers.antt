@@ -30,4 +30,4 @@ pub leasts_small : (P : Instance) → WellFormed P → (m : Marks) (q s : List �
     → SmallLeast (leasts_of P.periods (λ t. q at t) (λ t. s at t) P.units m)
 leasts_small P W m q s good =
     small_least (any_stuck P.periods P.units m) (units_least P.periods (λ t. q at t) (λ t. s at t) P.units m)
-    (units_small P.periods q s good P.units W.units_good W.Units_in.1 m)
+    (units_small P.periods q s good P.units W.units_good W.units_in.1 m)

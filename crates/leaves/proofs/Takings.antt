@@ -142,7 +142,7 @@ module _ (p : ℕ → Bool) (f : ℕ → ℕ) (c : List ℕ) (K d : ℕ) where
         here : get_or all_taken k 0 ≡ f (get_or c i 0)
         here =
             get_or-take K (map f (those p c)) k 0 r
-            ∙ map_at f (those p c) k (omega (arith, n.inside, P.many))
+            ∙ map_at f (those p c) k 0 0 (omega (arith, n.inside, P.many))
             ∙ ap f (ap (λ (j : ℕ). get_or (those p c) j 0) P.many ∙ n.here)
 
     -- ---- a turn more, the next having this mark

@@ -12,7 +12,7 @@ use layout::ranking::{place_at, size_at};
 use layout::{demand_at, pU_at, periods_in, spare_at, units_in};
 
 // Whether the units taken are short, and how many they are.
-#[derive(Drop)]
+#[derive(Clone, Copy)]
 pub struct Taken {
     pub short: bool,
     pub units: usize,

@@ -93,7 +93,7 @@ module _ (P : Instance) (W : WellFormed P) (s : Schedule) where
   period_small n t k h = (k, (omega arith, (omega arith, omega (arith, h, W.periods_in.1))))
 
   unit_small : (n u t : ℕ) (R : Generator → List ℕ → Type 0) → n < 100 → t < P.periods → Of u R P.units s → Small (answers.refused n 0 (suc u) (suc t))
-  unit_small n u t R k h o = (k, (omega arith, (omega (arith, unit_within u R P.units s o, W.Units_in.1), omega (arith, h, W.periods_in.1))))
+  unit_small n u t R k h o = (k, (omega arith, (omega (arith, unit_within u R P.units s o, W.units_in.1), omega (arith, h, W.periods_in.1))))
 
   rule_small : (b : Breach) → Broken P s b → Small (answers.refused b.number 0 b.unit b.period)
   rule_small b (limits u t h o) = unit_small 21 u t _ (omega arith) h o

@@ -1,4 +1,6 @@
 // The listing on bytes: the texts of an input lodged in turn in one fresh docket, a line for each answer, then the report.
+#![tactic(auto)]
+
 ghost use Rattle.std.specs.Prelude.{◌≡◌, true, ◌+◌, ◌≤◌, length};
 ghost use Rattle.pieces.specs.Pieces.{pieces};
 ghost use Rattle.report.specs.Report.{put_at};
@@ -13,7 +15,7 @@ use docket::{Docket, admission};
 use report::ReportAnswer;
 
 // What the listing answers: the lent buffer is too small, or how many bytes were written.
-#[derive(Drop)]
+#[derive(Clone, Copy)]
 pub enum Listed {
     TooSmall,
     Written(usize),

@@ -1,9 +1,16 @@
 // The listing program: lodges the texts of standard input in turn in one fresh docket, and prints a line for each answer and then
 // the report.
+#![tactic(auto)]
+
 ghost use Rattle.std.specs.Prelude.{◌≡◌, length};
 
-use libc::{STDIN_FILENO, STDOUT_FILENO};
 use list::Listed;
+
+// The file number of standard input.
+const STDIN: i32 = 0;
+
+// The file number of standard output.
+const STDOUT: i32 = 1;
 
 // Zeros: room for the most bytes that are listed and one more, which tells that there are too many.
 fn input_room() -> [u8; 65537]
@@ -22,12 +29,12 @@ fn output_room() -> [u8; 1048576]
 fn main() {
     let mut input = input_room();
     let mut output = output_room();
-    let n = io::read_full(STDIN_FILENO, &mut input);
+    let n = io::read_full(STDIN, &mut input);
     let listed = list::list(&input[..n], &mut output);
     match listed {
         Listed::TooSmall => {}
         Listed::Written(k) => {
-            io::write_all(STDOUT_FILENO, &output[..k]);
+            io::write_all(STDOUT, &output[..k]);
         }
     }
 }

@@ -21,7 +21,7 @@ use Rattle.model.proofs.Members.{mem_words, mem_those, mem_range}
 
 module _ {A B : Type 0} where
   pub gather_inv : (f : A → List B) (l : List A) {b : B} → Memᴰ b (gather f l) → (a : A) × Memᴰ a l × Memᴰ b (f a)
-  gather_inv f [] m = absurd (Memᴰ.not_nil m)
+  gather_inv f [] m = absurd (Memᴰ.not-nil m)
   gather_inv f (x ∷ l) {b} m = go (λ k. gather_inv f l k) (Memᴰ.append_cases (f x) m)
     where
       go : (Memᴰ b (gather f l) → (a : A) × Memᴰ a l × Memᴰ b (f a)) → Memᴰ b (f x) ⊎ Memᴰ b (gather f l)
@@ -32,7 +32,7 @@ module _ {A B : Type 0} where
 module _ {A : Type 0} where
   -- a member of those that pass a test is a member, and passes
   pub those_inv : (p : A → Bool) (l : List A) {x : A} → Memᴰ x (those p l) → Memᴰ x l × T (p x)
-  those_inv p [] m = absurd (Memᴰ.not_nil m)
+  those_inv p [] m = absurd (Memᴰ.not-nil m)
   those_inv p (y ∷ l) {x} m = go (p y) (λ t. t) (λ k. those_inv p l k) m
     where
       go : (c : Bool) → (T c → T (p y)) → (Memᴰ x (those p l) → Memᴰ x l × T (p x))
@@ -73,13 +73,13 @@ module _ {A : Type 0} where
     where
       go : (w ≡ []) ⊎ Memᴰ w [] → length w ≡ 0
       go (inl e) = ap length e
-      go (inr k) = absurd (Memᴰ.not_nil k)
+      go (inr k) = absurd (Memᴰ.not-nil k)
   words_long al (suc n) w m =
       let r = word_parts al n w m in
       sym (ap length r.4) ∙ ap suc (words_long al n r.1 r.3)
 
 pub range_inv : (k m p : ℕ) → Memᴰ p (range k m) → (k ≤ p) × (p < k + m)
-range_inv k zero p h = absurd (Memᴰ.not_nil h)
+range_inv k zero p h = absurd (Memᴰ.not-nil h)
 range_inv k (suc m) p h = go (λ j. range_inv (suc k) m p j) (Memᴰ.cases_cons h)
   where
     go : (Memᴰ p (range (suc k) m) → (suc k ≤ p) × (p < suc k + m)) → (p ≡ k) ⊎ Memᴰ p (range (suc k) m)

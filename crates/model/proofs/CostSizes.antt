@@ -92,7 +92,7 @@ module _ (P : Instance) (W : WellFormed P) where
     pub cost_fits : cost P s ≤ 1_692_672_000_000_000
     unfolding cost
     cost_fits =
-        let k : length P.units ≤ 32 = W.Units_in.1 in
+        let k : length P.units ≤ 32 = W.units_in.1 in
         omega (
           arith,
           sum_units_most (λ g r. Small P.periods r) (row_cost P.periods) 52_896_000_000_000
@@ -102,7 +102,7 @@ module _ (P : Instance) (W : WellFormed P) where
     pub output_fits : (t : ℕ) → t < P.periods → output P s t ≤ 320_000
     unfolding output
     output_fits t l =
-        let k : length P.units ≤ 32 = W.Units_in.1 in
+        let k : length P.units ≤ 32 = W.units_in.1 in
         omega (
           arith,
           sum_units_most (λ g r. Small P.periods r) (λ g r. r at t) 10_000 (λ g r G R. R.outputs t l) P.units W.units_good s S,
@@ -111,7 +111,7 @@ module _ (P : Instance) (W : WellFormed P) where
     pub capacity_fits : (t : ℕ) → capacity P s t ≤ 320_000
     unfolding capacity
     capacity_fits t =
-        let k : length P.units ≤ 32 = W.Units_in.1 in
+        let k : length P.units ≤ 32 = W.units_in.1 in
         omega (
           arith,
           sum_units_most (λ g r. Small P.periods r) (λ g r. if_on (on (r at t)) g.pU) 10_000 (λ g r G R. at_most (on (r at t)) g G) P.units
@@ -140,7 +140,7 @@ module _ (P : Instance) (W : WellFormed P) where
       l = usable P.units A.marks t
 
       all : total l ≤ 320_000
-      all = let k : length P.units ≤ 32 = W.Units_in.1 in omega (arith, go P.units W.units_good A.marks)
+      all = let k : length P.units ≤ 32 = W.units_in.1 in omega (arith, go P.units W.units_good A.marks)
 
       summed_most : (o : Option ℕ) → summed o l ≤ 320_000
       summed_most none = all

@@ -10,7 +10,7 @@ use lib.ListN.{length, get_or}
 use Rattle.model.specs.declared.generator.Generator.{Generator}
 use Rattle.model.specs.Above.{Mark, fixed, allows, agrees}
 use Rattle.model.specs.Forced.{force}
-use Rattle.model.proofs.Tests.{T_and, T_and_l, T_and_r, beq_refl}
+use Rattle.model.proofs.Tests.{T_and, T_and_l, T_and_r, beq_refl, beq_eq}
 use Rattle.model.proofs.WalkRuns.{later, Obeying}
 
 -- ---- agreeing, period by period
@@ -28,13 +28,6 @@ agrees_all m (d ∷ run) h = T_and (allows (m 0) d) (agrees (later m) run) (h 0 
 pub obeying_allows : (n t : ℕ) → t < n → (g : Generator) (m : ℕ → Mark) (d b : Bool) (k : ℕ) (run : List Bool) → Obeying n g m b k run
     → get_or run t false ≡ d → T (allows (m t) d)
 obeying_allows n t l g m d b k run o e = subst (λ (c : Bool). T (allows (m t) c)) e (agrees_at m run o.marked t (rw o.long l))
-
--- a fixed mark allows no status but its own
-allowed_is : (d c : Bool) → T (allows (fixed d) c) → c ≡ d
-allowed_is true true h = refl
-allowed_is true false h = absurd h
-allowed_is false true h = absurd h
-allowed_is false false h = refl
 
 -- ---- the marks with a status forced
 
@@ -84,7 +77,7 @@ forced_obeying n t l g m d may b k run o = (
   where
     status : get_or run t false ≡ d
     status =
-        allowed_is d (get_or run t false)
+        beq_eq d (get_or run t false)
         (subst (λ (a : Mark). T (allows a (get_or run t false))) (force_at t d m) (obeying_allows n t l g (force t d m) (get_or run t false) b k run o refl))
 
     here : T (allows (m t) (get_or run t false))

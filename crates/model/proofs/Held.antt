@@ -32,4 +32,4 @@ view_held P W =
 -- what is held is valid
 pub held_valid : (P : Instance) → WellFormed P → Valid (held P)
 unfolding held
-held_valid P W = record { units_fit = W.Units_in.1; well_formed = rw (view_held P W) W }
+held_valid P W = record { units_fit = W.units_in.1; well_formed = rw (view_held P W) W }

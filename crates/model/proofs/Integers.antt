@@ -82,7 +82,7 @@ min_right x y = go (le_z x y) (λ t. t)
 -- ---- the least of a list
 
 pub least_le : {x : ℤ} (l : List ℤ) → Memᴰ x l → least l ≤ℤ x
-least_le [] m = absurd (Memᴰ.not_nil m)
+least_le [] m = absurd (Memᴰ.not-nil m)
 least_le {x} (y ∷ []) m = rw (Memᴰ.eq_of_singleton m) (≤ℤ_refl y)
 least_le {x} (y ∷ (z ∷ l)) m = go (least_le (z ∷ l)) (Memᴰ.cases_cons m)
   where

@@ -95,7 +95,7 @@ module _ (P : Instance) (W : WellFormed P) (q s : ℕ → ℕ) (hq : (t : ℕ) �
   pub leaf_value_fits : (m : Marks) → (up (leaf_value P m q s) ≤ 80_000_000_000_000_000) × (down (leaf_value P m q s) ≤ 32_000_000_000_000_000)
   unfolding leaf_value
   leaf_value_fits m =
-      let k : length P.units ≤ 32 = W.Units_in.1 in
+      let k : length P.units ≤ 32 = W.units_in.1 in
       omega (
         arith,
         +ℤ-fits (units_least P.periods q s P.units m) (pos (requirement P q s)),
@@ -107,7 +107,7 @@ module _ (P : Instance) (W : WellFormed P) (q s : ℕ → ℕ) (hq : (t : ℕ) �
       → (up (ramp_leaf_value P m q s x y) ≤ 108_000_000_000_000_000) × (down (ramp_leaf_value P m q s x y) ≤ 93_000_000_000_000_000)
   unfolding ramp_leaf_value
   ramp_value_fits x y hx hy m =
-      let k : length P.units ≤ 32 = W.Units_in.1 in
+      let k : length P.units ≤ 32 = W.units_in.1 in
       omega (
         arith,
         +ℤ-fits (ramp_leasts P.periods q s x y P.units m) (pos (requirement P q s)),

@@ -115,7 +115,7 @@ equal_is x y = (
 -- a member with the value that stands before all others with it is the first with it
 first_is : (val : List ℕ → ℤ) (z : ℤ) (l : List (List ℕ)) → InOrder Smaller l → (r : List ℕ) → Memᴰ r l → val r ≡ z
     → ((r' : List ℕ) → Memᴰ r' l → val r' ≡ z → ByOutputs r r') → first_with val z l ≡ r
-first_is val z [] o r i e h = absurd (Memᴰ.not_nil i)
+first_is val z [] o r i e h = absurd (Memᴰ.not-nil i)
 first_is val z (x ∷ l) o r i e h = go (equal (val x) z) (equal_is (val x) z).0 (equal_is (val x) z).1 (Memᴰ.cases_cons i)
     (λ m. first_is val z l o.1 r m e (λ r' m' e'. h r' (Memᴰ.tail m') e'))
   where

@@ -22,5 +22,5 @@ least_mem x (y ∷ l) = go (le_z x (least (y ∷ l))) (least_mem y l)
     go false k = Memᴰ.tail k
 
 pub least_is : (l : List ℤ) (z : ℤ) → Memᴰ z l → ((x : ℤ) → Memᴰ x l → z ≤ℤ x) → least l ≡ z
-least_is [] z m h = absurd (Memᴰ.not_nil m)
+least_is [] z m h = absurd (Memᴰ.not-nil m)
 least_is (x ∷ l) z m h = ≤ℤ-antisym (least (x ∷ l)) z (least_le (x ∷ l) m) (h (least (x ∷ l)) (least_mem x l))

@@ -37,8 +37,8 @@ module _ {A : Type 0} (better : A → A → Bool) where
       before = [];
       after = [];
       parts = ap (λ (k : List A). k ++ (x ∷ [])) e;
-      worse = λ y m. absurd (Memᴰ.not_nil m);
-      no_better = λ y m. absurd (Memᴰ.not_nil m);
+      worse = λ y m. absurd (Memᴰ.not-nil m);
+      no_better = λ y m. absurd (Memᴰ.not-nil m);
     }
     step (some h) l x f = go (better x h) (λ t. t) (λ t. t)
       where
@@ -60,7 +60,7 @@ module _ {A : Type 0} (better : A → A → Bool) where
           after = [];
           parts = refl;
           worse = λ y m. older y (b tt) (Memᴰ.append_cases f.before (subst (λ (k : List A). Memᴰ y k) f.parts m));
-          no_better = λ y m. absurd (Memᴰ.not_nil m);
+          no_better = λ y m. absurd (Memᴰ.not-nil m);
         }
         go false b n = record {
           before = f.before;

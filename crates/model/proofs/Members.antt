@@ -13,7 +13,7 @@ use Rattle.model.specs.Leaf.{gather, words, those, none_of, range}
 
 module _ {A B : Type 0} where
   pub mem_gather : (f : A → List B) (l : List A) {a : A} {b : B} → Memᴰ a l → Memᴰ b (f a) → Memᴰ b (gather f l)
-  mem_gather f [] m k = absurd (Memᴰ.not_nil m)
+  mem_gather f [] m k = absurd (Memᴰ.not-nil m)
   mem_gather f (x ∷ l) {a} {b} m k = go (λ j. mem_gather f l j k) (Memᴰ.cases_cons m)
     where
       go : (Memᴰ a l → Memᴰ b (gather f l)) → (a ≡ x) ⊎ Memᴰ a l → Memᴰ b (f x ++ gather f l)
@@ -30,7 +30,7 @@ module _ {A : Type 0} where
       (Memᴰ.map (λ w. a ∷ w) (mem_words al d n w (suc_inj e) (λ t l. h (suc t) (omega arith))))
 
   pub mem_those : (p : A → Bool) (l : List A) {x : A} → Memᴰ x l → T (p x) → Memᴰ x (those p l)
-  mem_those p [] m t = absurd (Memᴰ.not_nil m)
+  mem_those p [] m t = absurd (Memᴰ.not-nil m)
   mem_those p (y ∷ l) {x} m t = go (p y) (λ e. subst (λ (z : A). T (p z)) e t) (λ k. mem_those p l k t) (Memᴰ.cases_cons m)
     where
       go : (c : Bool) → (x ≡ y → T c) → (Memᴰ x l → Memᴰ x (those p l)) → (x ≡ y) ⊎ Memᴰ x l
@@ -41,7 +41,7 @@ module _ {A : Type 0} where
       go false f ih (inr k) = ih k
 
   pub none_of_not : (p : A → Bool) (l : List A) {x : A} → T (none_of p l) → Memᴰ x l → T (p x) → ⊥
-  none_of_not p [] n m t = Memᴰ.not_nil m
+  none_of_not p [] n m t = Memᴰ.not-nil m
   none_of_not p (y ∷ l) {x} n m t = go (p y) (λ e. subst (λ (z : A). T (p z)) e t) n (λ k j. none_of_not p l k j t) (Memᴰ.cases_cons m)
     where
       go : (c : Bool) → (x ≡ y → T c) → T (not c && none_of p l) → (T (none_of p l) → Memᴰ x l → ⊥) → (x ≡ y) ⊎ Memᴰ x l → ⊥

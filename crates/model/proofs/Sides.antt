@@ -13,7 +13,7 @@ use Rattle.model.specs.Rules.{on}
 use Rattle.model.specs.Above.{Mark, free, fixed, Marks, Above, root, mark, put, Fork, status, count, side, AtMost, BelowMost, allows}
 use Rattle.model.specs.Tree.{GoodFork}
 use Rattle.model.specs.Agreement.{out, Follows, running, Agrees, takes}
-use Rattle.model.proofs.Tests.{T_and, T_and_l, T_and_r, beq_refl}
+use Rattle.model.proofs.Tests.{T_and, T_and_l, T_and_r, beq_refl, beq_eq}
 
 -- nothing stands above the root
 pub agrees_root : (s : Schedule) → Agrees root s
@@ -62,12 +62,6 @@ mark_same m U t b = go (eqb U U && eqb t t) (T_and (eqb U U) (eqb t t) (eqb_refl
 -- and has that status
 mark_takes : (m : Marks) (s : Schedule) (U t : ℕ) (b : Bool) → Follows (mark U t b m) s → on (out s U t) ≡ b
 mark_takes m s U t b h = beq_eq b (on (out s U t)) (subst (λ (x : Mark). T (allows x (on (out s U t)))) (mark_same m U t b) (h U t))
-  where
-    beq_eq : (a b : Bool) → T (beq a b) → b ≡ a
-    beq_eq true true h = refl
-    beq_eq true false h = absurd h
-    beq_eq false true h = absurd h
-    beq_eq false false h = refl
 
 -- ---- counts
 

@@ -79,7 +79,7 @@ fronts_order rows o (a ∷ al) i =
         (subst (λ (z : List ℕ). Smaller (a ∷ j.0) z) e.2 (smaller_now a k.0 j.0 e.0 (i.0 k.0 k.1)))
 
 words_order : (al : List ℕ) → InOrder ◌<◌ al → (n : ℕ) → InOrder Smaller (words al n)
-words_order al o zero = (λ y m. absurd (Memᴰ.not_nil m), tt)
+words_order al o zero = (λ y m. absurd (Memᴰ.not-nil m), tt)
 words_order al o (suc n) = fronts_order (words al n) (words_order al o n) al o
 
 range_order : (k m : ℕ) → InOrder ◌<◌ (range k m)

@@ -32,3 +32,9 @@ T_and_r false b p = absurd p
 pub beq_refl : (b : Bool) → T (beq b b)
 beq_refl true = tt
 beq_refl false = tt
+
+pub beq_eq : (a b : Bool) → T (beq a b) → b ≡ a
+beq_eq true true h = refl
+beq_eq true false h = absurd h
+beq_eq false true h = absurd h
+beq_eq false false h = refl

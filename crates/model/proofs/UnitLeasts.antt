@@ -47,7 +47,7 @@ module _ (n : ℕ) (g : Generator) (m : ℕ → Mark) where
       where
         go : (l : List (List ℕ)) → ((r : List ℕ) → Memᴰ r l → Candidate n g m r) → (((r : List ℕ) → Memᴰ r l → ⊥) → ⊥)
             → (r : List ℕ) × Candidate n g m r × (val r ≡ least (map val l))
-        go [] h k = absurd (k (λ r i. Memᴰ.not_nil i))
+        go [] h k = absurd (k (λ r i. Memᴰ.not-nil i))
         go (r ∷ l) h k = let i = Memᴰ.of_map val (r ∷ l) (least_mem (val r) (map val l)) in (i.0, h i.0 i.1, i.2)
 
     -- a stuck unit has no row

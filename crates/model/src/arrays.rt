@@ -7,7 +7,7 @@ use crate::generator::Generator;
 use crate::ranges::{Fleet, Horizon, Load, holds_both, is_between};
 
 // A problem of at most 48 periods and 32 generators; the arrays begin with the problem's own.
-#[derive(Drop)]
+#[derive(Clone, Copy)]
 pub struct Problem {
     pub periods: usize,
     pub units: usize,

@@ -3,14 +3,14 @@ ghost use Rattle.std.specs.Prelude.{◌≡◌, ◌<◌};
 ghost use Rattle.model.specs.Figures.{lower, no_figures, add_split, add_leaf};
 
 // The smallest value of the price leaves and ramp leaves, or that there is none.
-#[derive(Drop)]
+#[derive(Clone, Copy)]
 pub enum Bound {
     Never,
     Number(i64),
 }
 
 // The bound, the split lines and the leaves, of a tree or of what was read of one so far.
-#[derive(Drop)]
+#[derive(Clone, Copy)]
 pub struct TreeFigures {
     pub bound: Bound,
     pub splits: usize,

@@ -7,7 +7,7 @@ use crate::ranges::{holds_both, is_between};
 
 // Document 01's unit, with the source's names for its numbers. Tini is on and since: before period 1 the generator has
 // been on, or off, for since periods. p0 is its output at midnight (document 02, [3]).
-#[derive(Drop)]
+#[derive(Clone, Copy)]
 pub struct Generator {
     pub a: u64,
     pub b: u64,

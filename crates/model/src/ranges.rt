@@ -3,27 +3,27 @@ ghost use Rattle.std.specs.Prelude.{◌≡◌, ◌&&◌};
 ghost use Rattle.model.specs.Ranges.{between};
 
 // A number of periods.
-#[derive(Drop)]
+#[derive(Clone, Copy)]
 pub struct Horizon(pub u64);
 
 // A number of units.
-#[derive(Drop)]
+#[derive(Clone, Copy)]
 pub struct Fleet(pub u64);
 
 // A period's demand, or its spare.
-#[derive(Drop)]
+#[derive(Clone, Copy)]
 pub struct Load(pub u64);
 
 // A unit's output in a period.
-#[derive(Drop)]
+#[derive(Clone, Copy)]
 pub struct Output(pub u64);
 
 // A price or reserve multiplier.
-#[derive(Drop)]
+#[derive(Clone, Copy)]
 pub struct Price(pub u64);
 
 // The writer of a schedule or a tree.
-#[derive(Drop)]
+#[derive(Clone, Copy)]
 pub struct Writer(pub u64);
 
 impl Horizon {

@@ -1,4 +1,6 @@
 // How an input is cut into texts: after each line that begins `end=`.
+#![tactic(auto)]
+
 ghost use Rattle.std.specs.Prelude.{◌≡◌, ◌&&◌, ◌+◌, ◌-◌, ◌*◌, ◌/◌, leb, length, drop};
 ghost use Rattle.text.specs.Lines.{line_at};
 ghost use Rattle.pieces.specs.Search.{without_e, to_e};

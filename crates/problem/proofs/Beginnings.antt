@@ -93,7 +93,7 @@ module _ (P : Instance) where
     from_units (x ∷ ls) more e =
         let f : x ≡ ended (plain_line units_key (length P.units ∷ [])) = cc in
         let h : ls ++ more ≡ map ended (plain_line demand_key P.demand ∷ plain_line spare_key P.spare ∷ fleet_lines) = cc in
-        one_on 1 2 refl _ _ x _ ls f (units_judged P.periods (length P.units) W.Units_in) (from_demand ls more h)
+        one_on 1 2 refl _ _ x _ ls f (units_judged P.periods (length P.units) W.units_in) (from_demand ls more h)
 
     pub from_first : (ls more : List Line) → ls ++ more ≡ map ended (lines_after P) → Reached P 0 periods_due ls
     unfolding lines_after

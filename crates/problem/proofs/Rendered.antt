@@ -81,7 +81,7 @@ lines_good P W =
       last = nothing_due P;
       passed =
           also (periods_judged T W.periods_in)
-          (also (units_judged T I W.Units_in)
+          (also (units_judged T I W.units_in)
           (also (demand_judged T I h P.demand W.demand_long W.demand_in)
           (also (spare_judged T I h P.demand P.spare W.spare_long W.spare_in)
           (fleet_good P.units (no_units T P.demand P.spare) W.units_good))));

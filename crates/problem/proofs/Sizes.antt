@@ -68,9 +68,9 @@ render_short P W =
     let u = plain_line units_key (length P.units ∷ []) in
     let d = plain_line demand_key P.demand in
     let r = plain_line spare_key P.spare in
-    let n : 12 + 186 * length P.units ≤ 5964 = (let h = W.Units_in.1 in omega arith) in
+    let n : 12 + 186 * length P.units ≤ 5964 = (let h = W.units_in.1 in omega arith) in
     let s₄ = text_short r us 582 5964 (omega (arith, line_short spare_key 0 false P.spare R, W.spare_long, W.periods_in.1)) (omega (arith, units_short P.units W.units_good)) in
     let s₃ = text_short d (r ∷ us) 583 6547 (omega (arith, line_short demand_key 0 false P.demand D, W.demand_long, W.periods_in.1)) s₄ in
-    let s₂ = text_short u (d ∷ r ∷ us) 18 7131 (line_short units_key 0 false (length P.units ∷ []) (let h = W.Units_in.1 in omega arith, tt)) s₃ in
+    let s₂ = text_short u (d ∷ r ∷ us) 18 7131 (line_short units_key 0 false (length P.units ∷ []) (let h = W.units_in.1 in omega arith, tt)) s₃ in
     let s₁ = text_short p (u ∷ d ∷ r ∷ us) 20 7150 (line_short periods_key 0 false (P.periods ∷ []) (let h = W.periods_in.1 in omega arith, tt)) s₂ in
     text_short kind_problem (p ∷ u ∷ d ∷ r ∷ us) 12 7171 (omega arith) s₁

@@ -1,4 +1,6 @@
 // A problem's text, read into a Problem.
+#![tactic(auto)]
+
 mod unit;
 
 ghost use Rattle.std.specs.Prelude.{◌≡◌, ◌+◌, ◌≤◌, take};
@@ -15,14 +17,14 @@ use refusal::Refusal;
 use text::{End, Verdict};
 
 // What a problem's text is: refused, or accepted.
-#[derive(Drop)]
+#[derive(Clone, Copy)]
 pub enum ProblemAnswer {
     Refused(Refusal),
     Accepted,
 }
 
 // The answer, and the problem that was read; a blank one where the text is refused.
-#[derive(Drop)]
+#[derive(Clone, Copy)]
 pub struct ProblemRead {
     pub answer: ProblemAnswer,
     pub problem: Problem,

@@ -45,7 +45,7 @@ const HIGHS: [u64; 15] = [
 ];
 
 // What a unit line is, and its generator; a blank one where the line is refused.
-#[derive(Drop)]
+#[derive(Clone, Copy)]
 pub struct UnitRow {
     pub verdict: Verdict,
     pub generator: Generator,

@@ -1,3 +1,2 @@
 pub mod KindsAndEnds
-pub mod Holding
 pub mod WriterLines

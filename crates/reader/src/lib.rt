@@ -1,4 +1,6 @@
 // The reader of a text: the lent text and the next line's start, and what stands there.
+#![tactic(auto)]
+
 ghost use Rattle.std.specs.Prelude.{◌≡◌, true, drop};
 ghost use Rattle.text.specs.Lines.{one_line, lines_of, line_at, kind_of, due};
 ghost use Rattle.text.specs.Ends.{end_of};
@@ -9,28 +11,28 @@ use model::ranges::Writer;
 use text::{End, Kind, Verdict, is_line};
 
 // A lent text, and the start of its next line.
-#[derive(Drop)]
+#[derive(Clone, Copy)]
 pub struct Reader<'a> {
     text: &'a [u8],
     at: usize,
 }
 
 // What a writer's line says: a number, 12, 14 or 13, that refuses the line, or the writer.
-#[derive(Drop)]
+#[derive(Clone, Copy)]
 pub enum Written {
     Refused { number: u64 },
     By { writer: u64 },
 }
 
 // A writer's line: what it says, and the next line's start, or its own where it is refused.
-#[derive(Drop)]
+#[derive(Clone, Copy)]
 pub struct WriterLine {
     pub written: Written,
     pub next: usize,
 }
 
 // What a writer's line says, and the reader past it, or at it where it is refused.
-#[derive(Drop)]
+#[derive(Clone, Copy)]
 pub struct WriterRead<'a> {
     written: Written,
     reader: Reader<'a>,

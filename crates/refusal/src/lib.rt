@@ -1,9 +1,11 @@
 // Refusals: a number, and the place that the number carries.
+#![tactic(auto)]
+
 ghost use Rattle.std.specs.Prelude.{◌≡◌};
 ghost use Rattle.refusal.specs.Refusals.{refusal_of};
 
 // A refusal. What does not apply to its number is 0.
-#[derive(Drop)]
+#[derive(Clone, Copy)]
 pub struct Refusal {
     pub number: u64,
     pub line: usize,

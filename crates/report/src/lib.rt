@@ -1,4 +1,6 @@
 // The report: seven lines that show five figures, written into a lent buffer from a place that the caller gives.
+#![tactic(auto)]
+
 ghost use Rattle.std.specs.Prelude.{◌≡◌, ◌≤◌, length};
 ghost use Rattle.writer.specs.Written.{over};
 ghost use Rattle.report.specs.Report.{report_lines, written_at, placed_at};
@@ -7,7 +9,7 @@ use refusal::Refusal;
 use writer::Figure;
 
 // The figures that the lines show, each named for its key.
-#[derive(Drop)]
+#[derive(Clone, Copy)]
 pub struct Figures {
     pub cost: Figure,
     pub costwriter: Figure,
@@ -17,7 +19,7 @@ pub struct Figures {
 }
 
 // What asking for a report answers: 43, or how many bytes were written.
-#[derive(Drop)]
+#[derive(Clone, Copy)]
 pub enum ReportAnswer {
     Refused(Refusal),
     Written(usize),

@@ -6,8 +6,8 @@ use Prim.Native.Nat.{ℕ, zero, suc, ◌+◌, ◌*◌, ◌-◌, ◌≤◌, ◌<�
 use native.Mathlib.Numerals.{add-one}
 use native.Mathlib.Omega.{arith}
 use lib.Dec.{T}
-use lib.ListN.{length, get_or, take, drop, length-append, length-drop}
-use lib.Seq.{take_all, take_at, take-length, length-take-le}
+use lib.ListN.{length, get_or, take, drop}
+use lib.Seq.{take_all, take-length}
 use borrow.Rule.Slice.PartMut.{put_mid}
 use Rattle.model.specs.declared.generator.Generator.{Generator}
 use Rattle.model.specs.Instance.{Instance, Schedule}
@@ -24,6 +24,7 @@ use Rattle.model.proofs.LeafRuns.{none_stuck, least_rows_long, least_rows_shaped
 use Rattle.walk.specs.Marks.{marks_of, marks_in}
 use Rattle.judge.proofs.Rows.{joined_long, all_append}
 use Rattle.least.proofs.UnitParts.{all_get_d, part_same}
+use Rattle.runs.proofs.PartsWritten.{part_behind}
 
 -- ---- one unit's run, by the marks of its periods
 
@@ -97,18 +98,6 @@ module _ (P : Instance) (good : All GoodUnit P.units) (q s : ℕ → ℕ) (m : M
 
 -- ---- the loop over the units
 
--- a row written behind what is done
-row_behind : (begin n : ℕ) (rows done row : List ℕ) → begin + n ≤ length rows → take begin rows ≡ done → length row ≡ n
-    → (length (put_mid begin (begin + n - begin) rows row) ≡ length rows) × (take (begin + n) (put_mid begin (begin + n - begin) rows row) ≡ done ++ row)
-row_behind begin n rows done row room e h =
-    let long : length (take begin rows) ≡ begin = length-take-le begin rows (omega arith) in
-    let after = drop (begin + n - begin) (drop begin rows) in (
-      omega (arith, long, h, length-append (take begin rows) (row ++ after), length-append row after, length-drop (begin + n - begin) (drop begin rows), length-drop begin rows),
-      ap (take (begin + n)) (sym (append_assoc (take begin rows) row after))
-          ∙ take_at (take begin rows ++ row) after (begin + n) (omega (arith, long, h, length-append (take begin rows) row))
-          ∙ ap (λ (l : List ℕ). l ++ row) e,
-    )
-
 module _ (P : Instance) (good : All GoodUnit P.units) (q s : ℕ → ℕ) (fixed : List ℕ)
     (free : any_stuck P.periods P.units (marks_in (length P.units) P.periods fixed) ≡ false) where
   abbrev n : ℕ
@@ -127,7 +116,8 @@ module _ (P : Instance) (good : All GoodUnit P.units) (q s : ℕ → ℕ) (fixed
       let G = all_get_d GoodUnit u P.units d inside good in
       let F = none_stuck n q s P.units m d free u inside in
       let r : row ≡ least_row n q s g (m u) = i ∙ part_run n q s g G (length P.units) u fixed inside F old N begin (begin + k - begin) e h (omega arith) in
-      let w = row_behind begin k rows (front_runs n q s u P.units m) row room done (ap length r ∙ (least_row_attains n q s g G (m u) F).candidate.long ∙ sym f) in
+      let long : length row ≡ begin + k - begin = omega (arith, ap length r, (least_row_attains n q s g G (m u) F).candidate.long, f) in
+      let w = part_behind begin (begin + k) rows (front_runs n q s u P.units m) row (omega arith) room done long in
       (w.0, w.1 ∙ ap (λ (l : List ℕ). front_runs n q s u P.units m ++ l) r ∙ rw (add-one u) (sym (front_more n q s u P.units d m inside)))
 
   -- the last unit's run is written

@@ -4,6 +4,7 @@ pub mod Forward
 pub mod UnitRuns
 pub mod PeriodLists
 pub mod Columns
+pub mod PartsWritten
 pub mod AllRuns
 pub mod FirstStuck
 pub mod Questions

@@ -47,7 +47,7 @@ module _ {n : ℕ} {w : ℕ → Bool → ℕ} {on off : List ℕ} (K : Costed n 
       where
         same : (t : ℕ) → t < n → (d : Bool) → costs_of on off t d ≡ w t d
         same t l true = K.on_at t l
-        same t l false = K.Off_at t l
+        same t l false = K.off_at t l
 
 -- at prices
 module _ (g : Generator) (m : ℕ → Mark) (q s on off rest : List ℕ) (K : Priced g q s on off) where

@@ -15,7 +15,7 @@ use model::arrays::Problem;
 use model::ranges::Price;
 
 // That no problem is known, that the question does not fit the problem, the first stuck unit, from 1, or the leaf's value.
-#[derive(Drop)]
+#[derive(Clone, Copy)]
 pub enum RunsAnswer {
     NoProblem,
     Unfit,

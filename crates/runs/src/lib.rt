@@ -1,4 +1,6 @@
 // The runs behind the least values of a price leaf's units, and how far they fall short of the demand.
+#![tactic(auto)]
+
 pub mod drafting;
 mod short;
 pub mod status;

@@ -1,4 +1,6 @@
 // A schedule's text, read and judged under a held problem.
+#![tactic(auto)]
+
 ghost use Rattle.std.specs.Prelude.{◌≡◌, [], ◌+◌};
 ghost use Rattle.model.specs.Held.{view, Valid};
 ghost use Rattle.refusal.specs.Refusals.{refusal_of};
@@ -18,21 +20,21 @@ use refusal::Refusal;
 use text::{End, Verdict};
 
 // An accepted schedule's writer and its cost.
-#[derive(Drop)]
+#[derive(Clone, Copy)]
 pub struct Priced {
     pub writer: u64,
     pub cost: u64,
 }
 
 // What a schedule's text is: refused, or accepted.
-#[derive(Drop)]
+#[derive(Clone, Copy)]
 pub enum ScheduleAnswer {
     Refused(Refusal),
     Accepted(Priced),
 }
 
 // The answer, and the rows: row u from u times T on, zeros after the last; only zeros where the text is refused.
-#[derive(Drop)]
+#[derive(Clone, Copy)]
 pub struct ScheduleRead {
     pub answer: ScheduleAnswer,
     pub rows: [u16; 1536],

@@ -34,7 +34,7 @@ module _ (P : Instance) (W : WellFormed P) where
       let s = all_mem (GoodSchedule P) l g h (first_mem by_cost h l f) in
       let shaped = meets_shaped P h.rows s.meets in
       let e : length (flatten h.rows) ≡ length P.units * P.periods = joined_long P.periods h.rows shaped.1 ∙ ap (λ (k : ℕ). k * P.periods) shaped.0 in
-      length_pad 0 1536 (flatten h.rows) (omega (arith, e, product_few (length P.units) P.periods W.Units_in.1 W.periods_in.1))
+      length_pad 0 1536 (flatten h.rows) (omega (arith, e, product_few (length P.units) P.periods W.units_in.1 W.periods_in.1))
 
 fits_of : (o : Option Instance) (past : List Verdict) → Proper o past → Fits (docket_of o past)
 unfolding arrays.held
@@ -50,7 +50,7 @@ fits_of (some P) past p =
     record {
       demand_long = length_pad 0 48 P.demand (omega (arith, W.demand_long, W.periods_in.1));
       spare_long = length_pad 0 48 P.spare (omega (arith, W.spare_long, W.periods_in.1));
-      units_long = length_pad blank_generator 32 P.units W.Units_in.1;
+      units_long = length_pad blank_generator 32 P.units W.units_in.1;
       rows_long = rows_long P W (least past) (schedules past) (held_least (λ (s : Costed). s.cost) (schedules past)) p.1.0;
       bound_small = (sound_small (docket_of (some P) past) (docket_sound (some P) past p)).1;
     }

@@ -1,4 +1,6 @@
 // A docket in two lent slices: 618 numbers, and the 1,536 outputs of its held schedule.
+#![tactic(auto)]
+
 ghost use Rattle.std.specs.Prelude.{◌≡◌, true, cond, ◌≤◌, length};
 ghost use Rattle.writer.specs.Written.{over};
 ghost use Rattle.docket.specs.Docket.{sound};
@@ -15,7 +17,7 @@ mod held;
 const MARK: u64 = 19_227_448_860_562_434;
 
 // The docket of a state's numbers, and whether they hold one.
-#[derive(Drop)]
+#[derive(Clone, Copy)]
 pub struct Opened {
     pub is: bool,
     pub docket: Docket,

@@ -25,7 +25,7 @@ module _ {S R : Type 0} (tests : S → Line → List Test) (next_due : S → Lin
 
   pub passed_both : {s s' s'' : S} (a b : List Line) → Passed tests next_due s a s' → Passed tests next_due s' b s'' → Passed tests next_due s (a ++ b) s''
   passed_both [] b none_yet h = h
-  passed_both (x ∷ a) b (one_more n e p) h = one_more n e (passed_both a b p h)
+  passed_both {s} {s'} {s''} (x ∷ a) b (one_more {s' = u} n e p) h = one_more n e (passed_both {s = u} {s' = s'} {s'' = s''} a b p h)
 
   pub passed_line : (s s' : S) (x : Line) → None (tests s x) → next_due s x ≡ s' → judge s x ≡ good s'
   passed_line s s' x n e = none_good (next_due s x) (tests s x) n ∙ ap good e

@@ -19,6 +19,7 @@ module _ {S : Type 0} (s : S) where
   found_first n (m if false ∷ ts) e = after refl (found_first n ts e)
 
   first_found : (n : ℕ) (ts : List Test) → FirstTrue n ts → found ts s ≡ refused n
+  first_found n [] x = elim x [ ]
   first_found n (m if b ∷ ts) (this e) = rw e refl
   first_found n (m if b ∷ ts) (after e f) = rw e (first_found n ts f)
 
@@ -46,6 +47,7 @@ number_first n h ts = (forth ts, back ts)
     forth (m if false ∷ ts) e = after refl (forth ts e)
 
     back : (ts : List Test) → FirstTrue n ts → first_true ts ≡ n
+    back [] x = elim x [ ]
     back (m if b ∷ ts) (this e) = rw e refl
     back (m if b ∷ ts) (after e f) = rw e (back ts f)
 
@@ -55,6 +57,7 @@ Every Q [] = Unit {0}
 Every Q (n if b ∷ ts) = Q n × Every Q ts
 
 pub first_every : (Q : ℕ → Type 0) (n : ℕ) (ts : List Test) → Every Q ts → FirstTrue n ts → Q n
+first_every Q n [] h x = elim x [ ]
 first_every Q n (m if b ∷ ts) h (this e) = h.0
 first_every Q n (m if b ∷ ts) h (after e f) = first_every Q n ts h.1 f
 

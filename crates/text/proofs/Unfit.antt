@@ -165,6 +165,7 @@ module _ {S R : Type 0} (tests : S → Line → List Test) (next_due : S → Lin
     where
       forth : (n : ℕ) → FirstTrue n (word_tests w x) → (n ≡ 12) × (x ≡ ended w → ⊥)
       forth n (this p) = (refl, λ q. true_not_false (is_line w x) (ap (is_line w) q ∙ same_self w) (not-true (is_line w x) p))
+      forth n (after e p) = elim p [ ]
 
       back : (n ≡ 12) × (x ≡ ended w → ⊥) → FirstTrue n (word_tests w x)
       back h = rw h.0 (this (otherwise (not (is_line w x)) (λ p. h.1 (word_is w x (not-false (is_line w x) p)))))

@@ -27,6 +27,7 @@ same_cut (x ∷ a) (y ∷ b) c d e q =
     (ap₂ ◌∷◌ heads r.0, r.1)
 
 none_first : (n : ℕ) (ts : List Test) → None ts → FirstTrue n ts → ⊥
+none_first n [] h x = elim x [ ]
 none_first n (m if b ∷ ts) h (this e) = let k = h.0 in let z : ◌≡◌ {A = ℕ} 0 1 = cc in omega arith
 none_first n (m if b ∷ ts) h (after e f) = none_first n ts h.1 f
 
@@ -35,11 +36,11 @@ module _ {S R : Type 0} (tests : S → Line → List Test) (next_due : S → Lin
   pub passed_once : {s t t' : S} (ls : List Line) → Passed tests next_due s ls t → Passed tests next_due s ls t' → t ≡ t'
   passed_once [] none_yet none_yet = refl
   passed_once {s} {t} {t'} (x ∷ ls) (one_more {s' = u} n e p) (one_more {s' = u'} n' e' p') =
-      passed_once ls (subst (λ (v : S). Passed tests next_due v ls t) (sym e ∙ e') p) p'
+      passed_once {s = u'} ls (subst (λ (v : S). Passed tests next_due v ls t) (sym e ∙ e') p) p'
 
   pub passed_parts : {s t : S} (a b : List Line) → Passed tests next_due s (a ++ b) t → (u : S) × Passed tests next_due s a u × Passed tests next_due u b t
   passed_parts {s} [] b p = (s, none_yet, p)
-  passed_parts (x ∷ a) b (one_more n e p) = let r = passed_parts a b p in (r.0, one_more n e r.1, r.2)
+  passed_parts {s} {t} (x ∷ a) b (one_more {s' = u} n e p) = let r = passed_parts {s = u} a b p in (r.0, one_more n e r.1, r.2)
 
   module _ {Value : Type 0} (lines : Value → List (List ℕ)) (last : List ℕ) (InLimits : Value → ℕ → Type 0) (Breaks : Value → ℕ → Line → ℕ → Type 0) where
     -- the way to judge follows the texts: s is due where line k of v is (`Stands`), lines that begin a text pass and end there, lines that pass begin one, and

@@ -1,4 +1,6 @@
 // Lines of a text: `key=value`, the values decimal numbers joined by commas, each line ended by byte 10.
+#![tactic(auto)]
+
 ghost use Rattle.std.specs.Prelude.{◌≡◌, true, not, ◌||◌, ◌+◌, ◌≤◌, ◌<◌, length, drop, set};
 ghost use Rattle.decimal.specs.NumberRead.{read_cap};
 ghost use Rattle.text.specs.Lines.{one_line, begins, line_at, is_line};
@@ -9,7 +11,7 @@ use decimal::Number;
 
 // A value at a place: malformed, or its size, whether it has a minus, the place after the byte that ends it, and whether
 // that byte ends the line.
-#[derive(Drop)]
+#[derive(Clone, Copy)]
 enum Field {
     Broken,
     Ended {
@@ -22,7 +24,7 @@ enum Field {
 
 // The values up to a line's end: the key is not there, one is malformed or no end is there; or how many they are, the next
 // line's start, and whether one has a minus.
-#[derive(Drop)]
+#[derive(Clone, Copy)]
 enum Values {
     Wrong,
     Read {
@@ -33,7 +35,7 @@ enum Values {
 }
 
 // What a line is at its place: refused by a number, 12, 14 or 13, or good, with the next line's start.
-#[derive(Drop)]
+#[derive(Clone, Copy)]
 pub enum Verdict {
     Refused { number: u64 },
     Good { next: usize },
@@ -41,7 +43,7 @@ pub enum Verdict {
 
 // A line of numbers: what it is, whether the value that may carry a minus does, and the values without the sign. Where the
 // line is not good, no minus and zeros.
-#[derive(Drop)]
+#[derive(Clone, Copy)]
 pub struct Row {
     pub verdict: Verdict,
     pub minus: bool,
@@ -49,7 +51,7 @@ pub struct Row {
 }
 
 // What a text's first line says.
-#[derive(Drop)]
+#[derive(Clone, Copy)]
 pub enum Kind {
     Unknown,
     Problem,
@@ -58,7 +60,7 @@ pub enum Kind {
 }
 
 // What stands where a text's end line is due: not that line, that line with something after it, or that line as the last.
-#[derive(Drop)]
+#[derive(Clone, Copy)]
 pub enum End {
     Missing,
     Followed,

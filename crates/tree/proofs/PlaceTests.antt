@@ -73,6 +73,7 @@ module _ (P : Instance) (A : Above) (d : ℕ) where
   deep_breaks l g m n (this e) =
       let w = was_split P l g in
       refusals.deeper (named (node_form P split_line) l 0) (named (node_form P split_line) l 1) (w.unit, w.period, free_mark _ m) w.line (ltb-true 63 d e)
+  deep_breaks l g m n (after _ x) = elim x [ ]
 
   -- 37 of a count line that fits its form, not too deep
   count_breaks : (l : Line) → forms.good_line (node_form P count_line) l ≡ true → ltb 63 d ≡ false
@@ -83,10 +84,15 @@ module _ (P : Instance) (A : Above) (d : ℕ) where
       let t = named (node_form P count_line) l 0 in
       let K = counted (node_form P count_line) l in
       refusals.no_narrower t K w.period w.few (ltb-false 63 d b) w.line (λ h. true_not_false _ ((narrows_is A t K).1 h) (not-true _ e))
+  count_breaks l g b n (after _ x) = elim x [ ]
 
   -- 31 to 34, 36, 37 of a line that fits its form
   kind_breaks : (l : Line) (k : LineKind) → forms.good_line (node_form P k) l ≡ true → (n : ℕ) → FirstTrue n (kind_tests P A d k l) → NodeBreaks P A d l n
   unfolding kind_tests GoodLeaf LeafHolds
+  kind_breaks l short_line g n (after _ h) = elim h [ ]
+  kind_breaks l crowd_line g n (after _ h) = elim h [ ]
+  kind_breaks l stuck_line g n (after _ h) = elim h [ ]
+  kind_breaks l ramp_line g n h = elim h [ ]
   kind_breaks l split_line g n (this e) =
       let w = was_split P l g in
       again (named (node_form P split_line) l 0) (named (node_form P split_line) l 1) w.unit w.period w.line (λ q. true_not_false _ e (ap is_fixed q))
@@ -261,6 +267,7 @@ module _ (P : Instance) (some : 1 ≤ P.periods) (A : Above) where
       let both = and_both (is_last P p) stuck_there e in
       let r = ended_leaf p l g both.0 in
       some_stuck r.0 r.1 (transport (sym r.2) (λ h. true_not_false stuck_there both.1 (T_not stuck_there h)))
+  leaf_breaks p l g n (after _ x) = elim x [ ]
 
   judged_breaks : (p : Part) (l : Line) (n : ℕ) → Tested p l n → PartBreaks P A l p n
   judged_breaks p l n (inl u) = unfit_part u

@@ -91,7 +91,7 @@ module _ (P : Instance) (W : WellFormed P) (two : 2 ≤ P.periods) (text : List 
     summed = e;
     read =
         ap (λ (b : Bool). cond b (ramp_ended here l S (ramp_leaf_of P A.marks (λ t. q at t) (λ t. s at t) (ups []) (downs []))) (part_read P text here l S A (with_steps q s [])))
-        (sym (ne_eqb (ramped P) 0 (λ z. omega (arith, z, all_ramped, W.Units_in.0))));
+        (sym (ne_eqb (ramped P) 0 (λ z. omega (arith, z, all_ramped, W.units_in.0))));
     placed = p;
     lines = omega arith;
   }
@@ -102,7 +102,7 @@ module _ (P : Instance) (W : WellFormed P) (two : 2 ≤ P.periods) (text : List 
     reading_small =
         subst SmallLeast (sym R.summed)
         (ramp_front_small P.periods W.periods_in.1 (λ t. q at t) (λ t. s at t) (λ t i. price_in P.periods q s goods t) (λ t i. reserve_in P.periods q s goods t)
-        (ups R.said) (downs R.said) (λ v t. (steps_in P R.said R.fine v t).0) (λ v t. (steps_in P R.said R.fine v t).1) u P.units W.units_good W.Units_in.1 A.marks)
+        (ups R.said) (downs R.said) (λ v t. (steps_in P R.said R.fine v t).0) (λ v t. (steps_in P R.said R.fine v t).1) u P.units W.units_good W.units_in.1 A.marks)
 
     module _ (left : u < length P.units) where
       -- the next unit's lines are due

@@ -12,7 +12,7 @@ pub const ON: u8 = 2;
 pub const MOST_DEPTH: usize = 63;
 
 // What one of a fork's two trees has above it, beside what the fork has: a byte at a place.
-#[derive(Drop)]
+#[derive(Clone, Copy)]
 pub struct Side {
     pub place: usize,
     pub byte: u8,
@@ -20,7 +20,7 @@ pub struct Side {
 
 // What a fork's line is at its place: refused by a number, or what stands above its first tree and above its second, with the next line's
 // start.
-#[derive(Drop)]
+#[derive(Clone, Copy)]
 pub enum ForkLine {
     Refused {
         number: u64,

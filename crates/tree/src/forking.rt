@@ -12,7 +12,7 @@ use crate::counting::read_count_line;
 use crate::splitting::read_split_line;
 
 // The two kinds of such lines.
-#[derive(Drop)]
+#[derive(Clone, Copy)]
 pub enum ForkKind {
     Split,
     Count,

@@ -23,7 +23,7 @@ use model::ranges::Price;
 use text::Verdict;
 
 // What reading a tree finds: a refusal at a line, or what was read with it, the next line's start and its number.
-#[derive(Drop)]
+#[derive(Clone, Copy)]
 pub enum Read {
     Refused {
         number: u64,
@@ -55,7 +55,7 @@ pub fn same_read(read: Read) -> Read
 }
 
 // The kinds of leaves, by their first lines.
-#[derive(Drop)]
+#[derive(Clone, Copy)]
 pub enum LeafKind {
     Short,
     Crowd,

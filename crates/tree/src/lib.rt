@@ -1,4 +1,6 @@
 // A tree's text, judged line by line: its bound and its counts.
+#![tactic(auto)]
+
 ghost use Rattle.std.specs.Prelude.{◌≡◌, ◌≤◌, length};
 ghost use Rattle.model.specs.Held.{view, Valid};
 ghost use Rattle.tree.specs.Course.{IsTree};
@@ -26,7 +28,7 @@ mod splitting;
 const SECOND_LINE: usize = 10;
 
 // What a tree's text is found to be.
-#[derive(Drop)]
+#[derive(Clone, Copy)]
 pub enum TreeRead {
     Refused(Refusal),
     Accepted { writer: u64, figures: TreeFigures },

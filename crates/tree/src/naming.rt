@@ -6,7 +6,7 @@ ghost use Rattle.tree.specs.ReadAnswers.{named_line_read};
 use text::Verdict;
 
 // What such a line is at its place: refused by a number, or the one that it names, from 0, with the next line's start.
-#[derive(Drop)]
+#[derive(Clone, Copy)]
 pub enum NamedLine {
     Refused { number: u64 },
     Names { index: usize, next: usize },

@@ -13,7 +13,7 @@ use crate::leaf::{LeafKind, Read, read_leaf, same_read};
 use model::figures::TreeFigures;
 
 // The node lines: of a fork, with two trees below it, or of a leaf.
-#[derive(Drop)]
+#[derive(Clone, Copy)]
 pub enum NodeKind {
     Fork(ForkKind),
     Leaf(LeafKind),

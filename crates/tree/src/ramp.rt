@@ -22,7 +22,7 @@ use model::ranges::Price;
 use text::Verdict;
 
 // What a unit's two lines are found to be: a refusal at a line, or the next line's start, with what the units so far answer.
-#[derive(Drop)]
+#[derive(Clone, Copy)]
 pub enum UnitRead {
     Refused { number: u64, line: usize },
     Passed { next: usize, sum: Least },

@@ -26,7 +26,7 @@ module _ (T : ℕ) (bytes : List ℕ) (t : ℕ) (l : t < T) where
 
 module _ (P : Instance) (W : WellFormed P) where
   pub statuses_fit : length P.units * P.periods ≤ upper_begin
-  statuses_fit = omega (arith, mul-le-mul W.Units_in.1 W.periods_in.1)
+  statuses_fit = omega (arith, mul-le-mul W.units_in.1 W.periods_in.1)
 
   pub statuses_inside : (bytes : List ℕ) → length bytes ≡ above_length → length P.units * P.periods ≤ length bytes
   statuses_inside bytes long = omega (arith, statuses_fit, long)

@@ -1,5 +1,7 @@
 // A unit's least value over costs by period, taken back from the last period to the first. A coded value is 0 where there is none,
 // and v + 1 for the value v.
+#![tactic(auto)]
+
 ghost use Rattle.std.specs.Prelude.{◌≡◌, true, false, ℕ, suc, ◌+◌, ◌-◌, ◌≤◌, ◌<◌, min, length};
 ghost use Rattle.model.specs.Instance.{◌at◌};
 ghost use Rattle.model.specs.Ranges.{GoodUnit};

@@ -1,10 +1,12 @@
 // Numbers, words and lines, written at the front of a lent buffer. Whoever writes on lends the part after them.
+#![tactic(auto)]
+
 ghost use Rattle.std.specs.Prelude.{◌≡◌, ◌+◌, ◌≤◌, length};
 ghost use Rattle.decimal.specs.Decimal.{digits};
 ghost use Rattle.writer.specs.Written.{over, figure_of, figure, line};
 
 // A value that a line shows: none, never, a number, or a number behind a minus.
-#[derive(Drop)]
+#[derive(Clone, Copy)]
 pub enum Figure {
     Missing,
     Never,
@@ -32,7 +34,10 @@ pub fn write_bytes(buf: &mut [u8], bytes: &[u8]) -> usize
     ensures value { result ≡ length bytes.now }
     ensures buf_after { buf.new ≡ over bytes.now buf.old }
 {
-    bytes::copy(bytes, buf)
+    for i in 0..bytes.len() {
+        buf[i] = bytes[i];
+    }
+    bytes.len()
 }
 
 // How many bytes were written: the digits of n, at the front of buf.
@@ -87,8 +92,8 @@ pub fn write_figure(buf: &mut [u8], f: Figure) -> usize
     ensures buf_after { buf.new ≡ over (figure f) buf.old }
 {
     match f {
-        Figure::Missing => bytes::copy(b"none", buf),
-        Figure::Never => bytes::copy(b"never", buf),
+        Figure::Missing => write_bytes(buf, b"none"),
+        Figure::Never => write_bytes(buf, b"never"),
         Figure::Number(n) => write_number(buf, n),
         Figure::Minus(n) => {
             buf[0] = 45;
@@ -104,7 +109,7 @@ pub fn write_line(buf: &mut [u8], key: &[u8], f: Figure) -> usize
     ensures value { result ≡ length (line key.now f) }
     ensures buf_after { buf.new ≡ over (line key.now f) buf.old }
 {
-    let k = bytes::copy(key, buf);
+    let k = write_bytes(buf, key);
     let w = write_figure(&mut buf[k..], f);
     let e = k + w;
     buf[e] = 10;

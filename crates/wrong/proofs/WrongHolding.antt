@@ -67,8 +67,8 @@ only_first = record {
   before = [];
   after = [];
   parts = refl;
-  worse = λ y m. absurd (Memᴰ.not_nil m);
-  no_better = λ y m. absurd (Memᴰ.not_nil m);
+  worse = λ y m. absurd (Memᴰ.not-nil m);
+  no_better = λ y m. absurd (Memᴰ.not-nil m);
 }
 
 pub rows_lost_fails : {report : Reporting} {buffer : Writing} → Demand3 wrong.rows_lost report buffer → ⊥

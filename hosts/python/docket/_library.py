@@ -5,7 +5,7 @@ from typing import NoReturn
 
 BESIDE = os.path.join(os.path.dirname(os.path.abspath(__file__)), "libdocket.so")
 VARIABLE = "DOCKET_LIBRARY"
-BUILD = "run 'rt staticlib docket_host' and then 'hosts/python/build.sh' in the repository"
+BUILD = "run 'tools/archive' and then 'hosts/python/build.sh' in the repository"
 
 LINE_BYTES = 128
 VALUES = 16

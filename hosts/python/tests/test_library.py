@@ -11,7 +11,7 @@ from pathlib import Path
 from common import HEADER, LIBRARY, PYTHON, copy_package, run_python
 from docket import _library
 
-BUILD = "run 'rt staticlib docket_host' and then 'hosts/python/build.sh' in the repository"
+BUILD = "run 'tools/archive' and then 'hosts/python/build.sh' in the repository"
 LODGE = "from docket import Docket; print(Docket().lodge(b''))"
 
 
@@ -59,7 +59,7 @@ class Object(unittest.TestCase):
             shutil.copy(PYTHON / "build.sh", script)
             ran = subprocess.run([str(script)], capture_output=True, text=True)
         self.assertEqual((ran.returncode, ran.stdout), (1, ""))
-        self.assertRegex(ran.stderr, r"\Ano .*/libdocket_host\.a: run 'rt staticlib docket_host' in the repository\n\Z")
+        self.assertRegex(ran.stderr, r"\Ano .*/libdocket_host\.a: run 'tools/archive' in the repository\n\Z")
 
     def test_the_header_says_the_same(self) -> None:
         pointer = {True: ctypes.c_void_p, False: ctypes.c_size_t}

@@ -1,0 +1,13 @@
+-- `figure_of_bound` meets its contract, case by case.
+use mathlib.Core.Path.{◌≡◌, ap, ◌∙◌}
+use mir.Syntax.{w64}
+use mir.Val.{to_z, of_z}
+use borrow.Author.Rules.{rules}
+use Rattle.writer.specs.Written.{figure_of}
+use Rattle.answer.proofs.Cases.{number_shown}
+use Rattle.answer.proofs.figure_of_bound.Goals as goal
+
+pub returns-in-Number : goal.returns-in-Number
+returns-in-Number c =
+    let z : to_z w64 (of_z w64 c.in-Number.z) ≡ c.in-Number.z = search rules in
+    c.figure_of.ensures ∙ ap figure_of z ∙ number_shown _ c.in-Number.z c.in-Number.is

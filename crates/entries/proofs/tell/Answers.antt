@@ -1,0 +1,15 @@
+-- `tell` keeps within its arrays: the room that it lends is as long as was asked for.
+use mathlib.Core.Path.{sym}
+use borrow.Author.Rules.{rules}
+use lib.IntN.{pos}
+use lib.ListN.{replicate}
+use lib.Seq.{length-take-le}
+use Rattle.entries.proofs.tell.Goals as goal
+
+pub slice_bounds-tell_in-end : goal.slice_bounds-tell_in-end
+slice_bounds-tell_in-end c =
+    sym (length-take-le c.args.room (replicate 12 (pos 7)) c.requires.0)
+
+pub slice_bounds-tell_in-end-2 : goal.slice_bounds-tell_in-end-2
+slice_bounds-tell_in-end-2 c =
+    sym (length-take-le c.args.bytes (replicate 12 7) c.requires.1)

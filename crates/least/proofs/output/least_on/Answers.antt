@@ -1,0 +1,14 @@
+-- `least_on` meets its contract: the best output lies at most at pU.
+use mathlib.Core.Path.{◌∙◌, ap}
+use borrow.Author.Rules.{rules}
+use Rattle.model.specs.Prices.{on_value}
+use Rattle.model.proofs.BestOutputs.{best_at_is}
+use Rattle.least.proofs.output.least_on.Goals as goal
+
+pub on_value-requires : goal.on_value-requires
+on_value-requires c =
+    record { good_unit = c.requires.good_unit; good_slopes = c.requires.good_slopes; p_le_p_u = rw c.best_output.ensures (best_at_is c.args.g c.args.x c.args.y c.requires.good_unit.ordered.limits).high }
+
+pub returns : goal.returns
+returns c =
+    c.on_value.ensures ∙ ap (on_value c.args.g c.args.x c.args.y) c.best_output.ensures

@@ -1,0 +1,16 @@
+-- `has_good_generators` meets its contract: those before place i passed, so what is left from there on decides.
+use mathlib.Core.Path.{◌≡◌, refl, sym, ◌∙◌}
+use Prim.Native.Nat.{◌-◌, ◌≤◌}
+use native.Mathlib.Omega.{arith}
+use lib.ListN.{length, take, drop}
+use borrow.Author.Rules.{rules}
+use Rattle.model.specs.Held.{blank_generator}
+use Rattle.model.specs.Ranges.{every, good_generator}
+use Rattle.model.proofs.Every.{one_passes, one_fails, all_pass}
+use Rattle.model.proofs.arrays.has_good_generators.Given as goal
+
+abbrev pub invariant-loop-i : goal.invariant-loop-i
+invariant-loop-i l = (l.n ≤ length l.generators) × (every good_generator (drop l.i (take l.n l.generators)) ≡ every good_generator (take l.n l.generators))
+
+abbrev pub decreases-loop-i : goal.decreases-loop-i
+decreases-loop-i l = l.n - l.i

@@ -1,0 +1,33 @@
+-- `on_back` meets its contract: the states that cannot be left and the last are the states one period back.
+use mathlib.Core.Path.{sym, ◌∙◌, ap}
+use mathlib.Core.Bool.{true, false}
+use native.Mathlib.Omega.{arith}
+use Rattle.model.specs.Walk.{lesser}
+use Rattle.model.proofs.Coded.{lesser_none}
+use Rattle.walk.proofs.Chains.{written_none, backed_is, backed_chained}
+use borrow.Author.Rules.{rules}
+use Rattle.walk.proofs.table.on_back.Goals as goal
+
+pub keep_states-requires : goal.keep_states-requires
+keep_states-requires c =
+    record { from_le_to = omega arith; good_cost = (c.requires.good_cost, λ k h. c.requires.in_bounds.1 k) }
+
+pub kept_value-keeping-requires : goal.kept_value-keeping-requires
+kept_value-keeping-requires c =
+    (omega (arith, c.requires.good_cost), c.requires.in_bounds.1 _)
+
+pub returns-then-allowed : goal.returns-then-allowed
+returns-then-allowed c need h =
+    let a = c.args in
+    rw c.if-allowed.true
+    (backed_chained _ _ need _ a.leaving a.leaving true a.cost (omega arith) (omega arith)
+    (backed_is _ _ _ _ _ a.leaving a.leaving true a.cost _ (omega arith) (omega arith) c.keep_states.ensures (written_none _ _ _)
+    (c.lesser_value.ensures ∙ ap (lesser a.leaving) c.kept_value-keeping.ensures)))
+
+pub returns : goal.returns
+returns c need h =
+    let a = c.args in
+    rw c.if-allowed.false
+    (backed_chained _ _ need _ a.leaving a.leaving false a.cost (omega arith) (omega arith)
+    (backed_is _ _ _ _ _ a.leaving a.leaving false a.cost _ (omega arith) (omega arith) c.fill_states.ensures (written_none _ _ _)
+    (sym (lesser_none a.leaving))))

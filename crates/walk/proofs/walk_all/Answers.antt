@@ -1,0 +1,20 @@
+-- `walk_all` meets its contract: the walk's table, read at the state before period 1.
+use mathlib.Core.Path.{◌∙◌, ap}
+use Prim.Native.Nat.{ℕ, ◌-◌, min}
+use native.Mathlib.Omega.{arith}
+use lib.ListN.{length}
+use Rattle.walk.proofs.WholeTables.{tables_read}
+use borrow.Author.Rules.{rules}
+use Rattle.walk.proofs.walk_all.Goals as goal
+
+pub returns-then-g : goal.returns-then-g
+returns-then-g c =
+    let a = c.args in
+    tables_read a.g c.requires.good_unit (length a.on.now) a.on.now a.off.now a.fixed.now c.requires.good_costs.0 _ _ c.walk_back.ensures.of_on
+    c.if-g.true c.place-i.result (c.place-i.ensures ∙ ap (λ (x : ℕ). min a.g.since x - 1) c.walk_back.ensures.of_on.long) c.requires.good_unit.in_range.TU_in.0
+
+pub returns : goal.returns
+returns c =
+    let a = c.args in
+    tables_read a.g c.requires.good_unit (length a.on.now) a.on.now a.off.now a.fixed.now c.requires.good_costs.0 _ _ c.walk_back.ensures.of_off
+    c.if-g.false c.place-j.result (c.place-j.ensures ∙ ap (λ (x : ℕ). min a.g.since x - 1) c.walk_back.ensures.of_off.long) (omega arith)

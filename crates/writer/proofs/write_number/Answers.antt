@@ -1,0 +1,44 @@
+use borrow.Author.Rules.{rules}
+use native.Mathlib.Omega.{arith}
+use Prim.Native.Nat.{ℕ, ◌+◌, ◌-◌, ◌%◌, ◌≤◌}
+use mathlib.Core.Path.{◌≡◌, refl, sym, ap, ◌∙◌}
+use mathlib.Core.List.{List, [], ◌∷◌, ◌++◌, append-nil}
+use lib.ListN.{length, take, drop, set, length-set, take-append-drop}
+use Rattle.decimal.proofs.Digits.{fixed}
+use Rattle.writer.proofs.LastDigit.{set_step, fixed_step, number_done}
+use Rattle.writer.proofs.write_number.Goals as goal
+
+pub loop-i-init : goal.loop-i-init
+loop-i-init c =
+    let b = c.args.buf.now in
+    ([], sym (append-nil _), sym (take-append-drop c.width-w.result b), omega arith, refl)
+
+pub bounds-buf-i : goal.bounds-buf-i
+bounds-buf-i c =
+    let v = c.loop-i.invariant in
+    omega (arith, v.3, v.4, c.width-w.ensures.value, c.requires)
+
+pub loop-i-preserved : goal.loop-i-preserved
+loop-i-preserved c =
+    let l = c.loop-i in
+    let v = l.invariant in
+    let b = c.args.buf.now in
+    let d = 48 + l.m % 10 in
+    let w = c.width-w.result in (
+      d ∷ v.0,
+      v.1 ∙ fixed_step l.i l.m v.0 (omega arith),
+      ap (λ (x : List ℕ). set x (l.i - 1) d) v.2 ∙ set_step b (v.0 ++ drop w b) l.i d (omega arith) (omega (arith, v.3, c.width-w.ensures.value, c.requires)),
+      omega (arith, v.3),
+      length-set l.buf (l.i - 1) d ∙ v.4,
+    )
+
+pub shape_of-buf : goal.shape_of-buf
+shape_of-buf c = c.loop-i.invariant.4
+
+pub returns : goal.returns
+returns c =
+    let l = c.loop-i in
+    let v = l.invariant in
+    let a = c.args in
+    let e = c.width-w.ensures.value in
+    record { value = e; buf_after = number_done a.buf.now v.0 l.buf a.n c.width-w.result l.i l.m e c.loop-i-test.false v.1 v.2 }
