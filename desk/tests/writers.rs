@@ -18,8 +18,12 @@ use std::sync::Arc;
 use std::thread::{sleep, spawn};
 use std::time::{Duration, Instant};
 
+/// What lodges from standard input. It waits, since a process that another test starts holds every lock of this one until it runs its
+/// own program.
+const WAITING: [&str; 3] = ["-", "--wait", "20"];
+
 fn open(path: &Path) -> Journal<OnDisk> {
-    let disk = OnDisk::open(path, Duration::ZERO).expect("a file");
+    let disk = OnDisk::open(path, Duration::from_secs(20)).expect("a file");
     let opened = Journal::open(disk, path, &mut Progress::none());
     opened.expect("a journal").0
 }
@@ -88,7 +92,7 @@ fn one_process_writes_and_others_read_meanwhile() {
         assert!(is_untouched(&path, &before));
     }
     drop(journal);
-    assert_eq!(on_with("lodge", &path, &["-"], &texts()[1]).status, 0);
+    assert_eq!(on_with("lodge", &path, &WAITING, &texts()[1]).status, 0);
     assert_eq!(found(&path).len(), 5);
 }
 
@@ -105,7 +109,7 @@ fn many_writers_in_turn_lose_nothing() {
     let threads: Vec<_> = (0..8)
         .map(|_| {
             let path = path.clone();
-            spawn(move || on_with("lodge", &path, &["-", "--wait", "20"], &texts().concat()).status)
+            spawn(move || on_with("lodge", &path, &WAITING, &texts().concat()).status)
         })
         .collect();
     for thread in threads {
@@ -123,7 +127,7 @@ fn a_writer_that_waited_writes_to_the_file_that_has_the_name_then() {
     let journal = open(&path);
     let waiting = {
         let path = path.clone();
-        spawn(move || on_with("lodge", &path, &["-", "--wait", "20"], &texts()[1]))
+        spawn(move || on_with("lodge", &path, &WAITING, &texts()[1]))
     };
     sleep(Duration::from_millis(150));
     fs::rename(&path, &old).expect("moved");
@@ -161,7 +165,7 @@ fn a_journal_behind_a_link_is_one_file() {
     let (path, far) = (folder.join("J"), folder.join("far").join("K"));
     symlink(&far, &path).expect("a link");
     for text in texts() {
-        assert_ne!(on_with("lodge", &path, &["-"], &text).status, 2);
+        assert_ne!(on_with("lodge", &path, &WAITING, &text).status, 2);
     }
     assert_eq!(found(&far), texts());
     let journal = open(&far);
@@ -238,7 +242,7 @@ fn a_process_that_is_killed_leaves_every_text_that_it_answered() {
     for round in 0..12 {
         answered += killed(&path, 1 + random.below(30));
         let found = contents(&fs::read(&path).expect("a file"));
-        let ran = on_with("lodge", &path, &["-"], &texts()[0]);
+        let ran = on_with("lodge", &path, &WAITING, &texts()[0]);
         assert_ne!(ran.status, 2, "round {round}: {}", ran.notes());
         let cut = ran.notes().contains("cut off the last");
         assert_eq!(cut, found.is_err(), "round {round}: {}", ran.notes());
@@ -254,12 +258,8 @@ fn a_process_that_is_killed_leaves_every_text_that_it_answered() {
 /// Lodges texts without end until so many are answered, and then kills the process; how many were answered.
 fn killed(path: &Path, wanted: usize) -> usize {
     let mut child = Command::new(env!("CARGO_BIN_EXE_docket"))
-        .args([
-            "lodge".as_ref(),
-            path.as_os_str(),
-            "-".as_ref(),
-            "--json".as_ref(),
-        ])
+        .args(["lodge".as_ref(), path.as_os_str(), "--json".as_ref()])
+        .args(WAITING)
         .stdin(Stdio::piped())
         .stdout(Stdio::piped())
         .stderr(Stdio::null())
