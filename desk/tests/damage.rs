@@ -3,9 +3,8 @@
 mod common;
 
 use common::journals::{answers, contents, is_untouched, on, on_with, put, texts, Scribe, SECONDS};
-use common::{counted, folder, Ran};
+use common::{counted, folder, Link, Ran};
 use std::fs;
-use std::os::unix::fs::symlink;
 use std::path::{Path, PathBuf};
 
 /// One more text that is accepted.
@@ -331,7 +330,7 @@ fn salvage_writes_over_nothing_that_is_there() {
     let folder = desk.new.parent().expect("a folder");
     put(&desk.journal, &desk.scribe.bytes);
     let (link, nowhere) = (folder.join("link"), folder.join("nowhere"));
-    symlink(&nowhere, &link).expect("a link");
+    let _link = Link::new(&nowhere, &link);
     let missing = folder.join("no folder").join("NEW");
     put(&desk.new, b"");
     for new in [&desk.journal, &desk.new, &link, &missing, folder] {

@@ -2,7 +2,7 @@
 mod common;
 
 use common::program::{docket, ended, finish, ran, start, DEADLINE};
-use common::{escaped, folder, run, schedule, seed, text, PROBLEM, TREE};
+use common::{escaped, folder, run, schedule, seed, text, Link, PROBLEM, TREE};
 use second::inputs::random::Random;
 use std::ffi::{OsStr, OsString};
 use std::fs::{self, File, OpenOptions, Permissions};
@@ -456,7 +456,7 @@ fn a_journal_is_not_lodged_in_itself() {
     let folder = folder("itself");
     let journal = journal(&folder);
     let link = folder.join("link");
-    std::os::unix::fs::symlink(&journal, &link).expect("a link");
+    let _link = Link::new(&journal, &link);
     let before = fs::read(&journal).expect("a journal");
     for name in [&journal, &link] {
         let words = [OsStr::new("lodge"), journal.as_os_str(), name.as_os_str()];

@@ -2,15 +2,14 @@
 
 mod common;
 
-use common::folder;
 use common::journals::{
     contents, is_untouched, on, on_with, put, texts, Random, Scribe, READERS, SECONDS,
 };
+use common::{folder, Link};
 use desk::journal::{Journal, OnDisk};
 use desk::progress::Progress;
 use std::fs::{self, File};
 use std::io::{BufRead, BufReader, Write};
-use std::os::unix::fs::symlink;
 use std::path::Path;
 use std::process::{Command, Stdio};
 use std::sync::atomic::{AtomicBool, Ordering};
@@ -163,7 +162,7 @@ fn a_journal_behind_a_link_is_one_file() {
     let folder = folder("writers-link");
     fs::create_dir(folder.join("far")).expect("a folder");
     let (path, far) = (folder.join("J"), folder.join("far").join("K"));
-    symlink(&far, &path).expect("a link");
+    let _link = Link::new(&far, &path);
     for text in texts() {
         assert_ne!(on_with("lodge", &path, &WAITING, &text).status, 2);
     }

@@ -9,6 +9,7 @@ use std::env;
 use std::ffi::OsString;
 use std::fs;
 use std::io::Cursor;
+use std::os::unix::fs::symlink;
 use std::path::{Path, PathBuf};
 use std::time::{SystemTime, UNIX_EPOCH};
 
@@ -109,6 +110,22 @@ pub fn folder(name: &str) -> PathBuf {
     }
     fs::create_dir_all(&path).expect("a folder");
     path
+}
+
+/// A link that goes with the test that made it: while the repository holds a link, its proofs are not checked.
+pub struct Link(PathBuf);
+
+impl Link {
+    pub fn new(to: &Path, path: &Path) -> Link {
+        symlink(to, path).expect("a link");
+        Link(path.to_owned())
+    }
+}
+
+impl Drop for Link {
+    fn drop(&mut self) {
+        let _ = fs::remove_file(&self.0);
+    }
 }
 
 /// A path of the repository.
