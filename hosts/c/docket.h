@@ -65,7 +65,7 @@ extern "C" {
 /* for what `short` takes: docket_units_taken asks for so many numbers */
 #define DOCKET_TAKEN ((size_t)2)
 
-/* Stack enough for a call. A tree of the greatest depth uses less than 340,000 bytes of it, measured; no proof covers the stack.
+/* Stack enough for a call. A tree of the greatest depth uses less than 400,000 bytes of it, measured; no proof covers the stack.
  * On a thread with less the process ends at the stack's guard page. */
 #define DOCKET_STACK_BYTES ((size_t)1048576)
 

@@ -44,7 +44,7 @@ use Rattle.docket_host.specs.HostAnswer.{too_little_room, host_answer}
 use Rattle.docket_host.specs.Calls.{no_docket, lends, lodge_room, fresh_answer, fresh_numbers, fresh_rows, lodge_answer, lodge_numbers, lodge_rows, lodge_line, lodge_values, report_answer, report_bytes, outputs_room, outputs_answer, outputs_rows, taken_room, taken_number, taken_written, taken_answer, taken_numbers, runs_number, value_told, runs_answer, Tells, forced_number, forced_answer, Forces}
 use Rattle.docket_host.specs.Lending.{Lending, heard, fresh_state, after_calls, HostReport}
 use Rattle.docket_host.proofs.Calls as call
-use Rattle.docket_host.proofs.RunsCalls as Runs_call
+use Rattle.docket_host.proofs.RunsCalls as runs_call
 use Rattle.docket_host.proofs.ForcedCalls as forced_call
 use Rattle.docket_host.proofs.Hosted as hosted
 use Rattle.docket_host.proofs.AfterCalls as state
@@ -128,10 +128,10 @@ pub taken_none : (v w : List ℕ) (period most : ℕ) (fixed o : List ℕ) → t
 taken_none = call.taken_none
 
 pub runs_small : (v w q s fixed rows short : List ℕ) (value : List ℤ) → long v w ≡ false → Tells v w q s fixed rows short value too_little_room rows short value
-runs_small = Runs_call.runs_small
+runs_small = runs_call.runs_small
 
 pub runs_none : (v w q s fixed rows short : List ℕ) (value : List ℤ) → long v w ≡ true → holds v w ≡ false → Tells v w q s fixed rows short value no_docket rows short value
-runs_none = Runs_call.runs_empty
+runs_none = runs_call.runs_empty
 
 pub forced_small : (v w q s fixed : List ℕ) (values : List ℤ) (stuck : List ℕ) → long v w ≡ false → Forces v w q s fixed values stuck too_little_room values stuck
 forced_small = forced_call.forced_small
@@ -169,15 +169,15 @@ pub runs_any : (v w q s fixed rows short : List ℕ) (value : List ℤ) → long
     Tells v w q s fixed rows short value (runs_number told.answer) told.rows told.short (value_told told.answer value)
 runs_any v w q s fixed rows short value e i one =
     let told = runs_of (docket_in v w) q s fixed rows short in
-    Runs_call.runs_done v w q s fixed rows short value e i one (docket_in v w) refl told.answer refl told.rows refl told.short refl (runs_number told.answer) refl
+    runs_call.runs_done v w q s fixed rows short value e i one (docket_in v w) refl told.answer refl told.rows refl told.short refl (runs_number told.answer) refl
     (value_told told.answer value) refl
 
 pub runs_other : (v w q s fixed rows short : List ℕ) (value : List ℤ) → long v w ≡ true → holds v w ≡ true → (length value ≡ 1 → ⊥)
     → Tells v w q s fixed rows short value (runs_number (cond (docket_in v w).known runs.Unfit runs.NoProblem)) rows short value
-runs_other v w q s fixed rows short value e i other = Runs_call.runs_other v w q s fixed rows short value e i other (docket_in v w) refl (docket_in v w).known refl
+runs_other v w q s fixed rows short value e i other = runs_call.runs_other v w q s fixed rows short value e i other (docket_in v w) refl (docket_in v w).known refl
 
 pub runs_apart : (v w q s fixed rows short : List ℕ) (value : List ℤ) → long v w ≡ true → holds v w ≡ true → runs_answer v w q s fixed rows short value ≤ 132
-runs_apart = Runs_call.runs_apart
+runs_apart = runs_call.runs_apart
 
 -- The same of forced statuses (`forced_anywhere` there), by one of three numbers
 pub forced_any : (v w q s fixed : List ℕ) (values : List ℤ) (stuck : List ℕ) → long v w ≡ true → holds v w ≡ true

@@ -1,4 +1,4 @@
--- A line is parted at its first space: a slice of the whole line is the line, and past its end nothing is left.
+-- A line is parted at its first space: where a byte stands first, place by place, and past the end nothing is left.
 use Rattle.std.proofs.Common.{◌≡◌, ℕ, suc, ◌+◌, ◌-◌, ◌≤◌, ◌<◌, cond, List, length, take, drop, get_or, sym, ap, ◌∙◌, arith, add-one, length-drop, drop_of_length-le, take_all}
 use lib.Seq.{drop-cons}
 use borrow.Author.Tests.{eq-eqb, ne_eqb}

@@ -49,6 +49,6 @@ pub use report::Report;
 pub use runs::{CheapestRuns, Draft};
 pub use taken::{Fixed, UnitsTaken};
 
-/// Stack enough for a call: a tree of the greatest depth uses less than 340,000 bytes of it, measured. A thread of the standard
+/// Stack enough for a call: a tree of the greatest depth uses less than 400,000 bytes of it, measured. A thread of the standard
 /// library has twice as much, unless its builder says otherwise; on one with less the process ends at the stack's guard page.
 pub const STACK_BYTES: usize = 1_048_576;
