@@ -4,7 +4,7 @@ use mathlib.Core.List.{[], ◌∷◌}
 use lib.IntN.{pos, negsuc}
 use Rattle.decimal.specs.Decimal.{digits, digits_by}
 use Rattle.writer.specs.Written.{figure, figure_of}
-use Rattle.model.specs.declared.figures.Bound.TheVariants.{Never as never, Number as number}
+use Rattle.std.specs.Prelude.{None as never, Some as number}
 use Rattle.model.specs.Figures.{tree_gives}
 use Rattle.answer.specs.StatedAnswers.{no_values, its_cost, its_bound, refused, held, passed}
 use Rattle.answer.specs.AnswerLines.{answer_line}

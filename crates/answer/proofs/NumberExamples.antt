@@ -2,7 +2,7 @@
 use mathlib.Core.Path.{◌≡◌, refl}
 use mathlib.Core.List.{[], ◌∷◌}
 use lib.IntN.{pos, negsuc}
-use Rattle.model.specs.declared.figures.Bound.TheVariants.{Never as never, Number as number}
+use Rattle.std.specs.Prelude.{None as never, Some as number}
 use Rattle.model.specs.Held.{pad}
 use Rattle.model.specs.Figures.{tree_gives}
 use Rattle.answer.specs.StatedAnswers.{no_values, its_cost, its_bound, refused, held, passed}

@@ -6,8 +6,8 @@ use mathlib.Core.List.{List, [], ◌∷◌}
 use lib.IntN.{pos, negsuc}
 use lib.ListN.{length, length-append}
 use Rattle.decimal.proofs.Digits.{width_below}
-use Rattle.model.specs.declared.figures.Bound.{Bound}
-use Rattle.model.specs.declared.figures.Bound.TheVariants.{Never as never, Number as number}
+use Rattle.model.specs.Figures.{Bound}
+use Rattle.std.specs.Prelude.{None as never, Some as number}
 use Rattle.model.proofs.LeafSizes.{Fits}
 use Rattle.writer.specs.Written.{figure, figure_of}
 use Rattle.writer.specs.declared.Figure.{Figure}

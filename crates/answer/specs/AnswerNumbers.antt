@@ -1,7 +1,7 @@
 -- The answer to a lodged text as 16 numbers, for a program that reads no lines.
 use Rattle.std.specs.Prelude.{List, [], ◌∷◌, ◌++◌, ℕ, suc, pos, negsuc}
-use Rattle.model.specs.declared.figures.Bound.{Bound}
-use Rattle.model.specs.declared.figures.Bound.TheVariants.{Never as never, Number as number}
+use Rattle.model.specs.Figures.{Bound}
+use Rattle.std.specs.Prelude.{None as never, Some as number}
 use Rattle.model.specs.Held.{pad}
 use Rattle.answer.specs.StatedAnswers.{AnswerValues, no_values, its_cost, its_bound, Stated, refused, held, passed}
 

@@ -6,7 +6,7 @@ ghost use Rattle.writer.specs.Written.{over, figure};
 ghost use Rattle.answer.specs.StatedAnswers.{its_cost, its_bound, stated};
 ghost use Rattle.answer.specs.AnswerLines.{bound_figure, value_figures, ending, answer_line};
 
-use model::figures::{Bound, TreeFigures};
+use model::figures::TreeFigures;
 use refusal::Refusal;
 use writer::Figure;
 
@@ -24,12 +24,12 @@ pub enum Answer {
 }
 
 // The figure that shows a bound.
-fn figure_of_bound(bound: Bound) -> Figure
+fn figure_of_bound(bound: Option<i64>) -> Figure
     ensures { result ≡ bound_figure bound }
 {
     match bound {
-        Bound::Never => Figure::Never,
-        Bound::Number(z) => writer::figure_of(z),
+        None => Figure::Never,
+        Some(z) => writer::figure_of(z),
     }
 }
 

@@ -5,7 +5,7 @@ ghost use Rattle.answer.specs.StatedAnswers.{its_cost, its_bound, stated};
 ghost use Rattle.answer.specs.AnswerNumbers.{bound_numbers, value_numbers, answer_numbers};
 
 use crate::Answer;
-use model::figures::{Bound, TreeFigures};
+use model::figures::TreeFigures;
 use refusal::Refusal;
 use writer::Figure;
 
@@ -33,7 +33,7 @@ fn cost_numbers(first: u64, cost: u64) -> [u64; 16]
 }
 
 // The two numbers of a bound.
-fn bound_numbers(bound: Bound) -> [u64; 2]
+fn bound_numbers(bound: Option<i64>) -> [u64; 2]
     ensures { result ≡ bound_numbers bound }
 {
     let shown = crate::figure_of_bound(bound);

@@ -9,9 +9,11 @@ use mathlib.Core.List.{List, [], ◌∷◌}
 use lib.ListN.{length, take, drop, get_or, drop_of_length-le, length-drop}
 use lib.Seq.{drop-cons, get_or-drop}
 use borrow.Author.Tests.{eq-eqb, ne_eqb}
-use Rattle.decimal.specs.declared.Number.TheVariants.{Malformed, Value}
+use Rattle.std.specs.Prelude.{None}
+use Rattle.std.proofs.lemmas.Option.{same_Some}
+use Rattle.decimal.specs.declared.Number.{Number}
 use Rattle.decimal.specs.Decimal.{is_digit, value_of, canonical}
-use Rattle.decimal.specs.NumberRead.{read_cap, keep_if, leading_digits, digits_after, number_of, number_at}
+use Rattle.decimal.specs.NumberRead.{read_cap, keep_if, leading_digits, digits_after, number, number_of, number_at}
 
 -- the run from a place within the text, by whether a digit stands there
 pub leading_at : (s : List ℕ) (i : ℕ) (t : Bool) → i < length s → is_digit (get_or s i 0) ≡ t → leading_digits (drop i s) ≡ keep_if t (get_or s i 0) (leading_digits (drop (suc i) s))
@@ -86,24 +88,24 @@ leading_first s at h = go (leading_digits (drop at s)) refl h
     go ds e k = first (drop at s) ds e (omega arith) ∙ get_or-drop at s 0 0 ∙ ap (λ (n : ℕ). get_or s n 0) (add-zero at)
 
 -- the answers, by how many digits there are
-pub number_none : (ds : List ℕ) (at : ℕ) → at + length ds ≡ at → number_of ds at ≡ Malformed
+pub number_none : (ds : List ℕ) (at : ℕ) → at + length ds ≡ at → number_of ds at ≡ None
 unfolding number_of
 number_none [] at h = refl
 number_none (d ∷ ds) at h = absurd (omega arith)
 
-pub number_one : (ds : List ℕ) (at : ℕ) → at < at + length ds → at + length ds ≤ at + 1 → number_of ds at ≡ Value (min read_cap (value_of 0 ds)) (at + length ds)
+pub number_one : (ds : List ℕ) (at : ℕ) → at < at + length ds → at + length ds ≤ at + 1 → number_of ds at ≡ number (min read_cap (value_of 0 ds)) (at + length ds)
 unfolding number_of
 number_one [] at h k = absurd (omega arith)
 number_one (d ∷ []) at h k = refl
 number_one (d ∷ e ∷ ds) at h k = absurd (omega arith)
 
-pub number_zero : (ds : List ℕ) (at : ℕ) → at + 1 < at + length ds → get_or ds 0 0 ≡ 48 → number_of ds at ≡ Malformed
+pub number_zero : (ds : List ℕ) (at : ℕ) → at + 1 < at + length ds → get_or ds 0 0 ≡ 48 → number_of ds at ≡ None
 unfolding number_of
 number_zero [] at h k = absurd (omega arith)
 number_zero (d ∷ []) at h k = absurd (omega arith)
 number_zero (d ∷ e ∷ ds) at h k = simp (eq-eqb d 48 k)
 
-pub number_many : (ds : List ℕ) (at : ℕ) → at + 1 < at + length ds → (get_or ds 0 0 ≡ 48 → ⊥) → number_of ds at ≡ Value (min read_cap (value_of 0 ds)) (at + length ds)
+pub number_many : (ds : List ℕ) (at : ℕ) → at + 1 < at + length ds → (get_or ds 0 0 ≡ 48 → ⊥) → number_of ds at ≡ number (min read_cap (value_of 0 ds)) (at + length ds)
 unfolding number_of
 number_many [] at h k = absurd (omega arith)
 number_many (d ∷ []) at h k = absurd (omega arith)
@@ -114,32 +116,32 @@ module _ (s : List ℕ) (at e : ℕ) (end : e ≡ at + length (leading_digits (d
   pub within : (e ≡ at → ⊥) → (at ≤ e) × (e ≤ length s)
   within h = (omega arith, rw end (leading_fits s at (omega (arith, h))))
 
-  pub answer_none : e ≡ at → Malformed ≡ number_at s at
+  pub answer_none : e ≡ at → None ≡ number_at s at
   unfolding number_at
   answer_none h = sym (number_none (leading_digits (drop at s)) at (sym end ∙ h))
 
-  pub answer_zero : at + 1 < e → get_or s at 0 ≡ 48 → Malformed ≡ number_at s at
+  pub answer_zero : at + 1 < e → get_or s at 0 ≡ 48 → None ≡ number_at s at
   unfolding number_at
   answer_zero h k = sym (number_zero (leading_digits (drop at s)) at (omega arith) (leading_first s at (omega arith) ∙ k))
 
   module _ (v : ℕ) (val : v ≡ min read_cap (value_of 0 (leading_digits (drop at s)))) where
-    same : Value v e ≡ Value (min read_cap (value_of 0 (leading_digits (drop at s)))) (at + length (leading_digits (drop at s)))
+    same : number v e ≡ number (min read_cap (value_of 0 (leading_digits (drop at s)))) (at + length (leading_digits (drop at s)))
     same = rw (val, end) refl
 
-    pub answer_many : at + 1 < e → (get_or s at 0 ≡ 48 → ⊥) → Value v e ≡ number_at s at
+    pub answer_many : at + 1 < e → (get_or s at 0 ≡ 48 → ⊥) → number v e ≡ number_at s at
     unfolding number_at
     answer_many h k = same ∙ sym (number_many (leading_digits (drop at s)) at (omega arith) (λ q. k (sym (leading_first s at (omega arith)) ∙ q)))
 
-    pub answer_one : (e ≡ at → ⊥) → e ≤ at + 1 → Value v e ≡ number_at s at
+    pub answer_one : (e ≡ at → ⊥) → e ≤ at + 1 → number v e ≡ number_at s at
     unfolding number_at
     answer_one h k = same ∙ sym (number_one (leading_digits (drop at s)) at (omega arith) (omega arith))
 
 -- what an answer says of the digits
-pub number_bad : (s : List ℕ) (at : ℕ) → number_at s at ≡ Malformed → canonical (leading_digits (drop at s)) ≡ false
+pub number_bad : (s : List ℕ) (at : ℕ) → number_at s at ≡ None → canonical (leading_digits (drop at s)) ≡ false
 unfolding number_at number_of
 number_bad s at = go (canonical (leading_digits (drop at s)))
   where
-    go : (t : Bool) → cond t (Value (min read_cap (value_of 0 (leading_digits (drop at s)))) (at + length (leading_digits (drop at s)))) Malformed ≡ Malformed → t ≡ false
+    go : (t : Bool) → cond t (number (min read_cap (value_of 0 (leading_digits (drop at s)))) (at + length (leading_digits (drop at s)))) None ≡ None → t ≡ false
     go true e = cc
     go false e = refl
 
@@ -148,11 +150,11 @@ pub record IsNumber (s : List ℕ) (at v e : ℕ) : Type 0 where
   pub value : v ≡ min read_cap (value_of 0 (leading_digits (drop at s)))
   pub end : e ≡ at + length (leading_digits (drop at s))
 
-picked : (t : Bool) (x y v e : ℕ) → cond t (Value x y) Malformed ≡ Value v e → (t ≡ true) × ((v ≡ x) × (e ≡ y))
-picked true x y v e p = (refl, (cc, cc))
+picked : (t : Bool) (x y v e : ℕ) → cond t (number x y) None ≡ number v e → (t ≡ true) × ((v ≡ x) × (e ≡ y))
+picked true x y v e p = let same = sym (same_Some _ _ p) in (refl, (ap (λ (n : Number). n.value) same, ap (λ (n : Number). n.next) same))
 picked false x y v e p = (cc, (cc, cc))
 
-pub number_value : (s : List ℕ) (at v e : ℕ) → number_at s at ≡ Value v e → IsNumber s at v e
+pub number_value : (s : List ℕ) (at v e : ℕ) → number_at s at ≡ number v e → IsNumber s at v e
 unfolding number_at number_of
 number_value s at v e q =
     let p = picked (canonical (leading_digits (drop at s))) (min read_cap (value_of 0 (leading_digits (drop at s)))) (at + length (leading_digits (drop at s))) v e q in

@@ -7,8 +7,7 @@ use mathlib.Core.List.{List, [], ◌∷◌, ◌++◌}
 use lib.ListN.{length, drop, take-append-drop}
 use lib.Seq.{drop-drop}
 use Rattle.decimal.specs.Decimal.{is_digit, value_of, all_digits, numeral, digits}
-use Rattle.decimal.specs.NumberRead.{read_cap, keep_if, leading_digits, number_of, number_at}
-use Rattle.decimal.specs.declared.Number.TheVariants.{Value}
+use Rattle.decimal.specs.NumberRead.{read_cap, keep_if, leading_digits, number, number_of, number_at}
 use Rattle.decimal.proofs.NumberRead.{leading_take, number_value}
 use Rattle.decimal.proofs.Digits.{and_true, digits_all, canonical_digits, numeral_digits, value_digits, digits_value}
 
@@ -53,7 +52,7 @@ run_over (b ∷ t) = go (is_digit b) refl (run_over t)
 -- ---- the reader of a number
 
 -- the digits of n stand at the place and no digit follows: n is read
-pub read_digits : (s rest : List ℕ) (at n : ℕ) → drop at s ≡ digits n ++ rest → leading_digits rest ≡ [] → number_at s at ≡ Value (min read_cap n) (at + length (digits n))
+pub read_digits : (s rest : List ℕ) (at n : ℕ) → drop at s ≡ digits n ++ rest → leading_digits rest ≡ [] → number_at s at ≡ number (min read_cap n) (at + length (digits n))
 unfolding number_at number_of
 read_digits s rest at n q k =
     let r : leading_digits (drop at s) ≡ digits n = ap leading_digits q ∙ run_append (digits n) rest (digits_all n) k in
@@ -66,7 +65,7 @@ pub record WasDigits (s : List ℕ) (at v e : ℕ) : Type 0 where
   pub text : drop at s ≡ digits number ++ drop e s
   pub alone : leading_digits (drop e s) ≡ []
 
-pub digits_read : (s : List ℕ) (at v e : ℕ) → number_at s at ≡ Value v e → WasDigits s at v e
+pub digits_read : (s : List ℕ) (at v e : ℕ) → number_at s at ≡ number v e → WasDigits s at v e
 digits_read s at v e q =
     let n = number_value s at v e q in
     let ds = leading_digits (drop at s) in

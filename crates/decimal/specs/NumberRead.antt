@@ -1,9 +1,8 @@
 -- What the reader of a number answers: the digits that stand at a place of a text, and their value or the cap.
-use Rattle.std.specs.Prelude.{ℕ, ◌+◌, min, Bool, true, false, cond, List, [], ◌∷◌, length, drop}
+use Rattle.std.specs.Prelude.{ℕ, ◌+◌, min, Bool, true, false, cond, List, [], ◌∷◌, length, drop, Option, None, Some}
 use Rattle.decimal.specs.Decimal.{is_digit, canonical, value_of}
 use Rattle.decimal.specs.declared.DigitsRead.{DigitsRead}
 use Rattle.decimal.specs.declared.Number.{Number}
-use Rattle.decimal.specs.declared.Number.TheVariants.{Malformed, Value}
 
 -- above every range of document 01: a larger value reads as this
 abbrev pub read_cap : ℕ
@@ -26,10 +25,14 @@ digits_after v s at = record { value = min read_cap (value_of v (leading_digits 
 abbrev pub digits_at : List ℕ → ℕ → DigitsRead
 digits_at = digits_after 0
 
--- the digits ds, which stand at the place `at`, as a number
-unfoldable pub number_of : List ℕ → ℕ → Number
-number_of ds at = cond (canonical ds) (Value (min read_cap (value_of 0 ds)) (at + length ds)) Malformed
+-- a number that was read, with the place after it
+abbrev pub number : ℕ → ℕ → Option Number
+number value next = Some (record { value = value; next = next })
 
--- the number that stands at the place `at` of the text s
-unfoldable pub number_at : List ℕ → ℕ → Number
+-- the digits ds, which stand at the place `at`, as a number, if they are one
+unfoldable pub number_of : List ℕ → ℕ → Option Number
+number_of ds at = cond (canonical ds) (number (min read_cap (value_of 0 ds)) (at + length ds)) None
+
+-- the number that stands at the place `at` of the text s, if one does
+unfoldable pub number_at : List ℕ → ℕ → Option Number
 number_at s at = number_of (leading_digits (drop at s)) at

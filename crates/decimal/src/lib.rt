@@ -13,13 +13,13 @@ const CAP: u64 = 10_000_000_000;
 const FIRST: usize = 5;
 
 // The byte of the digit 0.
-const ZERO: u8 = 48;
+const ZERO: u8 = b'0';
 
-// What stands at a place of a text: no number without leading zeros, or one, with its value and the place after it.
+// A number without leading zeros that stands at a place of a text: its value, or the cap, and the place after it.
 #[derive(Clone, Copy)]
-pub enum Number {
-    Malformed,
-    Value { value: u64, next: usize },
+pub struct Number {
+    pub value: u64,
+    pub next: usize,
 }
 
 // Digits at a place of a text: their value, or the cap, and the place after them.
@@ -29,28 +29,16 @@ struct DigitsRead {
     end: usize,
 }
 
-// Whether the byte b is a digit.
-fn is_digit(b: u8) -> bool
-    ensures { result ≡ is_digit b }
-{
-    if b < 48 {
-        return false;
-    }
-    if 57 < b {
-        return false;
-    }
-    true
-}
-
 // v with one more digit, which the byte b writes, or the cap.
 fn with_digit(v: u64, b: u8) -> u64
     requires { is_digit b ≡ true }
     ensures { result ≡ min read_cap (v * 10 + (b - 48)) }
 {
     if v < CAP / 10 {
-        return v * 10 + (b - 48) as u64;
+        v * 10 + u64::from(b - b'0')
+    } else {
+        CAP
     }
-    CAP
 }
 
 // The digits that stand at the place `at` of a text, after digits of value v.
@@ -59,17 +47,17 @@ fn read_rest(s: &[u8], at: usize, v: u64) -> DigitsRead
     ensures { result ≡ digits_after v s.now at }
 {
     let mut value = v;
-    let mut i = at;
-    while i < s.len() {
+    for i in at..s.len() {
         let b = s[i];
-        if is_digit(b) {
-            value = with_digit(value, b);
-            i += 1;
-        } else {
+        if !b.is_ascii_digit() {
             return DigitsRead { value, end: i };
         }
+        value = with_digit(value, b);
     }
-    DigitsRead { value, end: i }
+    DigitsRead {
+        value,
+        end: at.max(s.len()),
+    }
 }
 
 // The digits that stand at the place `at` of a text, where FIRST bytes stand.
@@ -78,15 +66,12 @@ fn read_first(s: &[u8], at: usize) -> DigitsRead
     ensures { result ≡ digits_at s.now at }
 {
     let mut value: u64 = 0;
-    let mut k = 0;
-    while k < FIRST {
+    for k in 0..FIRST {
         let b = s[at + k];
-        if is_digit(b) {
-            value = with_digit(value, b);
-            k += 1;
-        } else {
+        if !b.is_ascii_digit() {
             return DigitsRead { value, end: at + k };
         }
+        value = with_digit(value, b);
     }
     read_rest(s, at + FIRST, value)
 }
@@ -95,29 +80,23 @@ fn read_first(s: &[u8], at: usize) -> DigitsRead
 fn read_digits(s: &[u8], at: usize) -> DigitsRead
     ensures { result ≡ digits_at s.now at }
 {
-    if at < s.len() {
-        if FIRST <= s.len() - at {
-            return read_first(s, at);
-        }
+    if at < s.len() && FIRST <= s.len() - at {
+        read_first(s, at)
+    } else {
+        read_rest(s, at, 0)
     }
-    read_rest(s, at, 0)
 }
 
-// The number that starts at the place `at` of a text.
-pub fn read_number(s: &[u8], at: usize) -> Number
+// The number that starts at the place `at` of a text, or that there is none.
+pub fn read_number(s: &[u8], at: usize) -> Option<Number>
     ensures { result ≡ number_at s.now at }
 {
-    let digits = read_digits(s, at);
-    let value = digits.value;
-    let end = digits.end;
+    let DigitsRead { value, end } = read_digits(s, at);
     if end == at {
-        return Number::Malformed;
+        return None;
     }
-    if at + 1 < end {
-        if s[at] == ZERO {
-            return Number::Malformed;
-        }
-        return Number::Value { value, next: end };
+    if at + 1 < end && s[at] == ZERO {
+        return None;
     }
-    Number::Value { value, next: end }
+    Some(Number { value, next: end })
 }

@@ -10,7 +10,7 @@ use Prim.Native.Nat.{ℕ}
 use native.Mathlib.Omega.{arith}
 use lib.Dec.{T, ltb→lt, lt→ltb, nltb→le}
 use Rattle.model.specs.Ranges.{every}
-use Rattle.model.specs.declared.figures.Bound.{Bound}
+use Rattle.model.specs.Figures.{Bound}
 use Rattle.model.specs.Best.{First}
 use Rattle.model.proofs.Lists.{take, held_after, IsFirst, cheaper, raises, higher_trans, higher_weak}
 use Rattle.model.proofs.Tests.{T_and, T_and_l, T_and_r}

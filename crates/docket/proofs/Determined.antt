@@ -9,8 +9,8 @@ use Prim.Native.Nat.{ℕ}
 use native.Mathlib.Omega.{arith}
 use Rattle.model.specs.Instance.{Instance}
 use Rattle.model.specs.Held.{pad}
-use Rattle.model.specs.declared.figures.Bound.{Bound}
-use Rattle.model.specs.declared.figures.Bound.TheVariants.{Never as never, Number as number}
+use Rattle.model.specs.Figures.{Bound}
+use Rattle.std.specs.Prelude.{None as never, Some as number}
 use Rattle.model.specs.Best.{First}
 use Rattle.model.proofs.Lists.{held_least, held_highest}
 use Rattle.tree.specs.Acceptance.{Bounded}

@@ -14,7 +14,7 @@ use Rattle.model.specs.Rules.{Meets}
 use Rattle.model.specs.Cost.{cost}
 use Rattle.model.specs.Above.{root}
 use Rattle.model.specs.Held as arrays
-use Rattle.model.specs.declared.figures.Bound.{Bound}
+use Rattle.model.specs.Figures.{Bound}
 use Rattle.model.specs.Tree.{Tree, Limits, Holds, bound, tree_figures}
 use Rattle.model.specs.Best.{higher}
 use Rattle.model.proofs.Held.{view_held}

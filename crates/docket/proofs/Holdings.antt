@@ -14,8 +14,8 @@ use lib.Signed.{◌≤ℤ◌, lt_z}
 use Rattle.model.specs.Instance.{Instance, Schedule}
 use Rattle.model.specs.Rules.{Meets}
 use Rattle.model.specs.Cost as model
-use Rattle.model.specs.declared.figures.Bound.{Bound}
-use Rattle.model.specs.declared.figures.Bound.TheVariants.{Never as never, Number as number}
+use Rattle.model.specs.Figures.{Bound}
+use Rattle.std.specs.Prelude.{None as never, Some as number}
 use Rattle.model.specs.Best.{First, FirstLeast, FirstHighest, higher}
 use Rattle.model.proofs.EveryLeaf.{not_above_self}
 use Rattle.model.proofs.Integers.{ltZ→nat}

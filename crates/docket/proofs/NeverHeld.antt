@@ -6,7 +6,7 @@ use mathlib.Core.Option.{none, some}
 use Rattle.model.specs.Instance.{Instance}
 use Rattle.model.specs.Ranges.{midnight_ordered, ordered}
 use Rattle.model.specs.Leaf.{usable, available, is_stuck}
-use Rattle.model.specs.declared.figures.Bound.TheVariants.{Never as never}
+use Rattle.std.specs.Prelude.{None as never}
 use Rattle.model.specs.Figures.{tree_gives}
 use Rattle.model.specs.Tree.{leaf_bound}
 use Rattle.refusal.specs.Refusals.{refusal_of, carries_line, carries_unit, carries_period}

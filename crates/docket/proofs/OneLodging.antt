@@ -9,8 +9,8 @@ use lib.Dec.{ltb}
 use Rattle.model.specs.Instance.{Instance}
 use Rattle.model.specs.Ranges.{every}
 use Rattle.model.specs.Held.{view}
-use Rattle.model.specs.declared.figures.Bound.{Bound}
-use Rattle.model.specs.declared.figures.Bound.TheVariants.{Never as never, Number as number}
+use Rattle.model.specs.Figures.{Bound}
+use Rattle.std.specs.Prelude.{None as never, Some as number}
 use Rattle.model.specs.Best.{higher}
 use Rattle.model.proofs.Held.{view_held}
 use Rattle.model.proofs.Lists.{take, held_after, held_least, held_highest}

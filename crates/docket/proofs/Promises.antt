@@ -18,7 +18,7 @@ use Rattle.model.specs.Above.{Mark, root}
 use Rattle.model.specs.Agreement.{Candidate, LeafOf, above, leaf_at}
 use Rattle.model.specs.Leaf.{is_stuck, value, unit_least}
 use Rattle.model.specs.Ramps.{ramp_value, ramp_least}
-use Rattle.model.specs.declared.figures.Bound.TheVariants.{Never as never, Number as number}
+use Rattle.std.specs.Prelude.{None as never, Some as number}
 use Rattle.model.specs.Tree.{Tree, Holds, leaf_bound, tree_figures}
 use Rattle.model.specs.Tree as tree
 use Rattle.model.specs.Best.{higher, FirstLeast, FirstHighest}

@@ -13,8 +13,8 @@ use Rattle.model.specs.Ranges.{WellFormed, All}
 use Rattle.model.specs.Held as arrays
 use Rattle.model.specs.Held.{pad, valid_problem}
 use Rattle.model.specs.Above.{root}
-use Rattle.model.specs.declared.figures.Bound.{Bound}
-use Rattle.model.specs.declared.figures.Bound.TheVariants.{Never as never, Number as number}
+use Rattle.model.specs.Figures.{Bound}
+use Rattle.std.specs.Prelude.{None as never, Some as number}
 use Rattle.model.proofs.Tests.{T_true, T_and}
 use Rattle.model.proofs.Valid.{held_passes}
 use Rattle.model.proofs.Lists.{held_after, IsFirst, cheaper, raises, held_least, held_highest}

@@ -9,8 +9,8 @@ use Prim.Native.Nat.{ℕ, ◌+◌}
 use lib.ListN.{length}
 use borrow.Author.Tests.{leb-true, leb-false}
 use Rattle.model.specs.Instance.{Instance}
-use Rattle.model.specs.declared.figures.Bound.{Bound}
-use Rattle.model.specs.declared.figures.Bound.TheVariants.{Never as never, Number as number}
+use Rattle.model.specs.Figures.{Bound}
+use Rattle.std.specs.Prelude.{None as never, Some as number}
 use Rattle.model.proofs.Lists.{held_least, held_highest}
 use Rattle.refusal.specs.Refusals.{refusal_of, carries_line, carries_unit, carries_period}
 use Rattle.report.specs.Report.{report_lines, has_room, written_at, placed_at}

@@ -28,7 +28,7 @@ use Rattle.model.specs.Leaf.{usable, available, not_off, Crowded, those, is_stuc
 use Rattle.model.specs.Forced.{unit_answer, force, forced_least, lesser_entry, forced_table, forced_tables}
 use Rattle.model.specs.Runs.{least_row, Attains, Precedes, ByOutputs, ByStatuses, first_stuck, least_rows, shortfall, shortfalls}
 use Rattle.model.specs.Ramps.{over_rise, over_fall, sumℤ, ramp_charge, ramp_value, Steps, ramp_leasts, ramp_leaf_value, RampPrices, ups, downs, Unpriced}
-use Rattle.model.specs.declared.figures.Bound.TheVariants.{Never as never, Number as number}
+use Rattle.std.specs.Prelude.{None as never, Some as number}
 use Rattle.model.specs.Turns.{in_turn, took, Fewest}
 use Rattle.model.specs.Tree.{Leaf, short, crowd, stuck, price, ramp, Tree, leaf, fork, Narrows, GoodFork, GoodLeaf, HasPrices, LeafHolds, leaf_bound, Limits, Holds, bound, tree_figures}
 use Rattle.model.specs.Agreement.{running, Agrees, Candidate, LeafOf, above, leaf_at, OneLeaf}

@@ -12,7 +12,7 @@ use lib.IntN.{ℤ}
 use lib.ListN.{length, get_or, length-map}
 use lib.Seq.{ext_get_or}
 use Rattle.model.specs.declared.generator.Generator.{Generator}
-use Rattle.model.specs.declared.figures.Bound.TheVariants.{Number as number}
+use Rattle.std.specs.Prelude.{Some as number}
 use Rattle.model.specs.Instance.{Instance, Schedule, ◌at◌}
 use Rattle.model.specs.Ranges.{All, GoodUnit, WellFormed}
 use Rattle.model.specs.Held.{view, blank_generator}

@@ -6,7 +6,7 @@ use Prim.Native.Nat.{ℕ}
 use lib.IntN.{pos}
 use Rattle.model.specs.Instance.{Instance}
 use Rattle.model.specs.Ranges.{All}
-use Rattle.model.specs.declared.figures.Bound.TheVariants.{Number as number}
+use Rattle.std.specs.Prelude.{Some as number}
 use Rattle.model.specs.Figures.{tree_gives}
 use Rattle.problem.proofs.Examples.{example, example_formed}
 use Rattle.answer.specs.StatedAnswers.{no_values, its_cost, its_bound, held, stated}

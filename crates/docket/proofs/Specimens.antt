@@ -12,8 +12,8 @@ use Rattle.model.specs.Cost.{cost, row_cost}
 use Rattle.model.specs.Breach.{first_breach}
 use Rattle.model.specs.Above.{count}
 use Rattle.model.specs.Leaf.{usable, available, fixed_on, is_stuck}
-use Rattle.model.specs.declared.figures.Bound.{Bound}
-use Rattle.model.specs.declared.figures.Bound.TheVariants.{Number as number}
+use Rattle.model.specs.Figures.{Bound}
+use Rattle.std.specs.Prelude.{Some as number}
 use Rattle.model.specs.Figures.{tree_gives}
 use Rattle.model.specs.Tree.{short, crowd, stuck, Tree, leaf, fork, GoodLeaf, LeafHolds, Limits, Holds, splits, leaves, tree_figures}
 use Rattle.model.specs.CountExamples.{by_count, by_both, count_bounds, count_limits, count_holds}

@@ -8,8 +8,8 @@ use Rattle.model.specs.Rules.{Meets}
 use Rattle.model.specs.Cost as model
 use Rattle.model.specs.Held as arrays
 use Rattle.model.specs.Held.{pad}
-use Rattle.model.specs.declared.figures.Bound.{Bound}
-use Rattle.model.specs.declared.figures.Bound.TheVariants.{Never as never, Number as number}
+use Rattle.model.specs.Figures.{Bound}
+use Rattle.std.specs.Prelude.{None as never, Some as number}
 use Rattle.model.specs.Best.{higher, FirstLeast, FirstHighest}
 use Rattle.tree.specs.Acceptance.{Bounded}
 use Rattle.docket.specs.declared.Docket.{Docket}

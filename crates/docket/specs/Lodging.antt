@@ -6,8 +6,8 @@ use Rattle.model.specs.declared.arrays.Problem.{Problem}
 use Rattle.model.specs.Instance.{Instance, Schedule}
 use Rattle.model.specs.Held as arrays
 use Rattle.model.specs.Held.{view, pad}
-use Rattle.model.specs.declared.figures.Bound.{Bound}
-use Rattle.model.specs.declared.figures.Bound.TheVariants.{Never as never, Number as number}
+use Rattle.model.specs.Figures.{Bound}
+use Rattle.std.specs.Prelude.{None as never, Some as number}
 use Rattle.refusal.specs.Refusals.{refusal_of}
 use Rattle.text.specs.Lines.{line_at, kind_of}
 use Rattle.text.specs.Course.{Judged, refused_at, accepted}

@@ -3,7 +3,7 @@
 use Rattle.std.specs.Prelude.{◌≡◌, List, [], ◌∷◌, ◌++◌, map, ℕ, pos}
 use Rattle.std.proofs.Math.Option.{Option, none, some}
 use Prim.Native.String.{String}
-use Rattle.model.specs.declared.figures.Bound.TheVariants.{Number as number}
+use Rattle.std.specs.Prelude.{Some as number}
 use Rattle.model.specs.Figures.{tree_gives}
 use Rattle.text.specs.Strings.{lines}
 use Rattle.docket.specs.declared.Docket.{Docket}

@@ -7,7 +7,7 @@ use crate::held::{BoundBy, CostBy, Held, HeldBound, HeldCost, NeverBy};
 use crate::{Docket, Lodged};
 use answer::Answer;
 use model::arrays::Problem;
-use model::figures::{Bound, TreeFigures};
+use model::figures::TreeFigures;
 use problem::ProblemAnswer;
 use schedule::{Priced, ScheduleAnswer};
 use tree::TreeRead;
@@ -23,26 +23,26 @@ fn is_less(cost: u64, held: HeldCost) -> bool
 }
 
 // Whether no bound is held or this one is higher, never being above every number.
-fn is_higher(bound: Bound, held: HeldBound) -> bool
+fn is_higher(bound: Option<i64>, held: HeldBound) -> bool
     ensures { result ≡ is_higher bound held }
 {
     match held {
         HeldBound::Nothing => true,
         HeldBound::Never(_) => false,
         HeldBound::Number(n) => match bound {
-            Bound::Never => true,
-            Bound::Number(v) => n.value < v,
+            None => true,
+            Some(v) => n.value < v,
         },
     }
 }
 
 // The bound with its writer, as it is held.
-fn bound_by(bound: Bound, writer: u64) -> HeldBound
+fn bound_by(bound: Option<i64>, writer: u64) -> HeldBound
     ensures { result ≡ bound_by bound writer }
 {
     match bound {
-        Bound::Number(value) => HeldBound::Number(BoundBy { value, writer }),
-        Bound::Never => HeldBound::Never(NeverBy { writer }),
+        Some(value) => HeldBound::Number(BoundBy { value, writer }),
+        None => HeldBound::Never(NeverBy { writer }),
     }
 }
 

@@ -8,7 +8,7 @@ use docket::taking::TakenAnswer;
 use docket::{Docket, Lodged};
 use leaves::short::Taken;
 use model::arrays::Problem;
-use model::figures::{Bound, TreeFigures};
+use model::figures::TreeFigures;
 use refusal::Refusal;
 use report::ReportAnswer;
 use writer::Figure;
@@ -66,8 +66,8 @@ fn print_tree(figures: TreeFigures) {
     print(b",");
     let bound = figures.bound;
     match bound {
-        Bound::Never => print(b"never"),
-        Bound::Number(z) => print_figure(writer::figure_of(z)),
+        None => print(b"never"),
+        Some(z) => print_figure(writer::figure_of(z)),
     }
     print_value(figures.splits as u64);
     print_value(figures.leaves as u64);

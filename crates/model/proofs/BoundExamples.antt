@@ -11,7 +11,7 @@ use Rattle.model.specs.Instance.{Instance, ◌at◌, sum}
 use Rattle.model.specs.Ranges.{GoodUnit, WellFormed, in_range, costs_in_range, outputs_in_range, times_in_range, midnight_ordered, ordered}
 use Rattle.model.specs.Above.{root, status, side}
 use Rattle.model.specs.Leaf.{usable, available, is_stuck, minℤ, requirement}
-use Rattle.model.specs.declared.figures.Bound.TheVariants.{Number as number}
+use Rattle.std.specs.Prelude.{Some as number}
 use Rattle.model.specs.Tree.{short, price, Tree, leaf, fork, GoodLeaf, LeafHolds, leaf_bound, Limits, Holds, bound, splits, leaves}
 use Rattle.model.specs.Walk.{plus, lesser, back, walk}
 use Rattle.model.specs.Prices.{on_value, best_at, price_walk, offset, price_walks, offsets}

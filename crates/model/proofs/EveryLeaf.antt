@@ -11,8 +11,8 @@ use lib.Signed.{le_z, lt_z, ◌≤ℤ◌}
 use Rattle.model.specs.Instance.{Instance}
 use Rattle.model.specs.Above.{Above, side}
 use Rattle.model.specs.Leaf.{minℤ}
-use Rattle.model.specs.declared.figures.Bound.{Bound}
-use Rattle.model.specs.declared.figures.Bound.TheVariants.{Never as never, Number as number}
+use Rattle.model.specs.Figures.{Bound}
+use Rattle.std.specs.Prelude.{None as never, Some as number}
 use Rattle.model.specs.Figures.{lower}
 use Rattle.model.specs.Tree.{Leaf, short, crowd, stuck, price, ramp, Tree, leaf, fork, HasPrices, LeafHolds, leaf_bound, Holds, bound}
 use Rattle.model.specs.Best.{higher}

@@ -16,7 +16,7 @@ use Rattle.model.specs.Ranges.{All, GoodUnit}
 use Rattle.model.specs.Above.{Mark, Marks, rest, Above, AboveMost}
 use Rattle.model.specs.Leaf.{unless_off, usable, summed, available, if_fixed_on, fixed_on, Crowded, is_stuck, stuck_at, any_stuck, unit_least, units_least, requirement, leaf_value}
 use Rattle.model.specs.Ramps.{ramp_least, Steps, rest_steps, ups, downs, ramp_leasts, ramp_leaf_value}
-use Rattle.model.specs.declared.figures.Bound.TheVariants.{Number as number}
+use Rattle.std.specs.Prelude.{Some as number}
 use Rattle.model.specs.Tree.{Leaf, short, crowd, stuck, price, ramp, LeafHolds, leaf_bound}
 use Rattle.model.specs.Prices.{offset, decoded}
 use Rattle.model.proofs.PeriodSums.{sum_eq}

@@ -8,8 +8,8 @@ use Rattle.model.specs.Instance.{Instance, ◌at◌}
 use Rattle.model.specs.Above.{Marks, Above}
 use Rattle.model.specs.Leaf.{stuck_at, any_stuck, leaf_value}
 use Rattle.model.specs.Ramps.{RampPrices, ups, downs, ramp_leaf_value}
-use Rattle.model.specs.declared.figures.Bound.{Bound}
-use Rattle.model.specs.declared.figures.Bound.TheVariants.{Number as number}
+use Rattle.model.specs.Figures.{Bound}
+use Rattle.std.specs.Prelude.{Some as number}
 use Rattle.model.specs.Tree.{stuck, price, ramp, LeafHolds, leaf_bound}
 
 -- with the same statuses above, whatever counts stand: the value is the same, and so are the rules of the three leaves

@@ -7,8 +7,8 @@ use Rattle.model.specs.Rules.{MeetsPrinted}
 use Rattle.model.specs.Cost.{cost}
 use Rattle.model.specs.Above.{Above}
 use Rattle.model.specs.Ramps.{ups, downs}
-use Rattle.model.specs.declared.figures.Bound.{Bound}
-use Rattle.model.specs.declared.figures.Bound.TheVariants.{Never as never, Number as number}
+use Rattle.model.specs.Figures.{Bound}
+use Rattle.std.specs.Prelude.{None as never, Some as number}
 use Rattle.model.specs.Tree.{Leaf, short, crowd, stuck, price, ramp, LeafHolds, leaf_bound}
 use Rattle.model.specs.Agreement.{Agrees}
 use Rattle.model.proofs.Duality.{leaf_below, stuck_excludes}

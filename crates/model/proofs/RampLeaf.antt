@@ -4,7 +4,7 @@ use mathlib.Core.Path.{◌≡◌, refl, ◌∙◌, ap, ap₂, fun_ext}
 use mathlib.Core.Bool.{Bool, cond}
 use mathlib.Core.List.Memᴰ
 use mathlib.Core.List.{List, [], ◌∷◌, map}
-use Prim.Native.Nat.{ℕ, zero, suc, pred, ◌+◌, ◌*◌, ◌-◌, ◌≤◌, ◌<◌}
+use Prim.Native.Nat.{ℕ, zero, suc, pred, ◌+◌, ◌-◌, ◌≤◌, ◌<◌}
 use native.Mathlib.Omega.{arith}
 use lib.IntN.{ℤ, pos, ◌+ℤ◌, ◌*ℤ◌, +ℤ_idr, zero-*ℤ}
 use lib.ListN.{length}
@@ -19,7 +19,7 @@ use Rattle.model.specs.Above.{Mark, Marks, Above, rest}
 use Rattle.model.specs.Agreement.{Follows, Agrees}
 use Rattle.model.specs.Leaf.{rows_of, least, revenue, value, unit_least, units_least, requirement, leaf_value}
 use Rattle.model.specs.Ramps.{over_rise, over_fall, sumℤ, ramp_charge, ramp_value, ramp_least, Steps, rest_steps, ramp_leasts, ramp_leaf_value, RampPrices, ups, downs, Unpriced}
-use Rattle.model.specs.declared.figures.Bound.TheVariants.{Number as number}
+use Rattle.std.specs.Prelude.{Some as number}
 use Rattle.model.specs.Tree.{price, ramp, StepMultipliers, GoodLeaf, leaf_bound}
 use Rattle.model.proofs.Integers.{up, down, le→nat, nat→le, +ℤ-nat, least_le}
 use Rattle.model.proofs.Duality.{mem_row, duality}

@@ -10,8 +10,8 @@ use Rattle.model.specs.Rules.{MeetsPrinted}
 use Rattle.model.specs.Cost.{cost}
 use Rattle.model.specs.Above.{Above, root, side}
 use Rattle.model.specs.Leaf.{minℤ}
-use Rattle.model.specs.declared.figures.Bound.{Bound}
-use Rattle.model.specs.declared.figures.Bound.TheVariants.{Never as never, Number as number}
+use Rattle.model.specs.Figures.{Bound}
+use Rattle.std.specs.Prelude.{None as never, Some as number}
 use Rattle.model.specs.Figures.{lower}
 use Rattle.model.specs.Tree.{Tree, leaf, fork, Holds, bound}
 use Rattle.model.specs.Agreement.{Agrees, takes}

@@ -5,8 +5,8 @@ use lib.Signed.{le_z}
 use Rattle.model.specs.Instance.{Instance}
 use Rattle.model.specs.Ranges.{WellFormed}
 use Rattle.model.specs.Above.{Above, side}
-use Rattle.model.specs.declared.figures.Bound.{Bound}
-use Rattle.model.specs.declared.figures.Bound.TheVariants.{Never as never, Number as number}
+use Rattle.model.specs.Figures.{Bound}
+use Rattle.std.specs.Prelude.{None as never, Some as number}
 use Rattle.model.specs.Figures.{lower}
 use Rattle.model.specs.Tree.{Tree, leaf, fork, Limits, bound}
 use Rattle.model.proofs.LeafSizes.{Fits, leaf_bound_fits}

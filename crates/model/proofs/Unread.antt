@@ -17,7 +17,7 @@ use Rattle.model.specs.Cost.{switch_cost, switch_costs, fuel_cost, row_cost, cos
 use Rattle.model.specs.Above.{free, Mark, Marks, rest, Above, Fork, status, count, side, AboveMost, agrees}
 use Rattle.model.specs.Leaf.{unless_off, usable, summed, available, if_fixed_on, fixed_on, Crowded, words, those, none_of, outputs, runs, rows_of, is_stuck, stuck_at, any_stuck, least, revenue, value, unit_least, units_least, requirement, leaf_value}
 use Rattle.model.specs.Ramps.{ramp_charge, ramp_value, ramp_least, Steps, rest_steps, ups, downs, ramp_leasts, ramp_leaf_value}
-use Rattle.model.specs.declared.figures.Bound.TheVariants.{Number as number}
+use Rattle.std.specs.Prelude.{Some as number}
 use Rattle.model.specs.Figures.{lower}
 use Rattle.model.specs.Tree.{Leaf, short, crowd, stuck, price, ramp, Tree, leaf, fork, Narrows, GoodFork, Multipliers, StepMultipliers, GoodLeaf, LeafHolds, leaf_bound, Limits, Holds, bound}
 use Rattle.model.specs.Examples.{unit1, unit2, example}

@@ -13,7 +13,7 @@ use Rattle.model.specs.Cost.{row_cost, cost}
 use Rattle.model.specs.Above.{root, status}
 use Rattle.model.specs.Breach.{Breach, first_breach}
 use Rattle.model.specs.Leaf.{usable, available, rows_of, is_stuck, revenue, value, unit_least, units_least, requirement, leaf_value}
-use Rattle.model.specs.declared.figures.Bound.TheVariants.{Never as never, Number as number}
+use Rattle.std.specs.Prelude.{None as never, Some as number}
 use Rattle.model.specs.Tree.{short, stuck, price, Tree, leaf, fork, GoodLeaf, LeafHolds, leaf_bound, Limits, Holds, bound}
 use Rattle.model.specs.Broken.{Broken, Lower}
 use Rattle.model.specs.Agreement.{OneLeaf}

@@ -2,8 +2,8 @@
 use Rattle.std.specs.Prelude.{◌≡◌, Bool, true, false, not, ℕ, T, ltb}
 use mathlib.Core.List.{List, ◌∷◌, ◌++◌, Memᴰ}
 use Rattle.std.specs.Int.Signed.{lt_z}
-use Rattle.model.specs.declared.figures.Bound.{Bound}
-use Rattle.model.specs.declared.figures.Bound.TheVariants.{Never as never, Number as number}
+use Rattle.model.specs.Figures.{Bound}
+use Rattle.std.specs.Prelude.{None as never, Some as number}
 
 -- h is the first of the best of l: it is better than all before it, and none after it is better
 pub record First {A : Type 0} (better : A → A → Bool) (h : A) (l : List A) : Type 0 where

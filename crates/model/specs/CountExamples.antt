@@ -7,7 +7,7 @@ use Rattle.model.specs.Cost.{row_cost}
 use Rattle.model.specs.Above.{Above, root, status, count, side}
 use Rattle.model.specs.Largest.{falling, largest}
 use Rattle.model.specs.Leaf.{usable, available, fixed_on, Crowded, rows_of, is_stuck, revenue, value, unit_least, units_least, requirement, leaf_value}
-use Rattle.model.specs.declared.figures.Bound.TheVariants.{Number as number}
+use Rattle.std.specs.Prelude.{Some as number}
 use Rattle.model.specs.Tree.{short, crowd, price, Tree, leaf, fork, Multipliers, Narrows, GoodFork, GoodLeaf, LeafHolds, leaf_bound, Limits, Holds, bound, splits, leaves, depth}
 use Rattle.model.specs.Possible.{possible}
 use Rattle.model.specs.Examples.{line, example}

@@ -1,9 +1,12 @@
 -- Document 01, The docket and its report: what an accepted tree gives, a bound and two counts.
-use Rattle.std.specs.Prelude.{ℕ, ◌+◌}
+use Rattle.std.specs.Prelude.{ℕ, ◌+◌, ℤ, Option}
 use Rattle.model.specs.Leaf.{minℤ}
-use Rattle.model.specs.declared.figures.Bound.{Bound}
-use Rattle.model.specs.declared.figures.Bound.TheVariants.{Never as never, Number as number}
+use Rattle.std.specs.Prelude.{None as never, Some as number}
 use Rattle.model.specs.declared.figures.TreeFigures.{TreeFigures}
+
+-- the smallest value of the price leaves and ramp leaves, a number, or that there is none, never
+abbrev pub Bound : Type 0
+Bound = Option ℤ
 
 -- the smaller of two bounds, never being above every number
 abbrev pub lower : Bound → Bound → Bound

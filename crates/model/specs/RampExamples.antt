@@ -14,7 +14,7 @@ use Rattle.model.specs.Ramps.{over_rise, over_fall, RampPrices, ramp_charge, ram
 use Rattle.model.specs.Walk.{plus, lesser, back, walk}
 use Rattle.model.specs.Prices.{on_value, best_at}
 use Rattle.model.specs.RampCosts.{dearer, gainful, off_cost, added, ramp_walk, ramp_offset}
-use Rattle.model.specs.declared.figures.Bound.TheVariants.{Number as number}
+use Rattle.std.specs.Prelude.{Some as number}
 use Rattle.model.specs.Tree.{Leaf, short, stuck, price, ramp, Tree, leaf, fork, GoodLeaf, LeafHolds, leaf_bound, Limits, Holds, bound, splits, leaves, depth}
 use Rattle.model.specs.Examples.{line, example, rows, breach, timed, three}
 

@@ -5,8 +5,8 @@ use Rattle.model.specs.Ranges.{All, GoodPrice}
 use Rattle.model.specs.Above.{free, Above, root, Fork, status, count, side, BelowMost}
 use Rattle.model.specs.Leaf.{available, Crowded, stuck_at, any_stuck, leaf_value}
 use Rattle.model.specs.Ramps.{RampPrices, ups, downs, ramp_leaf_value}
-use Rattle.model.specs.declared.figures.Bound.{Bound}
-use Rattle.model.specs.declared.figures.Bound.TheVariants.{Never as never, Number as number}
+use Rattle.model.specs.Figures.{Bound}
+use Rattle.std.specs.Prelude.{None as never, Some as number}
 use Rattle.model.specs.declared.figures.TreeFigures.{TreeFigures}
 use Rattle.model.specs.Figures.{lower, tree_gives}
 

@@ -8,7 +8,7 @@ use Rattle.model.specs.Instance.{Instance, ◌at◌}
 use Rattle.model.specs.Cost.{row_cost}
 use Rattle.model.specs.Above.{Mark, free, fixed, root, status, side}
 use Rattle.model.specs.Leaf.{usable, available, rows_of, is_stuck, revenue, value, unit_least, units_least, requirement, leaf_value}
-use Rattle.model.specs.declared.figures.Bound.TheVariants.{Never as never, Number as number}
+use Rattle.std.specs.Prelude.{None as never, Some as number}
 use Rattle.model.specs.Tree.{short, stuck, price, Tree, leaf, fork, GoodLeaf, LeafHolds, leaf_bound, Limits, Holds, bound, splits, leaves, depth}
 use Rattle.model.specs.Best.{higher, FirstLeast}
 use Rattle.model.specs.Examples.{line, with_spare, example, timed, square, three}

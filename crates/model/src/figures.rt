@@ -2,46 +2,22 @@
 ghost use Rattle.std.specs.Prelude.{◌≡◌, ◌<◌};
 ghost use Rattle.model.specs.Figures.{lower, no_figures, add_split, add_leaf};
 
-// The smallest value of the price leaves and ramp leaves, or that there is none.
-#[derive(Clone, Copy)]
-pub enum Bound {
-    Never,
-    Number(i64),
-}
-
-// The bound, the split lines and the leaves, of a tree or of what was read of one so far.
+// The bound, the split lines and the leaves, of a tree or of what was read of one so far. The bound is the smallest value of
+// the price leaves and ramp leaves; there is none, which is written never, where there is no such leaf.
 #[derive(Clone, Copy)]
 pub struct TreeFigures {
-    pub bound: Bound,
+    pub bound: Option<i64>,
     pub splits: usize,
     pub leaves: usize,
 }
 
-// The same bound, made anew: the bytes between its parts are not copied.
-fn same_bound(b: Bound) -> Bound
-    ensures { result ≡ b }
-{
-    match b {
-        Bound::Never => Bound::Never,
-        Bound::Number(x) => Bound::Number(x),
-    }
-}
-
 // The smaller of two bounds, never being above every number.
-fn lower_bound(a: Bound, b: Bound) -> Bound
+fn lower_bound(a: Option<i64>, b: Option<i64>) -> Option<i64>
     ensures { result ≡ lower a b }
 {
-    match a {
-        Bound::Never => same_bound(b),
-        Bound::Number(x) => match b {
-            Bound::Never => Bound::Number(x),
-            Bound::Number(y) => {
-                if x <= y {
-                    return Bound::Number(x);
-                }
-                Bound::Number(y)
-            }
-        },
+    match (a, b) {
+        (Some(x), Some(y)) => Some(x.min(y)),
+        (None, other) | (other, None) => other,
     }
 }
 
@@ -51,21 +27,9 @@ impl TreeFigures {
         ensures { result ≡ no_figures }
     {
         TreeFigures {
-            bound: Bound::Never,
+            bound: None,
             splits: 0,
             leaves: 0,
-        }
-    }
-
-    // The same figures, made anew.
-    pub fn same(self) -> TreeFigures
-        ensures { result ≡ self }
-    {
-        let bound = self.bound;
-        TreeFigures {
-            bound: same_bound(bound),
-            splits: self.splits,
-            leaves: self.leaves,
         }
     }
 
@@ -74,24 +38,21 @@ impl TreeFigures {
         requires { self.splits < 2000000 }
         ensures { result ≡ add_split self }
     {
-        let bound = self.bound;
         TreeFigures {
-            bound: same_bound(bound),
             splits: self.splits + 1,
-            leaves: self.leaves,
+            ..self
         }
     }
 
     // With one leaf more, which has this bound.
-    pub fn with_leaf(self, leaf: Bound) -> TreeFigures
+    pub fn with_leaf(self, leaf: Option<i64>) -> TreeFigures
         requires { self.leaves < 2000000 }
         ensures { result ≡ add_leaf self leaf }
     {
-        let bound = self.bound;
         TreeFigures {
-            bound: lower_bound(bound, leaf),
-            splits: self.splits,
+            bound: lower_bound(self.bound, leaf),
             leaves: self.leaves + 1,
+            ..self
         }
     }
 }

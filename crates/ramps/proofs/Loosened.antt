@@ -15,8 +15,8 @@ use Rattle.model.specs.Rules.{statuses, permits, spent, keeps, MeetsPrinted}
 use Rattle.model.specs.Cost.{switch_cost, switch_costs, fuel_cost, row_cost, cost}
 use Rattle.model.specs.Above.{Mark, Marks, rest, Above, root, side, AboveMost, agrees}
 use Rattle.model.specs.Leaf.{unless_off, usable, summed, available, if_fixed_on, fixed_on, Crowded, words, those, none_of, outputs, runs, rows_of, is_stuck, stuck_at, any_stuck, least, revenue, value, unit_least, units_least, requirement, leaf_value}
-use Rattle.model.specs.declared.figures.Bound.{Bound}
-use Rattle.model.specs.declared.figures.Bound.TheVariants.{Number as number}
+use Rattle.model.specs.Figures.{Bound}
+use Rattle.std.specs.Prelude.{Some as number}
 use Rattle.model.specs.Figures.{lower}
 use Rattle.model.specs.Tree.{Leaf, short, crowd, stuck, price, ramp, Tree, leaf, fork, LeafHolds, leaf_bound, Holds, bound}
 use Rattle.model.specs.Agreement.{Agrees}

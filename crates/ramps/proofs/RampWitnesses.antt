@@ -13,8 +13,8 @@ use Rattle.model.specs.Cost.{row_cost, cost}
 use Rattle.model.specs.Breach.{first_breach}
 use Rattle.model.specs.Above.{root, status, side}
 use Rattle.model.specs.Leaf.{is_stuck, leaf_value}
-use Rattle.model.specs.declared.figures.Bound.{Bound}
-use Rattle.model.specs.declared.figures.Bound.TheVariants.{Never as never, Number as number}
+use Rattle.model.specs.Figures.{Bound}
+use Rattle.std.specs.Prelude.{None as never, Some as number}
 use Rattle.model.specs.Tree.{price, Tree, LeafHolds, leaf_bound, Holds, bound}
 use Rattle.ramps.specs.Loosened.{loosened, Plain}
 use Rattle.model.specs.Examples.{rows}

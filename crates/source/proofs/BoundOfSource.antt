@@ -10,7 +10,7 @@ use Rattle.model.specs.Ranges.{WellFormed}
 use Rattle.model.specs.Rules.{MeetsPrinted}
 use Rattle.model.specs.Cost.{cost}
 use Rattle.model.specs.Above.{root}
-use Rattle.model.specs.declared.figures.Bound.TheVariants.{Never as never, Number as number}
+use Rattle.std.specs.Prelude.{None as never, Some as number}
 use Rattle.model.specs.Tree.{Tree, Holds, bound}
 use Rattle.model.proofs.Integers.{nat→le, ≤ℤ-trans}
 use Rattle.model.proofs.Soundness.{number_sound, never_sound}

@@ -14,7 +14,7 @@ use Rattle.model.specs.Rules.{Within, output, capacity, Row, MeetsPrinted, Meets
 use Rattle.model.specs.Cost.{row_cost, cost}
 use Rattle.model.specs.Above.{root}
 use Rattle.model.specs.Leaf.{rows_of, is_stuck, revenue, value, unit_least, units_least, requirement, leaf_value}
-use Rattle.model.specs.declared.figures.Bound.TheVariants.{Number as number}
+use Rattle.std.specs.Prelude.{Some as number}
 use Rattle.model.specs.Tree.{price, leaf, LeafHolds, leaf_bound, Holds, bound}
 use Rattle.source.specs.Least.{LeastCost}
 

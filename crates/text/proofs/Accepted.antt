@@ -11,7 +11,7 @@ use borrow.Author.Tests.{eq-eqb, eqb-true, not-false}
 use Rattle.text.specs.Lines.{Line, missing, unended, ended, lines_of, one_line, begins}
 use Rattle.text.specs.Forms.{Form, cut_values, all_formed, sizes, any_minus, values_of, numbers_of, all_within, malformed, wrong_count, outside_range, good_line, place_after, pad_48, row_of}
 use Rattle.text.specs.Rendering.{comma_joined, shown, all_shown, rendered}
-use Rattle.text.specs.declared.Verdict.TheVariants.{Good}
+use Rattle.std.specs.Prelude.{Ok}
 use Rattle.text.proofs.Cuts.{and_both, cut_line}
 use Rattle.text.proofs.Keys.{begins_append, begins_text}
 use Rattle.text.proofs.Joins.{joined_cut, cut_joined, values_some}
@@ -62,14 +62,14 @@ module _ (f : Form) (neg : Bool) (vs : List ℕ) (fits : Fits f neg vs) where
   rendered_good = ((form_passes f (rendered_line f neg vs) []).0 (rendered_formed, (rendered_count, (rendered_range, tt)))).0
 
   -- reading it gives the values and the sign
-  pub rendered_read : (at : ℕ) → row_of f (rendered_line f neg vs) at ≡ record { verdict = Good (place_after (rendered_line f neg vs) at); minus = neg; values = pad_48 vs }
+  pub rendered_read : (at : ℕ) → row_of f (rendered_line f neg vs) at ≡ Ok (record { next = place_after (rendered_line f neg vs) at; minus = neg; values = pad_48 vs })
   rendered_read at =
       row_read f (rendered_line f neg vs) at rendered_good
-      ∙ (λ i. record {
-        verdict = Good (place_after (rendered_line f neg vs) at);
+      ∙ (λ i. Ok (record {
+        next = place_after (rendered_line f neg vs) at;
         minus = (ap any_minus values_rendered ∙ all_shown_minus f.minus neg 1 vs (λ e. ((fits.sign e).0, (fits.sign e).1.0))) i;
         values = pad_48 (rendered_numbers i);
-      })
+      }))
 
   -- it stands as one line in a text that has its bytes and byte 10
   pub rendered_cut : (rest : List ℕ) → one_line f.key ≡ true → lines_of (rendered f.key f.minus neg vs ++ (10 ∷ rest)) ≡ rendered_line f neg vs ∷ lines_of rest

@@ -10,14 +10,13 @@ use lib.ListN.{length, drop, get_or, length-drop, drop_of_length-le}
 use lib.Seq.{drop-cons, get_or-drop}
 use lib.Dec.{leb, eqb}
 use borrow.Author.Tests.{eq-eqb, ne_eqb, eqb-true, leb-true}
-use Rattle.decimal.specs.declared.Number.TheVariants.{Malformed, Value}
+use Rattle.std.specs.Prelude.{None}
 use Rattle.decimal.specs.Decimal.{is_digit, canonical, all_digits}
-use Rattle.decimal.specs.NumberRead.{keep_if, leading_digits, number_at}
+use Rattle.decimal.specs.NumberRead.{keep_if, leading_digits, number, number_at}
 use Rattle.decimal.proofs.NumberRead.{number_bad, number_value}
 use Rattle.decimal.proofs.Numerals.{all_run}
-use Rattle.text.specs.declared.Field.TheVariants.{Broken, Ended}
 use Rattle.text.specs.Forms.{byte_is}
-use Rattle.text.specs.Scan.{Scan, cut, last, more, wider, by_byte, scan, head_ended, ended_at, head_field, field_at}
+use Rattle.text.specs.Scan.{Scan, cut, last, more, wider, by_byte, scan, no_field, some_field, head_ended, ended_at, head_field, field_at}
 
 -- ---- bytes
 
@@ -90,7 +89,7 @@ scan_other (b ∷ t) h k = go (is_digit b) refl (scan_other t) h k
 
 -- ---- one field
 
-head_broken : (minus : Bool) (g : Scan) (at : ℕ) → head_digits g ≡ false → head_ended minus g at ≡ Broken
+head_broken : (minus : Bool) (g : Scan) (at : ℕ) → head_digits g ≡ false → head_ended minus g at ≡ no_field
 unfolding head_ended
 head_broken minus cut at e = refl
 head_broken minus (last f) at e = simp e
@@ -109,41 +108,41 @@ past_part s at e n q h = omega (arith, length-drop at s)
 -- what `ended` answers at each return
 module _ (s : List ℕ) (at : ℕ) (minus : Bool) where
   -- no numeral without leading zeros: so is the first field, whatever ends it
-  pub ended_bad : number_at s at ≡ Malformed → Broken ≡ ended_at s at minus
+  pub ended_bad : number_at s at ≡ None → no_field ≡ ended_at s at minus
   unfolding ended_at head_ended
   ended_bad q = sym (go (drop at s) (number_bad s at q))
     where
-      other : (t : List ℕ) → canonical (leading_digits t) ≡ false → Dec (get_or t (length (leading_digits t)) 0 ≡ 10) → Dec (get_or t (length (leading_digits t)) 0 ≡ 44) → Dec (length (leading_digits t) < length t) → head_ended minus (scan t) at ≡ Broken
+      other : (t : List ℕ) → canonical (leading_digits t) ≡ false → Dec (get_or t (length (leading_digits t)) 0 ≡ 10) → Dec (get_or t (length (leading_digits t)) 0 ≡ 44) → Dec (length (leading_digits t) < length t) → head_ended minus (scan t) at ≡ no_field
       other t e x y (no h) = ap (λ (g : Scan). head_ended minus g at) (scan_cut t (omega (arith, h)))
       other t e (yes a) y (yes h) = ap (λ (g : Scan). head_ended minus g at) (scan_last t h a) ∙ simp (all_run t, e)
       other t e (no a) (yes b) (yes h) = ap (λ (g : Scan). head_ended minus g at) (scan_more t h b) ∙ simp (all_run t, e)
       other t e (no a) (no b) (yes h) = head_broken minus (scan t) at (scan_other t a b)
 
-      go : (t : List ℕ) → canonical (leading_digits t) ≡ false → head_ended minus (scan t) at ≡ Broken
+      go : (t : List ℕ) → canonical (leading_digits t) ≡ false → head_ended minus (scan t) at ≡ no_field
       go t e = other t e (ℕ_discrete (get_or t (length (leading_digits t)) 0) 10) (ℕ_discrete (get_or t (length (leading_digits t)) 0) 44) (dec_lt (length (leading_digits t)) (length t))
 
-  module _ (v e : ℕ) (q : number_at s at ≡ Value v e) where
-    pub ended_cut : length s ≤ e → Broken ≡ ended_at s at minus
+  module _ (v e : ℕ) (q : number_at s at ≡ number v e) where
+    pub ended_cut : length s ≤ e → no_field ≡ ended_at s at minus
     unfolding ended_at head_ended
     ended_cut h =
         let n = number_value s at v e q in
         sym (ap (λ (g : Scan). head_ended minus g at) (scan_cut (drop at s) (past_part s at e _ n.end h)))
 
-    pub ended_last : e < length s → get_or s e 0 ≡ 10 → Ended v minus (e + 1) true ≡ ended_at s at minus
+    pub ended_last : e < length s → get_or s e 0 ≡ 10 → some_field v minus (e + 1) true ≡ ended_at s at minus
     unfolding ended_at head_ended
     ended_last h k =
         let n = number_value s at v e q in
         sym (ap (λ (g : Scan). head_ended minus g at) (scan_last (drop at s) (within_part s at e _ n.end h) (sym (byte_after s at e n.end) ∙ k))
         ∙ simp (all_run (drop at s), n.shape, ← n.end, ← n.value))
 
-    pub ended_more : e < length s → get_or s e 0 ≡ 44 → Ended v minus (e + 1) false ≡ ended_at s at minus
+    pub ended_more : e < length s → get_or s e 0 ≡ 44 → some_field v minus (e + 1) false ≡ ended_at s at minus
     unfolding ended_at head_ended
     ended_more h k =
         let n = number_value s at v e q in
         sym (ap (λ (g : Scan). head_ended minus g at) (scan_more (drop at s) (within_part s at e _ n.end h) (sym (byte_after s at e n.end) ∙ k))
         ∙ simp (all_run (drop at s), n.shape, ← n.end, ← n.value))
 
-    pub ended_other : (get_or s e 0 ≡ 10 → ⊥) → (get_or s e 0 ≡ 44 → ⊥) → Broken ≡ ended_at s at minus
+    pub ended_other : (get_or s e 0 ≡ 10 → ⊥) → (get_or s e 0 ≡ 44 → ⊥) → no_field ≡ ended_at s at minus
     unfolding ended_at
     ended_other h k =
         let n = number_value s at v e q in
@@ -191,7 +190,7 @@ head_plain signed (more f g) at h = simp h
 shift : (at n : ℕ) → at + 1 + n + 1 ≡ at + suc n + 1
 shift at n = omega arith
 
-head_minus : (v : Bool) (g : Scan) (at : ℕ) → HeadIs 48 v g → cond (not v) (head_ended true g (at + 1)) Broken ≡ head_field true (wider 45 g) at
+head_minus : (v : Bool) (g : Scan) (at : ℕ) → HeadIs 48 v g → cond (not v) (head_ended true g (at + 1)) no_field ≡ head_field true (wider 45 g) at
 unfolding head_ended head_field
 head_minus true cut at h = refl
 head_minus true (last f) at h = simp h
@@ -200,7 +199,7 @@ head_minus false cut at h = refl
 head_minus false (last f) at h = simp (h, shift)
 head_minus false (more f g) at h = simp (h, shift)
 
-head_unsigned : (g : Scan) (at : ℕ) → Broken ≡ head_field false (wider 45 g) at
+head_unsigned : (g : Scan) (at : ℕ) → no_field ≡ head_field false (wider 45 g) at
 unfolding head_field
 head_unsigned cut at = refl
 head_unsigned (last f) at = refl
@@ -222,13 +221,13 @@ module _ (s : List ℕ) (at : ℕ) where
       (subst (λ (v : Bool). HeadIs 45 v (scan (drop at s))) e (head_is (drop at s) 45 (λ q. omega arith) (λ q. omega arith)))
 
   module _ (e : byte_is (drop at s) 45 ≡ true) where
-    head_of : (v : Bool) → byte_is (drop (at + 1) s) 48 ≡ v → cond (not v) (head_ended true (scan (drop (at + 1) s)) (at + 1)) Broken ≡ head_field true (scan (drop at s)) at
+    head_of : (v : Bool) → byte_is (drop (at + 1) s) 48 ≡ v → cond (not v) (head_ended true (scan (drop (at + 1) s)) (at + 1)) no_field ≡ head_field true (scan (drop at s)) at
     head_of v d =
         head_minus v (scan (drop (at + 1) s)) at
         (subst (λ (w : Bool). HeadIs 48 w (scan (drop (at + 1) s))) d (head_is (drop (at + 1) s) 48 (λ q. omega arith) (λ q. omega arith)))
         ∙ ap (λ (g : Scan). head_field true g at) (sym (minus_scan s at e))
 
-    pub field_barred : (signed : Bool) → (not signed || byte_is (drop (at + 1) s) 48) ≡ true → Broken ≡ field_at s at signed
+    pub field_barred : (signed : Bool) → (not signed || byte_is (drop (at + 1) s) 48) ≡ true → no_field ≡ field_at s at signed
     unfolding field_at
     field_barred true d = head_of true d
     field_barred false d = head_unsigned (scan (drop (at + 1) s)) at ∙ ap (λ (g : Scan). head_field false g at) (sym (minus_scan s at e))

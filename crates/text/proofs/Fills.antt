@@ -9,12 +9,11 @@ use lib.ListN.{length, drop, set, length-set, replicate, length-replicate, drop_
 use lib.Seq.{take_all}
 use Rattle.decimal.specs.NumberRead.{read_cap}
 use Rattle.text.specs.Lines.{Line, line_at, one_line, begins}
-use Rattle.text.specs.Forms.{has_minus, formed, Form, form, plain, numbers_of, all_within, good_line, place_after, row_of, all_below}
-use Rattle.text.specs.Scan.{Scan, cut, last, more, magnitude, wrong, reading, values_at, keyed_at, stored_at, values_verdict}
+use Rattle.text.specs.Forms.{has_minus, formed, Form, form, plain, numbers_of, all_within, good_line, place_after, verdict_of, all_below}
+use Rattle.text.specs.Scan.{Scan, cut, last, more, magnitude, some_values, wrong, reading, values_at, keyed_at, stored_at, values_verdict}
 use Rattle.text.specs.declared.Values.{Values}
-use Rattle.text.specs.declared.Values.TheVariants.{Read}
-use Rattle.text.specs.declared.Verdict.{Verdict}
-use Rattle.text.specs.declared.Verdict.TheVariants.{Good}
+use Rattle.std.specs.Prelude.{Option, Result, Ok}
+use Rattle.text.specs.declared.Fault.{Fault}
 use Rattle.text.proofs.Rows.{verdict_is, good_held, below_same}
 use Rattle.text.proofs.Verdicts.{ruled_good}
 use Rattle.text.proofs.Plain.{AllBetween, plain_was}
@@ -26,7 +25,7 @@ unfolding reading
 reading_long m cut at k minus o = refl
 reading_long m (last f) at k minus o = go (formed (eqb (k + 1) m) f)
   where
-    go : (b : Bool) → length (cond b (record { answer = Read (k + 1) (at + length f + 1) (minus || has_minus f); out = set o k (magnitude f) }) (wrong o)).out ≡ length o
+    go : (b : Bool) → length (cond b (record { answer = some_values (k + 1) (at + length f + 1) (minus || has_minus f); out = set o k (magnitude f) }) (wrong o)).out ≡ length o
     go true = length-set o k (magnitude f)
     go false = refl
 reading_long m (more f g) at k minus o =
@@ -62,13 +61,13 @@ module _ (key lows highs s o : List ℕ) (at : ℕ) (one : one_line key ≡ true
   room = omega arith
 
   -- the verdict, by the values answered and the row
-  pub fill_verdict : {v : Values} {within : Bool} → v ≡ (keyed_at key s at 0 o).answer → length out ≡ length o → within ≡ all_within out lows highs
-      → values_verdict v (length out) within ≡ (row_of due (line_at s at) at).verdict
+  pub fill_verdict : {v : Option Values} {within : Bool} → v ≡ (keyed_at key s at 0 o).answer → length out ≡ length o → within ≡ all_within out lows highs
+      → values_verdict v (length out) within ≡ verdict_of due (line_at s at) at
   fill_verdict answered kept t =
       rw (kept ∙ many)
       (verdict_is due s o at one low room answered stored (t ∙ ap (λ (x : List ℕ). all_within x lows highs) (sym (take_all (length lows) out (omega arith)))))
 
-  pub filled : {v : Verdict} → v ≡ (row_of due (line_at s at) at).verdict → {next : ℕ} → v ≡ Good next → Filled due (line_at s at) at next out
+  pub filled : {v : Result ℕ Fault} → v ≡ verdict_of due (line_at s at) at → {next : ℕ} → v ≡ Ok next → Filled due (line_at s at) at next out
   filled {v} is {next} e =
       let g = ruled_good due (line_at s at) at v is next e in
       let h = good_held due s o at one low room refl stored g.0 in
@@ -89,7 +88,7 @@ pub record PlainFilled (key : List ℕ) (n lo hi : ℕ) (l : Line) (at next : �
   pub range : AllBetween lo hi out
 
 module _ (key : List ℕ) (lo hi : ℕ) (s o : List ℕ) (at : ℕ) (one : one_line key ≡ true) (low : hi < read_cap) {out : List ℕ} (stored : out ≡ stored_at key s at o) where
-  pub plain_filled : {n : ℕ} → length o ≡ n → {v : Verdict} → v ≡ (row_of (plain key n lo hi) (line_at s at) at).verdict → {next : ℕ} → v ≡ Good next
+  pub plain_filled : {n : ℕ} → length o ≡ n → {v : Result ℕ Fault} → v ≡ verdict_of (plain key n lo hi) (line_at s at) at → {next : ℕ} → v ≡ Ok next
       → PlainFilled key n lo hi (line_at s at) at next out
   plain_filled {n} long {v} is {next} e =
       let g = filled key (replicate n lo) (replicate n hi) s o at one (below_same n hi low) (long ∙ sym (length-replicate n lo)) stored is e in

@@ -1,17 +1,16 @@
 -- Numbers within their ranges, one by one; and numbers of one range, by the count of those outside it.
 use Prim.Native.Nat.{ℕ, suc, ◌+◌, ◌≤◌, ◌<◌}
-use native.Mathlib.Nat.{zero-add}
 use native.Mathlib.Numerals.{add-one}
 use native.Mathlib.Omega.{arith}
 use mathlib.Core.Path.{◌≡◌, refl, ap, ◌∙◌}
-use mathlib.Core.Bool.{Bool, true, false, ◌&&◌, cond}
+use mathlib.Core.Bool.{Bool, true, false, ◌&&◌}
 use mathlib.Core.List.{List, [], ◌∷◌}
 use lib.ListN.{length, drop, get_or, replicate, drop_of_length-le}
 use lib.Seq.{drop-cons}
-use lib.Dec.{leb, eqb}
-use borrow.Author.Tests.{le-leb, lt-leb, ne_eqb}
+use lib.Dec.{leb}
+use borrow.Author.Tests.{le-leb, lt-leb}
 use Rattle.text.specs.Forms.{all_within}
-use Rattle.text.specs.Scan.{outside_by, count_outside}
+use Rattle.std.specs.List.{list_all}
 
 module _ (v ls hs : List ℕ) (i : ℕ) where
   module _ (h : i < length v) (h₁ : length v ≤ length ls) (h₂ : length v ≤ length hs) where
@@ -37,37 +36,12 @@ module _ (v ls hs : List ℕ) (i : ℕ) where
 
 -- ---- one range
 
-module _ (lo hi : ℕ) where
-  pub below : (x : ℕ) → x < lo → 1 ≡ outside_by lo hi x
-  below x h = simp (lt-leb lo x h)
-
-  pub above : (x : ℕ) → lo ≤ x → hi < x → 1 ≡ outside_by lo hi x
-  above x h k = simp (le-leb lo x h, lt-leb x hi k)
-
-  pub between : (x : ℕ) → lo ≤ x → x ≤ hi → 0 ≡ outside_by lo hi x
-  between x h k = simp (le-leb lo x h, le-leb x hi k)
-
-  pub outside_most : (x : ℕ) → outside_by lo hi x ≤ 1
-  outside_most x = go (leb lo x && leb x hi)
-    where
-      go : (t : Bool) → cond t 0 1 ≤ 1
-      go true = omega arith
-      go false = omega arith
-
-  module _ (v : List ℕ) (i : ℕ) where
-    pub count_at : i < length v → count_outside lo hi (drop i v) ≡ outside_by lo hi (get_or v i 0) + count_outside lo hi (drop (i + 1) v)
-    count_at h = ap (count_outside lo hi) (drop-cons v i 0 h) ∙ simp add-one
-
-    pub count_past : length v ≤ i → count_outside lo hi (drop i v) ≡ 0
-    count_past h = ap (count_outside lo hi) (drop_of_length-le v h)
-
-  -- none is outside where each is in the range
-  pub none_outside : (v : List ℕ) → eqb (count_outside lo hi v) 0 ≡ all_within v (replicate (length v) lo) (replicate (length v) hi)
-  none_outside [] = refl
-  none_outside (x ∷ v) = go (leb lo x) (leb x hi) (none_outside v)
-    where
-      go : (a b : Bool) → eqb (count_outside lo hi v) 0 ≡ all_within v (replicate (length v) lo) (replicate (length v) hi)
-          → eqb (cond (a && b) 0 1 + count_outside lo hi v) 0 ≡ (a && (b && all_within v (replicate (length v) lo) (replicate (length v) hi)))
-      go true true e = rw zero-add e
-      go true false e = ne_eqb (1 + count_outside lo hi v) 0 (λ z. omega arith)
-      go false b e = ne_eqb (1 + count_outside lo hi v) 0 (λ z. omega arith)
+-- each number is within it
+pub within_one : (lo hi : ℕ) (v : List ℕ) → list_all (λ x. leb lo x && leb x hi) v ≡ all_within v (replicate (length v) lo) (replicate (length v) hi)
+within_one lo hi [] = refl
+within_one lo hi (x ∷ v) = go (leb lo x) (within_one lo hi v)
+  where
+    go : (a : Bool) → list_all (λ x. leb lo x && leb x hi) v ≡ all_within v (replicate (length v) lo) (replicate (length v) hi)
+        → ((a && leb x hi) && list_all (λ x. leb lo x && leb x hi) v) ≡ (a && (leb x hi && all_within v (replicate (length v) lo) (replicate (length v) hi)))
+    go true e = ap (λ (b : Bool). leb x hi && b) e
+    go false e = refl

@@ -11,10 +11,11 @@ use lib.Dec.{leb, ltb, eqb}
 use borrow.Author.Tests.{ltb-true, lt-ltb, leb-true, leb-false, le-leb, lt-leb, eqb-true, eq-eqb, not-false}
 use Rattle.decimal.specs.NumberRead.{read_cap}
 use Rattle.text.specs.Lines.{Line, line_at, one_line}
-use Rattle.text.specs.Forms.{size, sizes, Form, values_of, numbers_of, all_within, malformed, wrong_count, outside_range, form_refusal, good_line, place_after, row_of, all_below, any_minus}
+use Rattle.text.specs.Forms.{size, sizes, Form, values_of, numbers_of, all_within, malformed, wrong_count, outside_range, form_refusal, good_line, place_after, verdict_of, all_below, any_minus}
 use Rattle.text.specs.Scan.{magnitude, ValuesRead, keyed_at, minus_of, values_verdict}
 use Rattle.text.specs.declared.Values.{Values}
-use Rattle.text.specs.declared.Verdict.TheVariants.{Refused, Good}
+use Rattle.std.specs.Prelude.{Option, Ok, Err}
+use Rattle.text.specs.declared.Fault.TheVariants.{Malformed, OutOfRange, WrongCount}
 use Rattle.text.proofs.Cuts.{and_both}
 use Rattle.text.proofs.Scanned.{magnitudes, WasRead, Met, unread, read, met}
 use Rattle.text.proofs.Verdicts.{form_passes}
@@ -69,28 +70,28 @@ uncapped (f ∷ fs) (l ∷ ls) (h ∷ hs) e w =
 -- ---- the verdict by the tests
 
 module _ (f : Form) (l : Line) (at : ℕ) where
-  ruled_malformed : malformed f l ≡ true → Refused 12 ≡ (row_of f l at).verdict
-  unfolding row_of good_line form_refusal
+  ruled_malformed : malformed f l ≡ true → Err Malformed ≡ verdict_of f l at
+  unfolding verdict_of good_line form_refusal
   ruled_malformed e = simp e
 
   module _ (m : malformed f l ≡ false) where
-    ruled_count : wrong_count f l ≡ true → Refused 14 ≡ (row_of f l at).verdict
-    unfolding row_of good_line form_refusal
+    ruled_count : wrong_count f l ≡ true → Err WrongCount ≡ verdict_of f l at
+    unfolding verdict_of good_line form_refusal
     ruled_count e = simp (m, e)
 
     module _ (c : wrong_count f l ≡ false) where
-      ruled_range : outside_range f l ≡ true → Refused 13 ≡ (row_of f l at).verdict
-      unfolding row_of good_line form_refusal
+      ruled_range : outside_range f l ≡ true → Err OutOfRange ≡ verdict_of f l at
+      unfolding verdict_of good_line form_refusal
       ruled_range e = simp (m, c, e)
 
-      ruled_in : outside_range f l ≡ false → Good (place_after l at) ≡ (row_of f l at).verdict
-      unfolding row_of good_line form_refusal
+      ruled_in : outside_range f l ≡ false → Ok (place_after l at) ≡ verdict_of f l at
+      unfolding verdict_of good_line form_refusal
       ruled_in e = simp (m, c, e)
 
 -- ---- a line that is read into a row with room for the values due
 
 -- of a good line: the row, which held o, begins with the line's numbers, and the minus answered is theirs
-pub record Held (f : Form) (l : Line) (o : List ℕ) (v : Values) (out : List ℕ) : Type 0 where
+pub record Held (f : Form) (l : Line) (o : List ℕ) (v : Option Values) (out : List ℕ) : Type 0 where
   pub values : out ≡ numbers_of f l ++ drop (length f.lows) o
   pub minus : minus_of v ≡ any_minus (values_of f l)
 
@@ -123,18 +124,18 @@ module _ (f : Form) (s o : List ℕ) (at : ℕ) (one : one_line f.key ≡ true) 
     counted = simp (eq-eqb (length (values_of f here)) due (sym w.count ∙ many))
 
   ranged : {c e : ℕ} {neg : Bool} {out : List ℕ} (w : WasRead f here at o c e neg out) → c ≡ due → (t : Bool) → all_within (take due out) f.lows f.highs ≡ t
-      → cond t (Good e) (Refused 13) ≡ (row_of f here at).verdict
+      → cond t (Ok e) (Err OutOfRange) ≡ verdict_of f here at
   unfolding outside_range
-  ranged w many true e = ap Good w.end ∙ ruled_in f here at w.formed (counted w many) (ap not (sym (tested w many) ∙ e))
+  ranged w many true e = ap (λ (n : ℕ). Ok n) w.end ∙ ruled_in f here at w.formed (counted w many) (ap not (sym (tested w many) ∙ e))
   ranged w many false e = ruled_range f here at w.formed (counted w many) (ap not (sym (tested w many) ∙ e))
 
   ruled : {c e : ℕ} {neg : Bool} {out : List ℕ} (w : WasRead f here at o c e neg out) (t : Bool) → eqb c due ≡ t
-      → cond t (cond (all_within (take due out) f.lows f.highs) (Good e) (Refused 13)) (Refused 14) ≡ (row_of f here at).verdict
+      → cond t (cond (all_within (take due out) f.lows f.highs) (Ok e) (Err OutOfRange)) (Err WrongCount) ≡ verdict_of f here at
   unfolding wrong_count
   ruled {c} {out = out} w true q = ranged w (eqb-true c due q) (all_within (take due out) f.lows f.highs) refl
   ruled {c} w false q = ruled_count f here at w.formed (ap (λ (n : ℕ). not (eqb n due)) (sym w.count) ∙ ap not q)
 
-  by_tests : (r : ValuesRead) → Met f here at o r → values_verdict r.answer due (all_within (take due r.out) f.lows f.highs) ≡ (row_of f here at).verdict
+  by_tests : (r : ValuesRead) → Met f here at o r → values_verdict r.answer due (all_within (take due r.out) f.lows f.highs) ≡ verdict_of f here at
   by_tests r (unread a m) = rw a (ruled_malformed f here at m)
   by_tests r (read c e neg a w) = rw a (ruled w (eqb c due) refl)
 
@@ -150,9 +151,9 @@ module _ (f : Form) (s o : List ℕ) (at : ℕ) (one : one_line f.key ≡ true) 
         minus = rw a w.sign;
       }
 
-  module _ {v : Values} {out : List ℕ} (answered : v ≡ (keyed_at f.key s at f.minus o).answer) (stored : out ≡ (keyed_at f.key s at f.minus o).out) where
+  module _ {v : Option Values} {out : List ℕ} (answered : v ≡ (keyed_at f.key s at f.minus o).answer) (stored : out ≡ (keyed_at f.key s at f.minus o).out) where
     -- the verdict, by the values answered and the row
-    pub verdict_is : {within : Bool} → within ≡ all_within (take due out) f.lows f.highs → values_verdict v due within ≡ (row_of f here at).verdict
+    pub verdict_is : {within : Bool} → within ≡ all_within (take due out) f.lows f.highs → values_verdict v due within ≡ verdict_of f here at
     verdict_is t = rw (t, answered, stored) (by_tests (keyed_at f.key s at f.minus o) (met f s o at one))
 
     pub good_held : good_line f here ≡ true → Held f here o v out

@@ -12,9 +12,10 @@ use lib.Dec.{eqb}
 use Rattle.text.specs.Lines.{Line, missing, unended, ended, bytes_of, due, longer, cut_at, lines_of, line_at, one_line, begins}
 use Rattle.text.specs.Forms.{by_comma, cut_values, has_minus, formed, all_formed, any_minus, Form, values_of, malformed}
 use Rattle.text.specs.Rendering.{comma_joined}
-use Rattle.text.specs.Scan.{Scan, cut, last, more, wider, by_byte, scan, magnitude, ValuesRead, wrong, reading, values_at, keyed_at}
+use Rattle.text.specs.Scan.{Scan, cut, last, more, wider, by_byte, scan, magnitude, no_values, some_values, ValuesRead, wrong, reading, values_at, keyed_at}
 use Rattle.text.specs.declared.Values.{Values}
-use Rattle.text.specs.declared.Values.TheVariants.{Wrong, Read}
+use Rattle.std.specs.Prelude.{Option, None, Some}
+use Rattle.std.proofs.lemmas.Option.{same_Some}
 use Rattle.text.proofs.Cuts.{prepend, prepend_ended, prepend_unended, prepend_missing, line_append, text_ended}
 use Rattle.text.proofs.Joins.{joined_cut, values_some}
 use Rattle.text.proofs.Keys.{begins_append, begins_text, begins_longer}
@@ -67,13 +68,13 @@ magnitudes (f ∷ fs) = magnitude f ∷ magnitudes fs
 -- every value is formed
 reading_formed : (m : ℕ) (f : List ℕ) (fs : List (List ℕ)) (at k : ℕ) (minus : Bool) (o : List ℕ) → all_formed m (suc k) (f ∷ fs) ≡ true
     → reading m (to_scan true (f ∷ fs)) at k minus o
-    ≡ record { answer = Read (k + length (f ∷ fs)) (at + length (comma_joined (f ∷ fs)) + 1) (minus || any_minus (f ∷ fs)); out = sets o k (magnitudes (f ∷ fs)) }
+    ≡ record { answer = some_values (k + length (f ∷ fs)) (at + length (comma_joined (f ∷ fs)) + 1) (minus || any_minus (f ∷ fs)); out = sets o k (magnitudes (f ∷ fs)) }
 unfolding reading
 reading_formed m f [] at k minus o e = go (formed (eqb (suc k) m) f) refl e
   where
     go : (t : Bool) → formed (eqb (suc k) m) f ≡ t → (t && true) ≡ true
-        → cond (formed (eqb (k + 1) m) f) (record { answer = Read (k + 1) (at + length f + 1) (minus || has_minus f); out = set o k (magnitude f) }) (wrong o)
-        ≡ record { answer = Read (k + 1) (at + length f + 1) (minus || (has_minus f || false)); out = set o k (magnitude f) }
+        → cond (formed (eqb (k + 1) m) f) (record { answer = some_values (k + 1) (at + length f + 1) (minus || has_minus f); out = set o k (magnitude f) }) (wrong o)
+        ≡ record { answer = some_values (k + 1) (at + length f + 1) (minus || (has_minus f || false)); out = set o k (magnitude f) }
     go true u e = simp (add-one, u, or-false)
     go false u e = absurd (let z : ◌≡◌ {A = ℕ} 0 1 = cc in omega arith)
 reading_formed m f (g ∷ fs) at k minus o e = go (formed (eqb (suc k) m) f) refl e (reading_formed m g fs (at + length f + 1) (suc k) (minus || has_minus f) (set o k (magnitude f)))
@@ -84,43 +85,43 @@ reading_formed m f (g ∷ fs) at k minus o e = go (formed (eqb (suc k) m) f) ref
 
     go : (t : Bool) → formed (eqb (suc k) m) f ≡ t → (t && all_formed m (suc (suc k)) (g ∷ fs)) ≡ true
         → (all_formed m (suc (suc k)) (g ∷ fs) ≡ true → reading m (to_scan true (g ∷ fs)) (at + length f + 1) (suc k) (minus || has_minus f) (set o k (magnitude f))
-        ≡ record { answer = Read (suc k + length (g ∷ fs)) (at + length f + 1 + length (comma_joined (g ∷ fs)) + 1) ((minus || has_minus f) || any_minus (g ∷ fs)); out = sets (set o k (magnitude f)) (suc k) (magnitudes (g ∷ fs)) })
+        ≡ record { answer = some_values (suc k + length (g ∷ fs)) (at + length f + 1 + length (comma_joined (g ∷ fs)) + 1) ((minus || has_minus f) || any_minus (g ∷ fs)); out = sets (set o k (magnitude f)) (suc k) (magnitudes (g ∷ fs)) })
         → cond (formed (eqb (k + 1) m) f) (reading m (to_scan true (g ∷ fs)) (at + length f + 1) (k + 1) (minus || has_minus f) (set o k (magnitude f))) (wrong o)
-        ≡ record { answer = Read (k + length (f ∷ g ∷ fs)) (at + length (comma_joined (f ∷ g ∷ fs)) + 1) (minus || any_minus (f ∷ g ∷ fs)); out = sets o k (magnitudes (f ∷ g ∷ fs)) }
+        ≡ record { answer = some_values (k + length (f ∷ g ∷ fs)) (at + length (comma_joined (f ∷ g ∷ fs)) + 1) (minus || any_minus (f ∷ g ∷ fs)); out = sets o k (magnitudes (f ∷ g ∷ fs)) }
     go true u e rec =
         let n : suc k + length (g ∷ fs) ≡ k + length (f ∷ g ∷ fs) = omega arith in
         let w : at + length f + 1 + length (comma_joined (g ∷ fs)) + 1 ≡ at + length (comma_joined (f ∷ g ∷ fs)) + 1 = omega (arith, length-append f (44 ∷ comma_joined (g ∷ fs))) in
-        simp (add-one k, u) (rec e ∙ (λ i. record { answer = Read (n i) (w i) (or_again minus (has_minus f) (any_minus (g ∷ fs)) i); out = sets (set o k (magnitude f)) (suc k) (magnitudes (g ∷ fs)) }))
+        simp (add-one k, u) (rec e ∙ (λ i. record { answer = some_values (n i) (w i) (or_again minus (has_minus f) (any_minus (g ∷ fs)) i); out = sets (set o k (magnitude f)) (suc k) (magnitudes (g ∷ fs)) }))
     go false u e rec = absurd (let z : ◌≡◌ {A = ℕ} 0 1 = cc in omega arith)
 
 -- some value is not
-reading_unformed : (m : ℕ) (l : Bool) (fs : List (List ℕ)) (at k : ℕ) (minus : Bool) (o : List ℕ) → all_formed m (suc k) fs ≡ false → (reading m (to_scan l fs) at k minus o).answer ≡ Wrong
+reading_unformed : (m : ℕ) (l : Bool) (fs : List (List ℕ)) (at k : ℕ) (minus : Bool) (o : List ℕ) → all_formed m (suc k) fs ≡ false → (reading m (to_scan l fs) at k minus o).answer ≡ no_values
 unfolding reading
 reading_unformed m l [] at k minus o e = absurd (let z : ◌≡◌ {A = ℕ} 0 1 = cc in omega arith)
 reading_unformed m true (f ∷ []) at k minus o e = go (formed (eqb (suc k) m) f) refl e
   where
     go : (t : Bool) → formed (eqb (suc k) m) f ≡ t → (t && true) ≡ false
-        → (cond (formed (eqb (k + 1) m) f) (record { answer = Read (k + 1) (at + length f + 1) (minus || has_minus f); out = set o k (magnitude f) }) (wrong o)).answer ≡ Wrong
+        → (cond (formed (eqb (k + 1) m) f) (record { answer = some_values (k + 1) (at + length f + 1) (minus || has_minus f); out = set o k (magnitude f) }) (wrong o)).answer ≡ no_values
     go true u e = absurd (let z : ◌≡◌ {A = ℕ} 0 1 = cc in omega arith)
     go false u e = simp (add-one, u)
 reading_unformed m false (f ∷ []) at k minus o e = refl
 reading_unformed m l (f ∷ g ∷ fs) at k minus o e = go (formed (eqb (suc k) m) f) refl e (reading_unformed m l (g ∷ fs) (at + length f + 1) (suc k) (minus || has_minus f) (set o k (magnitude f)))
   where
     go : (t : Bool) → formed (eqb (suc k) m) f ≡ t → (t && all_formed m (suc (suc k)) (g ∷ fs)) ≡ false
-        → (all_formed m (suc (suc k)) (g ∷ fs) ≡ false → (reading m (to_scan l (g ∷ fs)) (at + length f + 1) (suc k) (minus || has_minus f) (set o k (magnitude f))).answer ≡ Wrong)
-        → (cond (formed (eqb (k + 1) m) f) (reading m (to_scan l (g ∷ fs)) (at + length f + 1) (k + 1) (minus || has_minus f) (set o k (magnitude f))) (wrong o)).answer ≡ Wrong
+        → (all_formed m (suc (suc k)) (g ∷ fs) ≡ false → (reading m (to_scan l (g ∷ fs)) (at + length f + 1) (suc k) (minus || has_minus f) (set o k (magnitude f))).answer ≡ no_values)
+        → (cond (formed (eqb (k + 1) m) f) (reading m (to_scan l (g ∷ fs)) (at + length f + 1) (k + 1) (minus || has_minus f) (set o k (magnitude f))) (wrong o)).answer ≡ no_values
     go true u e rec = simp (add-one k, u) (rec e)
     go false u e rec = simp (add-one k, u)
 
 -- byte 10 does not come
-reading_open : (m : ℕ) (fs : List (List ℕ)) (at k : ℕ) (minus : Bool) (o : List ℕ) → (reading m (to_scan false fs) at k minus o).answer ≡ Wrong
+reading_open : (m : ℕ) (fs : List (List ℕ)) (at k : ℕ) (minus : Bool) (o : List ℕ) → (reading m (to_scan false fs) at k minus o).answer ≡ no_values
 unfolding reading
 reading_open m [] at k minus o = refl
 reading_open m (f ∷ []) at k minus o = refl
 reading_open m (f ∷ g ∷ fs) at k minus o = go (formed (eqb (k + 1) m) f) (reading_open m (g ∷ fs) (at + length f + 1) (k + 1) (minus || has_minus f) (set o k (magnitude f)))
   where
-    go : (t : Bool) → (reading m (to_scan false (g ∷ fs)) (at + length f + 1) (k + 1) (minus || has_minus f) (set o k (magnitude f))).answer ≡ Wrong
-        → (cond t (reading m (to_scan false (g ∷ fs)) (at + length f + 1) (k + 1) (minus || has_minus f) (set o k (magnitude f))) (wrong o)).answer ≡ Wrong
+    go : (t : Bool) → (reading m (to_scan false (g ∷ fs)) (at + length f + 1) (k + 1) (minus || has_minus f) (set o k (magnitude f))).answer ≡ no_values
+        → (cond t (reading m (to_scan false (g ∷ fs)) (at + length f + 1) (k + 1) (minus || has_minus f) (set o k (magnitude f))) (wrong o)).answer ≡ no_values
     go true h = h
     go false h = refl
 
@@ -172,11 +173,11 @@ module _ (f : Form) (s o : List ℕ) (at : ℕ) (one : one_line f.key ≡ true) 
   unfolding values_at
   reads l e = ap (λ (g : Scan). reading f.minus g place 0 false o) (scan_line (drop place s) ∙ ap line_scan e)
 
-  never : (c e : ℕ) (neg : Bool) (a : Values) → a ≡ Wrong → a ≡ Read c e neg → ⊥
+  never : (c e : ℕ) (neg : Bool) (a : Option Values) → a ≡ no_values → a ≡ some_values c e neg → ⊥
   never c e neg a p q = let z : ◌≡◌ {A = ℕ} 0 1 = cc in omega arith
 
   -- by the line after the key
-  answer_wrong : (values_at s place f.minus o).answer ≡ Wrong → malformed f (line_at s at) ≡ true
+  answer_wrong : (values_at s place f.minus o).answer ≡ no_values → malformed f (line_at s at) ≡ true
   unfolding malformed
   answer_wrong q = go (line_at s place) refl
     where
@@ -200,30 +201,31 @@ module _ (f : Form) (s o : List ℕ) (at : ℕ) (one : one_line f.key ≡ true) 
       go (ended b) e =
           ap (malformed f) (line_is ∙ ap (prepend f.key) e ∙ prepend_ended f.key b) ∙ formed_is b ∙ all b e (all_formed f.minus 1 (cut_values b)) refl
 
-  answer_read : (c e : ℕ) (neg : Bool) → (values_at s place f.minus o).answer ≡ Read c e neg
+  answer_read : (c e : ℕ) (neg : Bool) → (values_at s place f.minus o).answer ≡ some_values c e neg
       → WasRead f (line_at s at) at o c e neg (values_at s place f.minus o).out
   answer_read c e neg q = go (line_at s place) refl
     where
-      wrong_read : (r : ValuesRead) → values_at s place f.minus o ≡ r → r.answer ≡ Wrong → ⊥
+      wrong_read : (r : ValuesRead) → values_at s place f.minus o ≡ r → r.answer ≡ no_values → ⊥
       wrong_read r w h = never c e neg (values_at s place f.minus o).answer (ap (λ (x : ValuesRead). x.answer) w ∙ h) q
 
       some : (b : List ℕ) → line_at s place ≡ ended b → all_formed f.minus 1 (cut_values b) ≡ true → (fs : List (List ℕ)) → cut_values b ≡ fs → 0 < length fs
           → WasRead f (ended (f.key ++ b)) at o c e neg (values_at s place f.minus o).out
       some b l u [] w h = absurd (omega arith)
       some b l u (g ∷ fs) w h =
-          let v : values_of f (ended (f.key ++ b)) ≡ g ∷ fs = values_are b ∙ w in
+          let vs : values_of f (ended (f.key ++ b)) ≡ g ∷ fs = values_are b ∙ w in
           let r = reads (ended b) l ∙ ap (λ (x : List (List ℕ)). reading f.minus (to_scan true x) place 0 false o) w ∙ reading_formed f.minus g fs place 0 false o (ap (all_formed f.minus 1) (sym w) ∙ u) in
-          let p : Read (0 + length (g ∷ fs)) (place + length (comma_joined (g ∷ fs)) + 1) (any_minus (g ∷ fs)) ≡ Read c e neg = sym (ap (λ (x : ValuesRead). x.answer) r) ∙ q in
-          let pc : 0 + length (g ∷ fs) ≡ c = cc in
-          let pe : place + length (comma_joined (g ∷ fs)) + 1 ≡ e = cc in
-          let pn : any_minus (g ∷ fs) ≡ neg = cc in
+          let p : some_values (0 + length (g ∷ fs)) (place + length (comma_joined (g ∷ fs)) + 1) (any_minus (g ∷ fs)) ≡ some_values c e neg = sym (ap (λ (x : ValuesRead). x.answer) r) ∙ q in
+          let v = same_Some _ _ p in
+          let pc : 0 + length (g ∷ fs) ≡ c = ap (λ (x : Values). x.count) v in
+          let pe : place + length (comma_joined (g ∷ fs)) + 1 ≡ e = ap (λ (x : Values). x.next) v in
+          let pn : any_minus (g ∷ fs) ≡ neg = ap (λ (x : Values). x.minus) v in
           let j : length (comma_joined (g ∷ fs)) ≡ length b = ap (λ (x : List (List ℕ)). length (comma_joined x)) (sym w) ∙ ap length (joined_cut b) in
           record {
             formed = formed_is b ∙ ap not u;
-            count = omega (arith, pc, ap (λ (x : List (List ℕ)). length x) v);
+            count = omega (arith, pc, ap (λ (x : List (List ℕ)). length x) vs);
             end = omega (arith, length-append f.key b, j);
-            sign = sym pn ∙ ap any_minus (sym v);
-            stored = ap (λ (x : ValuesRead). x.out) r ∙ ap (λ (x : List (List ℕ)). sets o 0 (magnitudes x)) (sym v);
+            sign = sym pn ∙ ap any_minus (sym vs);
+            stored = ap (λ (x : ValuesRead). x.out) r ∙ ap (λ (x : List (List ℕ)). sets o 0 (magnitudes x)) (sym vs);
           }
 
       all : (b : List ℕ) → line_at s place ≡ ended b → (t : Bool) → all_formed f.minus 1 (cut_values b) ≡ t
@@ -242,17 +244,17 @@ module _ (f : Form) (s o : List ℕ) (at : ℕ) (one : one_line f.key ≡ true) 
 
 -- the line is malformed and no values are answered, or those answered are the line's
 pub data Met (f : Form) (l : Line) (at : ℕ) (o : List ℕ) (r : ValuesRead) : Type 0 where
-  unread : r.answer ≡ Wrong → malformed f l ≡ true → Met f l at o r
-  read : (c e : ℕ) (neg : Bool) → r.answer ≡ Read c e neg → WasRead f l at o c e neg r.out → Met f l at o r
+  unread : r.answer ≡ no_values → malformed f l ≡ true → Met f l at o r
+  read : (c e : ℕ) (neg : Bool) → r.answer ≡ some_values c e neg → WasRead f l at o c e neg r.out → Met f l at o r
 
 pub met : (f : Form) (s o : List ℕ) (at : ℕ) → one_line f.key ≡ true → Met f (line_at s at) at o (keyed_at f.key s at f.minus o)
 unfolding keyed_at
 met f s o at one = keyed (begins f.key (drop at s)) refl
   where
-    answered : begins f.key (drop at s) ≡ true → (a : Values) → (values_at s (at + length f.key) f.minus o).answer ≡ a
+    answered : begins f.key (drop at s) ≡ true → (a : Option Values) → (values_at s (at + length f.key) f.minus o).answer ≡ a
         → Met f (line_at s at) at o (values_at s (at + length f.key) f.minus o)
-    answered on Wrong q = unread q (answer_wrong f s o at one on q)
-    answered on (Read c e neg) q = read c e neg q (answer_read f s o at one on c e neg q)
+    answered on None q = unread q (answer_wrong f s o at one on q)
+    answered on (Some v) q = read v.count v.next v.minus q (answer_read f s o at one on v.count v.next v.minus q)
 
     keyed : (t : Bool) → begins f.key (drop at s) ≡ t → Met f (line_at s at) at o (cond t (values_at s (at + length f.key) f.minus o) (wrong o))
     keyed true on = answered on (values_at s (at + length f.key) f.minus o).answer refl

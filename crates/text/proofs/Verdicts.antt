@@ -12,10 +12,10 @@ use borrow.Author.Tests.{eqb-true, eq-eqb}
 use Rattle.text.specs.Lines.{Line, missing, unended, ended, bytes_of, later, lines_of, line_at, is_line}
 use Rattle.text.specs.Course as course
 use Rattle.text.specs.Tests.{Test, ◌if◌, FirstTrue, None, first_true, found}
-use Rattle.text.specs.Forms.{Form, malformed, wrong_count, outside_range, form_tests, form_refusal, good_line, place_after, no_row, row_of, any_minus, values_of, numbers_of, sizes, pad_48}
+use Rattle.text.specs.Forms.{Form, malformed, wrong_count, outside_range, form_tests, form_refusal, good_line, place_after, fault_number, fault_of, verdict_of, good_row_of, row_of, any_minus, values_of, numbers_of, pad_48}
 use Rattle.text.specs.declared.Row.{Row}
-use Rattle.text.specs.declared.Verdict.{Verdict}
-use Rattle.text.specs.declared.Verdict.TheVariants.{Refused, Good}
+use Rattle.std.specs.Prelude.{Result, Ok, Err}
+use Rattle.text.specs.declared.Fault.{Fault}
 use Rattle.text.proofs.Cuts.{next_lines}
 use Rattle.text.proofs.Words.{word_is}
 use Rattle.text.proofs.Tests.{number_first, number_none}
@@ -66,53 +66,73 @@ module _ (f : Form) (l : Line) (ts : List Test) where
 
 -- ---- what the readers of a line answer
 
-module _ (f : Form) (l : Line) (at : ℕ) where
-  -- the row, by the number
-  pub row_refused : (good_line f l ≡ false) → row_of f l at ≡ no_row (form_refusal f l)
-  unfolding row_of
-  row_refused e = simp e
+module _ (f : Form) (l : Line) where
+  -- what is wrong with a line that is not good has the number that refuses it
+  pub fault_is : good_line f l ≡ false → fault_number (fault_of (form_refusal f l)) ≡ form_refusal f l
+  unfolding good_line form_refusal
+  fault_is = go (malformed f l) (wrong_count f l) (outside_range f l)
+    where
+      go : (m c r : Bool) → eqb (first_true (12 if m ∷ 14 if c ∷ 13 if r ∷ [])) 0 ≡ false
+          → fault_number (fault_of (first_true (12 if m ∷ 14 if c ∷ 13 if r ∷ []))) ≡ first_true (12 if m ∷ 14 if c ∷ 13 if r ∷ [])
+      go true c r e = refl
+      go false true r e = refl
+      go false false true e = refl
+      go false false false e = absurd (let z : ◌≡◌ {A = ℕ} 0 1 = cc in omega arith)
 
-  pub row_read : good_line f l ≡ true → row_of f l at ≡ record { verdict = Good (place_after l at); minus = any_minus (values_of f l); values = pad_48 (sizes (values_of f l)) }
-  unfolding row_of
-  row_read e = simp e
-
-  -- of what the line is found to be
-  module _ (v : Verdict) (is : v ≡ (row_of f l at).verdict) where
-    -- refused: the line is not good, and this is its number
-    pub ruled_refused : (n : ℕ) → v ≡ Refused n → (good_line f l ≡ false) × (form_refusal f l ≡ n)
+  module _ (at : ℕ) where
+    pub row_read : good_line f l ≡ true → row_of f l at ≡ Ok (good_row_of f l at)
     unfolding row_of
-    ruled_refused n e = go (good_line f l) (sym is ∙ e)
-      where
-        go : (t : Bool) → (cond t (record { verdict = Good (place_after l at); minus = any_minus (values_of f l); values = pad_48 (sizes (values_of f l)) }) (no_row (form_refusal f l))).verdict ≡ Refused n → (t ≡ false) × (form_refusal f l ≡ n)
-        go true q = absurd (let z : ◌≡◌ {A = ℕ} 0 1 = cc in omega arith)
-        go false q = (refl, cc)
+    row_read e = simp e
 
-    pub refused_row : (n : ℕ) → v ≡ Refused n → no_row n ≡ row_of f l at
-    refused_row n e = let r = ruled_refused n e in ap no_row (sym r.1) ∙ sym (row_refused r.0)
+    -- the verdict is that of the row
+    module _ (v : Result ℕ Fault) (is : v ≡ verdict_of f l at) where
+      -- refused: the line is not good, and its number is that of what is wrong
+      pub ruled_refused : (w : Fault) → v ≡ Err w → (good_line f l ≡ false) × (form_refusal f l ≡ fault_number w)
+      unfolding verdict_of
+      ruled_refused w e = go (good_line f l) refl (sym is ∙ e)
+        where
+          go : (t : Bool) → good_line f l ≡ t → cond t (Ok (place_after l at)) (Err (fault_of (form_refusal f l))) ≡ Err w → (good_line f l ≡ false) × (form_refusal f l ≡ fault_number w)
+          go true g q = absurd (let z : ◌≡◌ {A = ℕ} 0 1 = cc in omega arith)
+          go false g q = let p : fault_of (form_refusal f l) ≡ w = cc in (g, sym (fault_is g) ∙ ap fault_number p)
 
-    -- good: the line is good, and this is where the next one starts
-    pub ruled_good : (next : ℕ) → v ≡ Good next → (good_line f l ≡ true) × (next ≡ place_after l at)
-    unfolding row_of
-    ruled_good next e = go (good_line f l) (sym is ∙ e)
-      where
-        go : (t : Bool) → (cond t (record { verdict = Good (place_after l at); minus = any_minus (values_of f l); values = pad_48 (sizes (values_of f l)) }) (no_row (form_refusal f l))).verdict ≡ Good next → (t ≡ true) × (next ≡ place_after l at)
-        go true q = (refl, cc)
-        go false q = absurd (let z : ◌≡◌ {A = ℕ} 0 1 = cc in omega arith)
+      pub refused_row : (w : Fault) → v ≡ Err w → Err w ≡ row_of f l at
+      unfolding verdict_of row_of
+      refused_row w e = go (good_line f l) (sym is ∙ e)
+        where
+          go : (t : Bool) → cond t (Ok (place_after l at)) (Err (fault_of (form_refusal f l))) ≡ Err w → Err w ≡ cond t (Ok (good_row_of f l at)) (Err (fault_of (form_refusal f l)))
+          go true q = absurd (let z : ◌≡◌ {A = ℕ} 0 1 = cc in omega arith)
+          go false q = let p : w ≡ fault_of (form_refusal f l) = cc in ap (λ (x : Fault). Err x) p
 
-    pub good_row : (next : ℕ) → v ≡ Good next → (neg : Bool) → neg ≡ any_minus (values_of f l) → (vs : List ℕ) → vs ≡ pad_48 (numbers_of f l)
-        → ◌≡◌ {A = Row} (record { verdict = Good next; minus = neg; values = vs }) (row_of f l at)
-    good_row next e neg m vs h = let g = ruled_good next e in (λ i. record { verdict = Good (g.1 i); minus = m i; values = h i }) ∙ sym (row_read g.0)
+      -- good: the line is good, and this is where the next one starts
+      pub ruled_good : (next : ℕ) → v ≡ Ok next → (good_line f l ≡ true) × (next ≡ place_after l at)
+      unfolding verdict_of
+      ruled_good next e = go (good_line f l) (sym is ∙ e)
+        where
+          go : (t : Bool) → cond t (Ok (place_after l at)) (Err (fault_of (form_refusal f l))) ≡ Ok next → (t ≡ true) × (next ≡ place_after l at)
+          go true q = let p : place_after l at ≡ next = cc in (refl, sym p)
+          go false q = absurd (let z : ◌≡◌ {A = ℕ} 0 1 = cc in omega arith)
 
-  -- of a row that was read
-  module _ (r : Row) (read : r ≡ row_of f l at) where
-    pub verdict_refused : (n : ℕ) → r.verdict ≡ Refused n → (good_line f l ≡ false) × (form_refusal f l ≡ n)
-    verdict_refused n e = ruled_refused r.verdict (ap (λ (x : Row). x.verdict) read) n e
+      pub good_row : (next : ℕ) → v ≡ Ok next → (neg : Bool) → neg ≡ any_minus (values_of f l) → (vs : List ℕ) → vs ≡ pad_48 (numbers_of f l)
+          → Ok (record { next = next; minus = neg; values = vs }) ≡ row_of f l at
+      good_row next e neg m vs h = let g = ruled_good next e in (λ i. Ok (record { next = g.1 i; minus = m i; values = h i })) ∙ sym (row_read g.0)
 
-    pub verdict_good : (next : ℕ) → r.verdict ≡ Good next → (good_line f l ≡ true) × (next ≡ place_after l at)
-    verdict_good next e = ruled_good r.verdict (ap (λ (x : Row). x.verdict) read) next e
+    -- of a row that was read, or not
+    module _ (r : Result Row Fault) (read : r ≡ row_of f l at) where
+      pub fault_read : (w : Fault) → r ≡ Err w → (good_line f l ≡ false) × (form_refusal f l ≡ fault_number w)
+      unfolding row_of
+      fault_read w e = go (good_line f l) refl (sym read ∙ e)
+        where
+          go : (t : Bool) → good_line f l ≡ t → cond t (Ok (good_row_of f l at)) (Err (fault_of (form_refusal f l))) ≡ Err w → (good_line f l ≡ false) × (form_refusal f l ≡ fault_number w)
+          go true g q = absurd (let z : ◌≡◌ {A = ℕ} 0 1 = cc in omega arith)
+          go false g q = let p : fault_of (form_refusal f l) ≡ w = cc in (g, sym (fault_is g) ∙ ap fault_number p)
 
-    pub values_good : good_line f l ≡ true → r.values ≡ pad_48 (sizes (values_of f l))
-    values_good g = ap (λ (x : Row). x.values) (read ∙ row_read g)
+      pub good_read : (row : Row) → r ≡ Ok row → (good_line f l ≡ true) × (row ≡ good_row_of f l at)
+      unfolding row_of
+      good_read row e = go (good_line f l) (sym read ∙ e)
+        where
+          go : (t : Bool) → cond t (Ok (good_row_of f l at)) (Err (fault_of (form_refusal f l))) ≡ Ok row → (t ≡ true) × (row ≡ good_row_of f l at)
+          go true q = let p : good_row_of f l at ≡ row = cc in (refl, sym p)
+          go false q = absurd (let z : ◌≡◌ {A = ℕ} 0 1 = cc in omega arith)
 
 -- ---- from line to line
 

@@ -1,10 +1,11 @@
 -- What a line of numbers is due to be, and the tests of a line by it.
-use Rattle.std.specs.Prelude.{ℕ, suc, ◌+◌, ◌-◌, Bool, true, false, not, ◌&&◌, ◌||◌, cond, List, [], ◌∷◌, ◌++◌, length, drop, replicate, leb, ltb, eqb}
+use Rattle.std.specs.Prelude.{ℕ, suc, ◌+◌, ◌-◌, Bool, true, false, not, ◌&&◌, ◌||◌, cond, List, [], ◌∷◌, ◌++◌, length, drop, replicate, leb, ltb, eqb, Result, Ok, Err}
 use Rattle.decimal.specs.Decimal.{value_of, numeral}
 use Rattle.decimal.specs.NumberRead.{read_cap}
 use Rattle.text.specs.Lines.{Line, missing, unended, ended, bytes_of, begins, is_line}
 use Rattle.text.specs.Tests.{Test, ◌if◌, first_true}
-use Rattle.text.specs.declared.Verdict.TheVariants.{Refused, Good}
+use Rattle.text.specs.declared.Fault.{Fault}
+use Rattle.text.specs.declared.Fault.TheVariants.{Malformed, OutOfRange, WrongCount, Disordered}
 use Rattle.text.specs.declared.Row.{Row}
 
 -- ---- document 01, Texts: the values of a line, between commas
@@ -124,20 +125,31 @@ good_line f l = eqb (form_refusal f l) 0
 abbrev pub pad_48 : List ℕ → List ℕ
 pad_48 xs = xs ++ replicate (48 - length xs) 0
 
--- the row of a line that a number refuses
-abbrev pub no_row : ℕ → Row
-no_row n = record { verdict = Refused n; minus = false; values = replicate 48 0 }
+-- what is wrong with a line, by its number, and the number by what is wrong
+abbrev pub fault_number : Fault → ℕ
+fault_number Malformed = 12
+fault_number OutOfRange = 13
+fault_number WrongCount = 14
+fault_number Disordered = 15
+
+abbrev pub fault_of : ℕ → Fault
+fault_of n = cond (eqb n 12) Malformed (cond (eqb n 13) OutOfRange (cond (eqb n 14) WrongCount Disordered))
 
 -- the place after the line l, which starts at the place `at`, and its byte 10
 abbrev pub place_after : Line → ℕ → ℕ
 place_after l at = at + length (bytes_of l) + 1
 
--- the line l, which starts at the place `at`
-unfoldable pub row_of : Form → Line → ℕ → Row
-row_of f l at =
-    cond (good_line f l)
-    (record { verdict = Good (place_after l at); minus = any_minus (values_of f l); values = pad_48 (numbers_of f l) })
-    (no_row (form_refusal f l))
+-- the place after the line l, which starts at the place `at`, where it is good, or what is wrong with it
+unfoldable pub verdict_of : Form → Line → ℕ → Result ℕ Fault
+verdict_of f l at = cond (good_line f l) (Ok (place_after l at)) (Err (fault_of (form_refusal f l)))
+
+-- the row of a good line l, which starts at the place `at`
+abbrev pub good_row_of : Form → Line → ℕ → Row
+good_row_of f l at = record { next = place_after l at; minus = any_minus (values_of f l); values = pad_48 (numbers_of f l) }
+
+-- the line l, which starts at the place `at`: its row, or what is wrong with it
+unfoldable pub row_of : Form → Line → ℕ → Result Row Fault
+row_of f l at = cond (good_line f l) (Ok (good_row_of f l at)) (Err (fault_of (form_refusal f l)))
 
 -- no range reaches the cap of numbers read
 abbrev pub all_below : List ℕ → Bool

@@ -1,15 +1,13 @@
 -- What the reader of a line follows: the values from a place on, up to the first byte 10.
-use Rattle.std.specs.Prelude.{ℕ, ◌+◌, min, Bool, true, false, ◌&&◌, ◌||◌, cond, List, [], ◌∷◌, length, drop, set, leb, eqb}
+use Rattle.std.specs.Prelude.{ℕ, ◌+◌, min, Bool, true, false, ◌||◌, cond, List, [], ◌∷◌, length, drop, set, eqb, Option, None, Some, Result, Ok, Err}
 use Rattle.decimal.specs.Decimal.{value_of, numeral}
 use Rattle.decimal.specs.NumberRead.{read_cap}
 use Rattle.text.specs.Lines.{begins}
 use Rattle.text.specs.Forms.{has_minus, formed, size}
 use Rattle.text.specs.declared.Field.{Field}
-use Rattle.text.specs.declared.Field.TheVariants.{Broken, Ended}
 use Rattle.text.specs.declared.Values.{Values}
-use Rattle.text.specs.declared.Values.TheVariants.{Wrong, Read}
-use Rattle.text.specs.declared.Verdict.{Verdict}
-use Rattle.text.specs.declared.Verdict.TheVariants.{Refused, Good}
+use Rattle.text.specs.declared.Fault.{Fault}
+use Rattle.text.specs.declared.Fault.TheVariants.{Malformed, OutOfRange, WrongCount}
 
 -- what a text begins with, cut at the commas up to the first byte 10: a value that ends the line, a value with more behind
 -- it, or no byte 10 at all
@@ -37,31 +35,45 @@ scan (b ∷ s) = by_byte (eqb b 10) (eqb b 44) b (scan s)
 abbrev pub magnitude : List ℕ → ℕ
 magnitude f = min read_cap (size f)
 
--- the first value, which stands at the place `at`, taken as a number without a sign
-unfoldable pub head_ended : Bool → Scan → ℕ → Field
-head_ended minus cut at = Broken
-head_ended minus (last f) at = cond (numeral f) (Ended (min read_cap (value_of 0 f)) minus (at + length f + 1) true) Broken
-head_ended minus (more f g) at = cond (numeral f) (Ended (min read_cap (value_of 0 f)) minus (at + length f + 1) false) Broken
+-- no value, or one: its size, its minus, the place after the byte that ends it, and whether that byte ends the line
+abbrev pub no_field : Option Field
+no_field = None
 
-unfoldable pub ended_at : List ℕ → ℕ → Bool → Field
+abbrev pub some_field : ℕ → Bool → ℕ → Bool → Option Field
+some_field v minus next ends = Some (record { size = v; minus = minus; next = next; last = ends })
+
+-- the first value, which stands at the place `at`, taken as a number without a sign
+unfoldable pub head_ended : Bool → Scan → ℕ → Option Field
+head_ended minus cut at = no_field
+head_ended minus (last f) at = cond (numeral f) (some_field (min read_cap (value_of 0 f)) minus (at + length f + 1) true) no_field
+head_ended minus (more f g) at = cond (numeral f) (some_field (min read_cap (value_of 0 f)) minus (at + length f + 1) false) no_field
+
+unfoldable pub ended_at : List ℕ → ℕ → Bool → Option Field
 ended_at s at minus = head_ended minus (scan (drop at s)) at
 
 -- the first value, which stands at the place `at`
-unfoldable pub head_field : Bool → Scan → ℕ → Field
-head_field signed cut at = Broken
-head_field signed (last f) at = cond (formed signed f) (Ended (magnitude f) (has_minus f) (at + length f + 1) true) Broken
-head_field signed (more f g) at = cond (formed signed f) (Ended (magnitude f) (has_minus f) (at + length f + 1) false) Broken
+unfoldable pub head_field : Bool → Scan → ℕ → Option Field
+head_field signed cut at = no_field
+head_field signed (last f) at = cond (formed signed f) (some_field (magnitude f) (has_minus f) (at + length f + 1) true) no_field
+head_field signed (more f g) at = cond (formed signed f) (some_field (magnitude f) (has_minus f) (at + length f + 1) false) no_field
 
-unfoldable pub field_at : List ℕ → ℕ → Bool → Field
+unfoldable pub field_at : List ℕ → ℕ → Bool → Option Field
 field_at s at signed = head_field signed (scan (drop at s)) at
+
+-- no values, or how many they are, the next line's start and whether one has a minus
+abbrev pub no_values : Option Values
+no_values = None
+
+abbrev pub some_values : ℕ → ℕ → Bool → Option Values
+some_values count next minus = Some (record { count = count; next = next; minus = minus })
 
 -- the answer, and what the row then holds
 pub record ValuesRead : Type 0 where
-  pub answer : Values
+  pub answer : Option Values
   pub out : List ℕ
 
 abbrev pub wrong : List ℕ → ValuesRead
-wrong o = record { answer = Wrong; out = o }
+wrong o = record { answer = no_values; out = o }
 
 -- the values one by one: they stand at the place `at`, k were read before them, value number m may carry a minus, and
 -- `minus` says whether one before them has it
@@ -69,7 +81,7 @@ unfoldable pub reading : ℕ → Scan → ℕ → ℕ → Bool → List ℕ → 
 reading m cut at k minus o = wrong o
 reading m (last f) at k minus o =
     cond (formed (eqb (k + 1) m) f)
-    (record { answer = Read (k + 1) (at + length f + 1) (minus || has_minus f); out = set o k (magnitude f) })
+    (record { answer = some_values (k + 1) (at + length f + 1) (minus || has_minus f); out = set o k (magnitude f) })
     (wrong o)
 reading m (more f g) at k minus o =
     cond (formed (eqb (k + 1) m) f)
@@ -90,19 +102,11 @@ abbrev pub stored_at : List ℕ → List ℕ → ℕ → List ℕ → List ℕ
 stored_at key s at o = (keyed_at key s at 0 o).out
 
 -- whether one of the values read has a minus
-abbrev pub minus_of : Values → Bool
-minus_of Wrong = false
-minus_of (Read c next minus) = minus
+abbrev pub minus_of : Option Values → Bool
+minus_of None = false
+minus_of (Some v) = v.minus
 
 -- 12, 14, 13 in this order, by the values read: n are due, and `within` says whether those stored are in range
-abbrev pub values_verdict : Values → ℕ → Bool → Verdict
-values_verdict Wrong n within = Refused 12
-values_verdict (Read c next minus) n within = cond (eqb c n) (cond within (Good next) (Refused 13)) (Refused 14)
-
--- how many of the numbers are not from lo to hi
-abbrev pub outside_by : ℕ → ℕ → ℕ → ℕ
-outside_by lo hi x = cond (leb lo x && leb x hi) 0 1
-
-abbrev pub count_outside : ℕ → ℕ → List ℕ → ℕ
-count_outside lo hi [] = 0
-count_outside lo hi (x ∷ xs) = outside_by lo hi x + count_outside lo hi xs
+abbrev pub values_verdict : Option Values → ℕ → Bool → Result ℕ Fault
+values_verdict None n within = Err Malformed
+values_verdict (Some v) n within = cond (eqb v.count n) (cond within (Ok v.next) (Err OutOfRange)) (Err WrongCount)

@@ -1,57 +1,62 @@
 // Lines of a text: `key=value`, the values decimal numbers joined by commas, each line ended by byte 10.
 #![tactic(auto)]
 
-ghost use Rattle.std.specs.Prelude.{◌≡◌, true, not, ◌||◌, ◌+◌, ◌≤◌, ◌<◌, length, drop, set};
+ghost use Rattle.std.specs.Prelude.{◌≡◌, true, not, ◌&&◌, ◌||◌, ◌+◌, ◌≤◌, ◌<◌, leb, length, drop, set};
+ghost use Rattle.std.specs.List.{list_all};
 ghost use Rattle.decimal.specs.NumberRead.{read_cap};
 ghost use Rattle.text.specs.Lines.{one_line, begins, line_at, is_line};
-ghost use Rattle.text.specs.Forms.{byte_is, all_within, all_below, no_row, row_of, form, plain};
-ghost use Rattle.text.specs.Scan.{ended_at, field_at, values_at, keyed_at, stored_at, values_verdict, minus_of, outside_by, count_outside};
+ghost use Rattle.text.specs.Forms.{byte_is, all_within, all_below, fault_number, verdict_of, row_of, form, plain};
+ghost use Rattle.text.specs.Scan.{ended_at, field_at, values_at, keyed_at, stored_at, values_verdict, minus_of};
 
-use decimal::Number;
-
-// A value at a place: malformed, or its size, whether it has a minus, the place after the byte that ends it, and whether
-// that byte ends the line.
+// A value at a place: its size, whether it has a minus, the place after the byte that ends it, and whether that byte ends the line.
 #[derive(Clone, Copy)]
-enum Field {
-    Broken,
-    Ended {
-        size: u64,
-        minus: bool,
-        next: usize,
-        last: bool,
-    },
+struct Field {
+    size: u64,
+    minus: bool,
+    next: usize,
+    last: bool,
 }
 
-// The values up to a line's end: the key is not there, one is malformed or no end is there; or how many they are, the next
-// line's start, and whether one has a minus.
+// The values up to a line's end: how many they are, the next line's start, and whether one has a minus.
 #[derive(Clone, Copy)]
-enum Values {
-    Wrong,
-    Read {
-        count: usize,
-        next: usize,
-        minus: bool,
-    },
+struct Values {
+    count: usize,
+    next: usize,
+    minus: bool,
 }
 
-// What a line is at its place: refused by a number, 12, 14 or 13, or good, with the next line's start.
-#[derive(Clone, Copy)]
-pub enum Verdict {
-    Refused { number: u64 },
-    Good { next: usize },
+// What is wrong with a line of numbers: 12, 13, 14, and of a unit's line 15 (document 01, Numbers that come from the text).
+#[derive(Clone, Copy, PartialEq, Eq)]
+pub enum Fault {
+    Malformed,
+    OutOfRange,
+    WrongCount,
+    Disordered,
 }
 
-// A line of numbers: what it is, whether the value that may carry a minus does, and the values without the sign. Where the
-// line is not good, no minus and zeros.
+impl From<Fault> for u64 {
+    ghost from_gives = { λ fault number. number ≡ fault_number fault };
+
+    fn from(fault: Fault) -> u64 {
+        match fault {
+            Fault::Malformed => 12,
+            Fault::OutOfRange => 13,
+            Fault::WrongCount => 14,
+            Fault::Disordered => 15,
+        }
+    }
+}
+
+// A good line of numbers: the next line's start, whether the value that may carry a minus does, and the values without the sign.
 #[derive(Clone, Copy)]
 pub struct Row {
-    pub verdict: Verdict,
+    pub next: usize,
     pub minus: bool,
     pub values: [u64; 48],
 }
 
 // What a text's first line says.
-#[derive(Clone, Copy)]
+#[derive(Clone, Copy, PartialEq, Eq)]
 pub enum Kind {
     Unknown,
     Problem,
@@ -60,7 +65,7 @@ pub enum Kind {
 }
 
 // What stands where a text's end line is due: not that line, that line with something after it, or that line as the last.
-#[derive(Clone, Copy)]
+#[derive(Clone, Copy, PartialEq, Eq)]
 pub enum End {
     Missing,
     Followed,
@@ -71,25 +76,15 @@ pub enum End {
 fn byte_is(s: &[u8], at: usize, b: u8) -> bool
     ensures { result ≡ byte_is (drop at s.now) b }
 {
-    if at < s.len() {
-        let x = s[at];
-        x == b
-    } else {
-        false
-    }
+    at < s.len() && s[at] == b
 }
 
 // Whether the bytes of key stand at the place `at`.
 pub fn starts(s: &[u8], at: usize, key: &[u8]) -> bool
     ensures { result ≡ begins key.now (drop at s.now) }
 {
-    let mut i = at;
-    let mut j = 0;
-    while j < key.len() {
-        if byte_is(s, i, key[j]) {
-            i += 1;
-            j += 1;
-        } else {
+    for j in 0..key.len() {
+        if !byte_is(s, at + j, key[j]) {
             return false;
         }
     }
@@ -101,69 +96,48 @@ pub fn is_line(s: &[u8], at: usize, word: &[u8]) -> bool
     requires { one_line word.now ≡ true }
     ensures { result ≡ is_line word.now (line_at s.now at) }
 {
-    if starts(s, at, word) {
-        let end = at + word.len();
-        return byte_is(s, end, 10);
-    }
-    false
+    starts(s, at, word) && byte_is(s, at + word.len(), b'\n')
 }
 
 // The value without a sign that starts at `at`.
-fn read_unsigned(s: &[u8], at: usize, minus: bool) -> Field
+fn read_unsigned(s: &[u8], at: usize, minus: bool) -> Option<Field>
     ensures { result ≡ ended_at s.now at minus }
 {
-    let n = decimal::read_number(s, at);
-    match n {
-        Number::Malformed => Field::Broken,
-        Number::Value { value, next } => {
-            if s.len() <= next {
-                return Field::Broken;
-            }
-            let b = s[next];
-            if b == 10 {
-                return Field::Ended {
-                    size: value,
-                    minus,
-                    next: next + 1,
-                    last: true,
-                };
-            }
-            if b == 44 {
-                return Field::Ended {
-                    size: value,
-                    minus,
-                    next: next + 1,
-                    last: false,
-                };
-            }
-            Field::Broken
-        }
+    let number = decimal::read_number(s, at)?;
+    if s.len() <= number.next {
+        return None;
     }
+    let last = match s[number.next] {
+        b'\n' => true,
+        b',' => false,
+        _ => return None,
+    };
+    Some(Field {
+        size: number.value,
+        minus,
+        next: number.next + 1,
+        last,
+    })
 }
 
 // Whether no minus may stand before the place `from`: the value may not carry one, or a 0 stands there.
 fn bars_minus(s: &[u8], from: usize, signed: bool) -> bool
     ensures { result ≡ (not signed || byte_is (drop from s.now) 48) }
 {
-    if signed {
-        return byte_is(s, from, 48);
-    }
-    true
+    !signed || byte_is(s, from, b'0')
 }
 
 // The value that starts at `at`, which may carry a minus where `signed` is true.
-fn read_field(s: &[u8], at: usize, signed: bool) -> Field
+fn read_field(s: &[u8], at: usize, signed: bool) -> Option<Field>
     ensures { result ≡ field_at s.now at signed }
 {
-    let minus = byte_is(s, at, 45);
-    let mut from = at;
-    if minus {
-        from = at + 1;
-        if bars_minus(s, from, signed) {
-            return Field::Broken;
-        }
+    if !byte_is(s, at, b'-') {
+        return read_unsigned(s, at, false);
     }
-    read_unsigned(s, from, minus)
+    if bars_minus(s, at + 1, signed) {
+        return None;
+    }
+    read_unsigned(s, at + 1, true)
 }
 
 // Stores v at k where k is within out.
@@ -175,18 +149,8 @@ fn put(out: &mut [u64], k: usize, v: u64)
     }
 }
 
-// Whether one of the two is true.
-fn either(a: bool, b: bool) -> bool
-    ensures { result ≡ (a || b) }
-{
-    if a {
-        return true;
-    }
-    b
-}
-
 // The values from `at` to the line's end, of which number `signed` may carry a minus. Those that fit are stored in out.
-fn read_values(s: &[u8], at: usize, signed: usize, out: &mut [u64]) -> Values
+fn read_values(s: &[u8], at: usize, signed: usize, out: &mut [u64]) -> Option<Values>
     ensures answer { result ≡ (values_at s.now at signed out.old).answer }
     ensures stored { out.new ≡ (values_at s.now at signed out.old).out }
 {
@@ -195,32 +159,20 @@ fn read_values(s: &[u8], at: usize, signed: usize, out: &mut [u64]) -> Values
     let mut minus = false;
     while i < s.len() {
         let number = k + 1;
-        let f = read_field(s, i, number == signed);
-        match f {
-            Field::Broken => {
-                return Values::Wrong;
-            }
-            Field::Ended {
-                size,
-                minus: m,
-                next,
-                last,
-            } => {
-                put(out, k, size);
-                k = number;
-                i = next;
-                minus = either(minus, m);
-                if last {
-                    return Values::Read {
-                        count: k,
-                        next: i,
-                        minus,
-                    };
-                }
-            }
+        let f = read_field(s, i, number == signed)?;
+        put(out, k, f.size);
+        k = number;
+        i = f.next;
+        minus |= f.minus;
+        if f.last {
+            return Some(Values {
+                count: k,
+                next: i,
+                minus,
+            });
         }
     }
-    Values::Wrong
+    None
 }
 
 // Whether each number of v is from its low to its high.
@@ -228,97 +180,58 @@ fn all_within(v: &[u64], lows: &[u64], highs: &[u64]) -> bool
     requires { (length v.now ≤ length lows.now) × (length v.now ≤ length highs.now) }
     ensures { result ≡ all_within v.now lows.now highs.now }
 {
-    let mut i = 0;
-    while i < v.len() {
-        let x = v[i];
-        if x < lows[i] {
+    for i in 0..v.len() {
+        if v[i] < lows[i] || highs[i] < v[i] {
             return false;
         }
-        if highs[i] < x {
-            return false;
-        }
-        i += 1;
     }
     true
 }
 
-// 1 where x is not from lo to hi, or 0.
-fn outside(x: u64, lo: u64, hi: u64) -> u64
-    ensures { result ≡ outside_by lo hi x }
+// Whether each number of v is from lo to hi.
+fn all_between(v: &[u64], lo: u64, hi: u64) -> bool
+    ensures { result ≡ list_all (λ x. leb lo x && leb x hi) v.now }
 {
-    if x < lo {
-        return 1;
-    }
-    if hi < x {
-        return 1;
-    }
-    0
-}
-
-// How many numbers of v are not from lo to hi.
-fn count_outside(v: &[u64], lo: u64, hi: u64) -> u64
-    ensures { result ≡ count_outside lo hi v.now }
-{
-    let mut n: u64 = 0;
-    let mut i = 0;
-    while i < v.len() {
-        n += outside(v[i], lo, hi);
-        i += 1;
-    }
-    n
+    v.iter().all(|x| lo <= *x && *x <= hi)
 }
 
 // The values of the line that starts at `at` with key, of which number `signed` may carry a minus. Those that fit are stored
 // in out.
-fn read_keyed(s: &[u8], at: usize, key: &[u8], signed: usize, out: &mut [u64]) -> Values
+fn read_keyed(s: &[u8], at: usize, key: &[u8], signed: usize, out: &mut [u64]) -> Option<Values>
     ensures answer { result ≡ (keyed_at key.now s.now at signed out.old).answer }
     ensures stored { out.new ≡ (keyed_at key.now s.now at signed out.old).out }
 {
-    if starts(s, at, key) {
-        let from = at + key.len();
-        return read_values(s, from, signed, out);
+    if !starts(s, at, key) {
+        return None;
     }
-    Values::Wrong
+    read_values(s, at + key.len(), signed, out)
 }
 
 // What a line is whose values are these, where n are due and `within` says whether those stored are in range.
-fn judge_values(v: Values, n: usize, within: bool) -> Verdict
-    ensures { result ≡ values_verdict v n within }
+fn judge_values(read: Option<Values>, n: usize, within: bool) -> Result<usize, Fault>
+    ensures { result ≡ values_verdict read n within }
 {
-    match v {
-        Values::Wrong => Verdict::Refused { number: 12 },
-        Values::Read {
-            count,
-            next,
-            minus: _,
-        } => {
-            if count != n {
-                return Verdict::Refused { number: 14 };
-            }
-            if within {
-                return Verdict::Good { next };
-            }
-            Verdict::Refused { number: 13 }
-        }
+    let Some(values) = read else {
+        return Err(Fault::Malformed);
+    };
+    if values.count != n {
+        return Err(Fault::WrongCount);
     }
+    if !within {
+        return Err(Fault::OutOfRange);
+    }
+    Ok(values.next)
 }
 
 // Whether one of these values has a minus.
-fn has_minus(v: Values) -> bool
-    ensures { result ≡ minus_of v }
+fn has_minus(read: Option<Values>) -> bool
+    ensures { result ≡ minus_of read }
 {
-    match v {
-        Values::Wrong => false,
-        Values::Read {
-            count: _,
-            next: _,
-            minus,
-        } => minus,
-    }
+    read.is_some_and(|values| values.minus)
 }
 
-// What the line is that starts at `at`, where it is known to begin with key, and has a value for each of lows, none with a minus: the key
-// is not compared again. Those read are stored in out, as far as they fit.
+// The next line's start, where the line that starts at `at` is good, or what is wrong with it. It is known to begin with key, which is not compared
+// again, and has a value for each of lows, none with a minus. Those read are stored in out, as far as they fit.
 pub fn fill_line(
     s: &[u8],
     at: usize,
@@ -326,77 +239,70 @@ pub fn fill_line(
     lows: &[u64],
     highs: &[u64],
     out: &mut [u64],
-) -> Verdict
+) -> Result<usize, Fault>
     requires key_value { (one_line key.now ≡ true) × ((length lows.now ≤ 48) × ((length highs.now ≡ length lows.now) × ((all_below highs.now ≡ true) × (length out.old ≡ length lows.now)))) }
     requires s_value { begins key.now (drop at s.now) ≡ true }
-    ensures answer { result ≡ (row_of (form key.now 0 lows.now highs.now) (line_at s.now at) at).verdict }
+    ensures answer { result ≡ verdict_of (form key.now 0 lows.now highs.now) (line_at s.now at) at }
     ensures stored { out.new ≡ stored_at key.now s.now at out.old }
 {
-    let from = at + key.len();
-    let v = read_values(s, from, 0, out);
+    let read = read_values(s, at + key.len(), 0, out);
     let within = all_within(out, lows, highs);
-    judge_values(v, out.len(), within)
+    judge_values(read, out.len(), within)
 }
 
-// What the line is that starts at `at` with key and has a value for each place of out, each from lo to hi. Those read
-// are stored in out, as far as they fit.
-pub fn fill_row(s: &[u8], at: usize, key: &[u8], lo: u64, hi: u64, out: &mut [u64]) -> Verdict
+// The next line's start, where the line that starts at `at` is good, or what is wrong with it: it has key and a value for each place of out, each from
+// lo to hi. Those read are stored in out, as far as they fit.
+pub fn fill_row(
+    s: &[u8],
+    at: usize,
+    key: &[u8],
+    lo: u64,
+    hi: u64,
+    out: &mut [u64],
+) -> Result<usize, Fault>
     requires { (one_line key.now ≡ true) × ((length out.old ≤ 48) × (hi < read_cap)) }
-    ensures answer { result ≡ (row_of (plain key.now (length out.old) lo hi) (line_at s.now at) at).verdict }
+    ensures answer { result ≡ verdict_of (plain key.now (length out.old) lo hi) (line_at s.now at) at }
     ensures stored { out.new ≡ stored_at key.now s.now at out.old }
 {
-    let v = read_keyed(s, at, key, 0, out);
-    let many = count_outside(out, lo, hi);
-    judge_values(v, out.len(), many == 0)
-}
-
-// The row of a line that a number refuses.
-fn refused(number: u64) -> Row
-    ensures { result ≡ no_row number }
-{
-    Row {
-        verdict: Verdict::Refused { number },
-        minus: false,
-        values: [0; 48],
-    }
+    let read = read_keyed(s, at, key, 0, out);
+    let within = all_between(out, lo, hi);
+    judge_values(read, out.len(), within)
 }
 
 // The line that starts at `at` with key and has a value for each of lows, of which number `signed` may carry a minus.
-pub fn read_line(s: &[u8], at: usize, key: &[u8], signed: usize, lows: &[u64], highs: &[u64]) -> Row
+pub fn read_line(
+    s: &[u8],
+    at: usize,
+    key: &[u8],
+    signed: usize,
+    lows: &[u64],
+    highs: &[u64],
+) -> Result<Row, Fault>
     requires { (one_line key.now ≡ true) × ((length lows.now ≤ 48) × ((length highs.now ≡ length lows.now) × (all_below highs.now ≡ true))) }
     ensures { result ≡ row_of (form key.now signed lows.now highs.now) (line_at s.now at) at }
 {
     let mut values = [0u64; 48];
     let n = lows.len();
-    let v = read_keyed(s, at, key, signed, &mut values);
+    let read = read_keyed(s, at, key, signed, &mut values);
     let within = all_within(&values[..n], lows, highs);
-    let verdict = judge_values(v, n, within);
-    match verdict {
-        Verdict::Refused { number } => refused(number),
-        Verdict::Good { next } => {
-            let minus = has_minus(v);
-            Row {
-                verdict: Verdict::Good { next },
-                minus,
-                values,
-            }
-        }
-    }
+    let next = judge_values(read, n, within)?;
+    Ok(Row {
+        next,
+        minus: has_minus(read),
+        values,
+    })
 }
 
 // The line that starts at `at` with key and has n values, each from lo to hi.
-pub fn read_row(s: &[u8], at: usize, key: &[u8], n: usize, lo: u64, hi: u64) -> Row
+pub fn read_row(s: &[u8], at: usize, key: &[u8], n: usize, lo: u64, hi: u64) -> Result<Row, Fault>
     requires { (one_line key.now ≡ true) × ((n ≤ 48) × (hi < read_cap)) }
     ensures { result ≡ row_of (plain key.now n lo hi) (line_at s.now at) at }
 {
     let mut values = [0u64; 48];
-    let verdict = fill_row(s, at, key, lo, hi, &mut values[..n]);
-    match verdict {
-        Verdict::Refused { number } => refused(number),
-        Verdict::Good { next } => Row {
-            verdict: Verdict::Good { next },
-            minus: false,
-            values,
-        },
-    }
+    let next = fill_row(s, at, key, lo, hi, &mut values[..n])?;
+    Ok(Row {
+        next,
+        minus: false,
+        values,
+    })
 }

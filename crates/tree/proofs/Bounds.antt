@@ -7,8 +7,8 @@ use lib.IntN.{ℤ}
 use Rattle.model.specs.Instance.{Instance}
 use Rattle.model.specs.Above.{Above, side}
 use Rattle.model.specs.Leaf.{minℤ}
-use Rattle.model.specs.declared.figures.Bound.{Bound}
-use Rattle.model.specs.declared.figures.Bound.TheVariants.{Never as never, Number as number}
+use Rattle.model.specs.Figures.{Bound}
+use Rattle.std.specs.Prelude.{None as never, Some as number}
 use Rattle.model.specs.Figures.{lower, tree_gives}
 use Rattle.model.specs.Tree.{Tree, leaf, fork, leaf_bound, bound, splits, leaves}
 use Rattle.model.proofs.Integers.{up, down, min_shift, nat→eq}

@@ -9,7 +9,7 @@ use lib.ListN.{take}
 use Rattle.model.specs.Instance.{Instance, ◌at◌}
 use Rattle.model.specs.Above.{Above}
 use Rattle.model.specs.Leaf.{stuck_at, any_stuck, leaf_value}
-use Rattle.model.specs.declared.figures.Bound.TheVariants.{Never as never, Number as number}
+use Rattle.std.specs.Prelude.{None as never, Some as number}
 use Rattle.model.specs.declared.figures.TreeFigures.{TreeFigures}
 use Rattle.model.specs.Tree.{leaf_bound}
 use Rattle.text.specs.Lines.{line_at}

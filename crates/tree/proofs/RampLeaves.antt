@@ -13,8 +13,8 @@ use Rattle.model.specs.Above.{Above}
 use Rattle.model.specs.Held.{blank_generator}
 use Rattle.model.specs.Leaf.{any_stuck}
 use Rattle.model.specs.Ramps.{RampPrices, ups, downs, ramp_leaf_value}
-use Rattle.model.specs.declared.figures.Bound.{Bound}
-use Rattle.model.specs.declared.figures.Bound.TheVariants.{Number as number}
+use Rattle.model.specs.Figures.{Bound}
+use Rattle.std.specs.Prelude.{Some as number}
 use Rattle.model.specs.declared.figures.TreeFigures.{TreeFigures}
 use Rattle.model.specs.Figures.{add_leaf}
 use Rattle.model.specs.Tree.{price, ramp, StepMultipliers, ramped, leaf_bound}

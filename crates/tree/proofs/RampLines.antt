@@ -14,7 +14,7 @@ use Rattle.model.specs.Above.{root}
 use Rattle.model.specs.Cost.{row_cost}
 use Rattle.model.specs.Leaf.{rows_of, is_stuck, revenue, value, requirement}
 use Rattle.model.specs.Ramps.{RampPrices, ramp_charge, ramp_value, ramp_least, ramp_leasts, ramp_leaf_value}
-use Rattle.model.specs.declared.figures.Bound.TheVariants.{Number as number}
+use Rattle.std.specs.Prelude.{Some as number}
 use Rattle.model.specs.Figures.{tree_gives}
 use Rattle.model.specs.Tree.{Leaf, ramp, leaf, GoodLeaf, LeafHolds, leaf_bound, Limits, Holds, bound, splits, leaves}
 use Rattle.model.specs.Examples.{example, timed, unit2}

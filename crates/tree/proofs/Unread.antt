@@ -7,7 +7,7 @@ use Prim.Native.Nat.{ℕ, suc, ◌+◌, ◌-◌}
 use lib.Dec.{eqb, ltb}
 use lib.ListN.{length}
 use Rattle.model.specs.Instance.{Instance, ◌at◌}
-use Rattle.model.specs.declared.figures.Bound.{Bound}
+use Rattle.model.specs.Figures.{Bound}
 use Rattle.model.specs.Above.{Above, status, count}
 use Rattle.model.specs.Ramps.{RampPrices}
 use Rattle.model.specs.Tree.{Leaf, short, crowd, stuck, price, ramp, ramped}

@@ -6,7 +6,7 @@ use Prim.Native.Nat.{ℕ, ◌+◌}
 use native.Mathlib.Numerals.{add-one}
 use Rattle.model.specs.Instance.{Instance}
 use Rattle.model.specs.Above.{Above, Fork, side}
-use Rattle.model.specs.declared.figures.Bound.{Bound}
+use Rattle.model.specs.Figures.{Bound}
 use Rattle.model.specs.declared.figures.TreeFigures.{TreeFigures}
 use Rattle.model.specs.Figures.{add_split, add_leaf}
 use Rattle.text.specs.Lines.{line_at}

@@ -12,8 +12,8 @@ use Rattle.model.specs.Above.{root, status}
 use Rattle.model.specs.CountExamples.{by_count, by_both, count_limits, count_holds}
 use Rattle.model.specs.Cost.{row_cost}
 use Rattle.model.specs.Leaf.{usable, available, fixed_on, rows_of, is_stuck, revenue, value, unit_least, units_least, requirement, leaf_value}
-use Rattle.model.specs.declared.figures.Bound.{Bound}
-use Rattle.model.specs.declared.figures.Bound.TheVariants.{Number as number}
+use Rattle.model.specs.Figures.{Bound}
+use Rattle.std.specs.Prelude.{Some as number}
 use Rattle.model.specs.Figures.{tree_gives}
 use Rattle.model.specs.Tree.{short, crowd, price, Tree, leaf, fork, GoodLeaf, LeafHolds, leaf_bound, Limits, Holds, bound, splits, leaves}
 use Rattle.refusal.specs.Refusals.{line_refusal}

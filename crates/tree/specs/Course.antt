@@ -3,7 +3,7 @@ use Rattle.std.specs.Prelude.{◌≡◌, true, false, cond, List, [], ◌∷◌,
 use Rattle.std.proofs.Math.Option.{Option, none, some}
 use Rattle.model.specs.Instance.{Instance, ◌at◌}
 use Rattle.model.specs.Above.{Above, root, Fork, status, count, side}
-use Rattle.model.specs.declared.figures.Bound.{Bound}
+use Rattle.model.specs.Figures.{Bound}
 use Rattle.model.specs.Figures.{no_figures, add_split, add_leaf}
 use Rattle.model.specs.Ramps.{RampPrices}
 use Rattle.model.specs.Tree.{Leaf, short, crowd, stuck, price, ramp, ramped, leaf_bound}

@@ -18,7 +18,7 @@ use least::unit::Least;
 use leaves::crowd::is_crowd;
 use leaves::price::leaf_value;
 use leaves::short::sum_until;
-use model::figures::{Bound, TreeFigures};
+use model::figures::TreeFigures;
 use model::ranges::Price;
 use text::Verdict;
 
@@ -34,24 +34,6 @@ pub enum Read {
         line: usize,
         figures: TreeFigures,
     },
-}
-
-// The same, made anew: the bytes between its parts are not copied.
-pub fn same_read(read: Read) -> Read
-    ensures { result ≡ read }
-{
-    match read {
-        Read::Refused { number, line } => Read::Refused { number, line },
-        Read::Tree {
-            next,
-            line,
-            figures,
-        } => Read::Tree {
-            next,
-            line,
-            figures: figures.same(),
-        },
-    }
 }
 
 // The kinds of leaves, by their first lines.
@@ -89,7 +71,7 @@ fn read_short(
                 return Read::Tree {
                     next,
                     line: line + 1,
-                    figures: figures.with_leaf(Bound::Never),
+                    figures: figures.with_leaf(None),
                 };
             }
             Read::Refused { number: 33, line }
@@ -121,7 +103,7 @@ fn read_crowd(
                 return Read::Tree {
                     next,
                     line: line + 1,
-                    figures: figures.with_leaf(Bound::Never),
+                    figures: figures.with_leaf(None),
                 };
             }
             Read::Refused { number: 36, line }
@@ -153,7 +135,7 @@ fn read_stuck(
                 return Read::Tree {
                     next,
                     line: line + 1,
-                    figures: figures.with_leaf(Bound::Never),
+                    figures: figures.with_leaf(None),
                 };
             }
             Read::Refused { number: 34, line }
@@ -191,7 +173,7 @@ pub fn read_reserve(
             Read::Tree {
                 next,
                 line: line + 1,
-                figures: figures.with_leaf(Bound::Number(v)),
+                figures: figures.with_leaf(Some(v)),
             }
         }
     }

@@ -9,7 +9,7 @@ ghost use Rattle.tree.specs.ReadAnswers.{node_read, trees_read, Placed};
 
 use crate::above::{ForkLine, Side};
 use crate::forking::{ForkKind, read_fork_line};
-use crate::leaf::{LeafKind, Read, read_leaf, same_read};
+use crate::leaf::{LeafKind, Read, read_leaf};
 use model::figures::TreeFigures;
 
 // The node lines: of a fork, with two trees below it, or of a leaf.
@@ -129,7 +129,7 @@ fn read_split(
             above[place] = second.byte;
             let two = read_node(numbers, text, next, line, depth, above, figures);
             above[place] = was;
-            same_read(two)
+            two
         }
     }
 }

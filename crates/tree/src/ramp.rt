@@ -17,7 +17,7 @@ use crate::leaf::{Read, read_reserve};
 use layout::{periods_in, units_in};
 use least::unit::Least;
 use leaves::ramp::{add_unit, with_requirement};
-use model::figures::{Bound, TreeFigures};
+use model::figures::TreeFigures;
 use model::ranges::Price;
 use text::Verdict;
 
@@ -106,7 +106,7 @@ fn end_ramp(
     Read::Tree {
         next,
         line,
-        figures: figures.with_leaf(Bound::Number(v)),
+        figures: figures.with_leaf(Some(v)),
     }
 }
 

@@ -8,8 +8,8 @@ use native.Mathlib.Omega.{arith}
 use lib.Dec.{lit≤}
 use lib.IntN.{pos}
 use Rattle.decimal.specs.Decimal.{digits, digits_by}
-use Rattle.model.specs.declared.figures.Bound.{Bound}
-use Rattle.model.specs.declared.figures.Bound.TheVariants.{Number as number}
+use Rattle.model.specs.Figures.{Bound}
+use Rattle.std.specs.Prelude.{Some as number}
 use Rattle.model.specs.declared.figures.TreeFigures.{TreeFigures}
 use Rattle.model.specs.Figures.{tree_gives}
 use Rattle.model.specs.Tree.{splits, leaves}

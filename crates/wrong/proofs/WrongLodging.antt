@@ -4,7 +4,7 @@ use mathlib.Core.Bool.{Bool, true, cond}
 use mathlib.Core.List.{[]}
 use Prim.Native.Nat.{ℕ}
 use native.Mathlib.Omega.{arith}
-use Rattle.model.specs.declared.figures.Bound.TheVariants.{Never as never}
+use Rattle.std.specs.Prelude.{None as never}
 use Rattle.model.specs.declared.figures.TreeFigures.{TreeFigures}
 use Rattle.model.specs.Figures.{tree_gives}
 use Rattle.model.specs.Tree.{stuck, short, Tree, leaf, splits, leaves}

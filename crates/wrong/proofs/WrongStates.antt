@@ -8,8 +8,8 @@ use lib.IntN.{pos}
 use Rattle.model.specs.Instance.{Instance}
 use Rattle.model.specs.Held as arrays
 use Rattle.model.specs.Held.{view}
-use Rattle.model.specs.declared.figures.Bound.{Bound}
-use Rattle.model.specs.declared.figures.Bound.TheVariants.{Never as never, Number as number}
+use Rattle.model.specs.Figures.{Bound}
+use Rattle.std.specs.Prelude.{None as never, Some as number}
 use Rattle.model.proofs.Held.{view_held}
 use Rattle.model.proofs.Lists.{held_least, held_highest}
 use Rattle.model.proofs.Unbroken.{meets_shaped}

@@ -4,8 +4,8 @@ use Rattle.std.specs.Int.Signed.{lt_z}
 use Rattle.model.specs.declared.arrays.Problem.{Problem}
 use Rattle.model.specs.Held as arrays
 use Rattle.model.specs.Held.{view}
-use Rattle.model.specs.declared.figures.Bound.{Bound}
-use Rattle.model.specs.declared.figures.Bound.TheVariants.{Never as never, Number as number}
+use Rattle.model.specs.Figures.{Bound}
+use Rattle.std.specs.Prelude.{None as never, Some as number}
 use Rattle.model.specs.Figures.{tree_gives}
 use Rattle.tree.specs.Acceptance.{Bounded, bounded}
 use Rattle.docket.specs.declared.Docket.{Docket}

@@ -1,6 +1,6 @@
 -- Wrong ways of lodging, written out: each answers with a fault that document 01, Conditions of acceptance, names.
 use Rattle.std.specs.Prelude.{cond, List, ℕ, suc}
-use Rattle.model.specs.declared.figures.Bound.TheVariants.{Never as never}
+use Rattle.std.specs.Prelude.{None as never}
 use Rattle.model.specs.declared.figures.TreeFigures.{TreeFigures}
 use Rattle.model.specs.Figures.{tree_gives}
 use Rattle.text.specs.Lines.{line_at, kind_of}

@@ -5,8 +5,8 @@ use Rattle.std.proofs.Math.Option.{none, some}
 use Rattle.model.specs.Instance.{Instance, Schedule}
 use Rattle.model.specs.Rules.{Meets}
 use Rattle.model.specs.Cost as model
-use Rattle.model.specs.declared.figures.Bound.{Bound}
-use Rattle.model.specs.declared.figures.Bound.TheVariants.{Never as never, Number as number}
+use Rattle.model.specs.Figures.{Bound}
+use Rattle.std.specs.Prelude.{None as never, Some as number}
 use Rattle.model.specs.Best.{FirstLeast, FirstHighest}
 use Rattle.model.specs.Held.{view}
 use Rattle.judge.specs.Rows.{schedule_of}

@@ -7,7 +7,7 @@ use Rattle.writer.specs.Written.{figure_of}
 use Rattle.answer.proofs.Cases.{number_shown}
 use Rattle.answer.proofs.figure_of_bound.Goals as goal
 
-pub returns-in-Number : goal.returns-in-Number
-returns-in-Number c =
-    let z : to_z w64 (of_z w64 c.in-Number.z) ≡ c.in-Number.z = search rules in
-    c.figure_of.ensures ∙ ap figure_of z ∙ number_shown _ c.in-Number.z c.in-Number.is
+pub returns-in-Some : goal.returns-in-Some
+returns-in-Some c =
+    let z : to_z w64 (of_z w64 c.in-Some.z) ≡ c.in-Some.z = search rules in
+    c.figure_of.ensures ∙ ap figure_of z ∙ number_shown _ c.in-Some.z c.in-Some.is

@@ -23,15 +23,15 @@ known c =
     let a = c.args in
     ap (λ (b : Bool). cond b (values_at a.s.now (a.at + length a.key.now) 0 a.out.now) (wrong a.out.now)) c.requires.s_value
 
-pub overflow_add-from : goal.overflow_add-from
-overflow_add-from c =
+pub overflow_add-at : goal.overflow_add-at
+overflow_add-at c =
     let a = c.args in
     omega (arith, key_fits a.s.now a.key.now a.at c.requires.s_value, c.well_formed, c.ranges)
 
 pub returns : goal.returns
 returns c =
     let a = c.args in
-    let v = c.read_values-v in
+    let v = c.read_values-read in
     let stored = v.ensures.stored ∙ sym (ap (λ (r : ValuesRead). r.out) (known c.before)) in record {
       answer = c.judge_values.ensures
           ∙ fill_verdict a.key.now a.lows.now a.highs.now a.s.now a.out.now a.at c.requires.key_value.0 c.requires.key_value.1.1.1.0 c.requires.key_value.1.1.1.1 stored (v.ensures.answer ∙ sym (ap (λ (r : ValuesRead). r.answer) (known c.before))) (search rules) c.all_within-within.ensures;

@@ -1,12 +1,8 @@
-use Rattle.text.specs.declared.Field.TheVariants.{Ended}
-use mathlib.Core.Bool.{Bool, false}
-use borrow.Author.Rules.{rules}
-use native.Mathlib.Omega.{arith}
+use mathlib.Core.Bool.{false}
 use Prim.Native.Nat.{◌-◌, ◌≤◌}
-use mathlib.Core.Path.{◌≡◌, refl, ap, sym, ◌∙◌}
+use mathlib.Core.Path.{◌≡◌}
 use lib.ListN.{length}
-use Rattle.text.specs.Scan.{ValuesRead, values_at}
-use Rattle.text.proofs.ValueTurns.{reading_at, turn_end, turn_broken, turn_after, turn_last, turn_more}
+use Rattle.text.proofs.ValueTurns.{reading_at}
 use Rattle.text.proofs.read_values.Given as goal
 
 abbrev pub invariant-loop-i : goal.invariant-loop-i

@@ -1,15 +1,8 @@
-use borrow.Author.Rules.{rules}
-use native.Mathlib.Omega.{arith}
-use Prim.Native.Nat.{◌-◌}
-use mathlib.Core.Path.{◌≡◌, refl, sym, ◌∙◌}
+use Prim.Native.Nat.{◌+◌, ◌≤◌, max}
+use mathlib.Core.Path.{◌≡◌}
 use lib.ListN.{length, drop}
 use Rattle.text.specs.Lines.{begins}
-use Rattle.text.proofs.Keys.{starts_on, starts_off, starts_end}
-use Rattle.text.proofs.Fields.{byte_inside}
 use Rattle.text.proofs.starts.Given as goal
 
 abbrev pub invariant-loop-j : goal.invariant-loop-j
-invariant-loop-j l = begins (drop l.j l.key) (drop l.i l.s) ≡ begins l.key (drop l.at l.s)
-
-abbrev pub decreases-loop-j : goal.decreases-loop-j
-decreases-loop-j l = length l.key - l.j
+invariant-loop-j l = (l.at + l.j ≤ max l.at (length l.s)) × (begins (drop l.j l.key) (drop (l.at + l.j) l.s) ≡ begins l.key (drop l.at l.s))

@@ -1,10 +1,9 @@
 use mathlib.Core.Path.{◌≡◌, refl, sym, ◌∙◌}
-use Prim.Native.Nat.{◌-◌, ◌≤◌}
 use native.Mathlib.Omega.{arith}
-use lib.ListN.{length, take, drop}
+use lib.ListN.{length}
 use borrow.Author.Rules.{rules}
 use Rattle.model.specs.Held.{blank_generator}
-use Rattle.model.specs.Ranges.{every, good_generator}
+use Rattle.model.specs.Ranges.{good_generator}
 use Rattle.model.proofs.Every.{one_passes, one_fails, all_pass}
 use Rattle.model.proofs.arrays.has_good_generators.Goals as goal
 

@@ -1,12 +1,8 @@
 -- `has_good_generators` meets its contract: those before place i passed, so what is left from there on decides.
-use mathlib.Core.Path.{◌≡◌, refl, sym, ◌∙◌}
+use mathlib.Core.Path.{◌≡◌}
 use Prim.Native.Nat.{◌-◌, ◌≤◌}
-use native.Mathlib.Omega.{arith}
 use lib.ListN.{length, take, drop}
-use borrow.Author.Rules.{rules}
-use Rattle.model.specs.Held.{blank_generator}
 use Rattle.model.specs.Ranges.{every, good_generator}
-use Rattle.model.proofs.Every.{one_passes, one_fails, all_pass}
 use Rattle.model.proofs.arrays.has_good_generators.Given as goal
 
 abbrev pub invariant-loop-i : goal.invariant-loop-i

@@ -1,9 +1,8 @@
 use mathlib.Core.Path.{◌≡◌, refl, sym, ◌∙◌}
-use Prim.Native.Nat.{◌-◌, ◌≤◌}
 use native.Mathlib.Omega.{arith}
-use lib.ListN.{length, take, drop}
+use lib.ListN.{length}
 use borrow.Author.Rules.{rules}
-use Rattle.model.specs.Ranges.{every, load_in_range}
+use Rattle.model.specs.Ranges.{load_in_range}
 use Rattle.model.proofs.Every.{one_passes, one_fails, all_pass}
 use Rattle.model.proofs.arrays.has_loads_in_range.Goals as goal
 

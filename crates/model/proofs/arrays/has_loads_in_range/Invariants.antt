@@ -1,11 +1,8 @@
 -- `has_loads_in_range` meets its contract: those before place i passed, so what is left from there on decides.
-use mathlib.Core.Path.{◌≡◌, refl, sym, ◌∙◌}
+use mathlib.Core.Path.{◌≡◌}
 use Prim.Native.Nat.{◌-◌, ◌≤◌}
-use native.Mathlib.Omega.{arith}
 use lib.ListN.{length, take, drop}
-use borrow.Author.Rules.{rules}
 use Rattle.model.specs.Ranges.{every, load_in_range}
-use Rattle.model.proofs.Every.{one_passes, one_fails, all_pass}
 use Rattle.model.proofs.arrays.has_loads_in_range.Given as goal
 
 abbrev pub invariant-loop-i : goal.invariant-loop-i

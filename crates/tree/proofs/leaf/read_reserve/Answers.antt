@@ -10,7 +10,7 @@ use mir.Syntax.{w64}
 use mir.Val.{SFits}
 use mir.ValLaws.{to_z-of_z}
 use Rattle.model.specs.Instance.{◌at◌}
-use Rattle.model.specs.declared.figures.Bound.TheVariants.{Number}
+use Rattle.std.specs.Prelude.{Some as Number}
 use Rattle.model.specs.Figures.{add_leaf}
 use Rattle.model.specs.Tree.{Multipliers}
 use Rattle.layout.specs.Numbers.{instance_in}

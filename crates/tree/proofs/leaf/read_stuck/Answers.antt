@@ -4,7 +4,7 @@ use mathlib.Core.Path.{◌≡◌, refl, sym, ap, ◌∙◌}
 use Prim.Native.Nat.{ℕ}
 use native.Mathlib.Omega.{arith}
 use lib.ListN.{length}
-use Rattle.model.specs.declared.figures.Bound.TheVariants.{Never}
+use Rattle.std.specs.Prelude.{None as Never}
 use Rattle.layout.specs.Numbers.{instance_in}
 use Rattle.walk.specs.Marks.{above_of}
 use Rattle.tree.specs.declared.naming.NamedLine.{NamedLine}

@@ -7,7 +7,7 @@ use lib.IntN.{ℤ}
 use mir.Syntax.{w64}
 use mir.Val.{SFits}
 use mir.ValLaws.{to_z-of_z}
-use Rattle.model.specs.declared.figures.Bound.TheVariants.{Number}
+use Rattle.std.specs.Prelude.{Some as Number}
 use Rattle.model.specs.declared.figures.TreeFigures.{TreeFigures}
 use Rattle.model.specs.Figures.{add_leaf}
 use Rattle.least.specs.declared.unit.Least.{Least}

@@ -2,7 +2,6 @@
 use mathlib.Core.Path.{sym, ◌∙◌}
 use Rattle.model.specs.Held.{valid_problem}
 use Rattle.model.proofs.RangeTests.{between_most}
-use borrow.Author.Rules.{rules}
 use Rattle.model.proofs.arrays.Problem.is_valid.Goals as goal
 
 pub has_loads_in_range-demand_in-requires : goal.has_loads_in_range-demand_in-requires

@@ -1,6 +1,5 @@
 -- `has_midnight` meets its contract: the status chooses the test.
 use mathlib.Core.Path.{sym, ◌∙◌}
-use borrow.Author.Rules.{rules}
 use Rattle.model.proofs.RangeTests.{midnight_on, midnight_off}
 use Rattle.model.proofs.generator.Generator.has_midnight.Goals as goal
 

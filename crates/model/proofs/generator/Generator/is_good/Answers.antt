@@ -1,5 +1,4 @@
 -- `is_good` meets its contract: what its calls ensure, put together.
-use borrow.Author.Rules.{rules}
 use Rattle.model.proofs.generator.Generator.is_good.Goals as goal
 
 pub returns : goal.returns
