@@ -20,7 +20,7 @@ use Rattle.model.specs.Leaf.{is_stuck, unit_least}
 use Rattle.model.specs.Forced.{unit_answer, force, forced_least, forced_tables, value_number, stuck_number}
 use Rattle.model.specs.Tree.{price, Tree, GoodLeaf, Limits}
 use Rattle.layout.proofs.Ranks.{map_at}
-use Rattle.least.specs.declared.unit.Least.TheVariants.{Stuck, Value}
+use Rattle.std.specs.Prelude.{None, Some}
 use Rattle.least.specs.UnitLeasts.{least_of}
 use Rattle.least.proofs.UnitParts.{all_get_d}
 use Rattle.runs.specs.Drafts.{marks_asked}
@@ -59,7 +59,7 @@ module _ (n : ℕ) (q s : ℕ → ℕ) (g : Generator) (m : ℕ → Mark) where
   pub answer_walked : unit_answer n q s g m ≡ as_entry (least_of n q s g m)
   answer_walked = go (is_stuck n g m)
     where
-      go : (b : Bool) → cond b none (some (unit_least n q s g m)) ≡ as_entry (cond b Stuck (Value (unit_least n q s g m)))
+      go : (b : Bool) → cond b none (some (unit_least n q s g m)) ≡ as_entry (cond b None (Some (unit_least n q s g m)))
       go true = refl
       go false = refl
 

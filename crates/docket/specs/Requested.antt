@@ -1,5 +1,5 @@
 -- The words of the page of what document 02 asks beyond demands 1 to 3.
-use Rattle.std.specs.Prelude.{◌≡◌, Bool, true, false, not, ◌↔◌, ℕ, zero, suc, ◌+◌, ◌*◌, ◌-◌, ◌<◌, T, ℤ, pos, ◌+ℤ◌, length, get_or}
+use Rattle.std.specs.Prelude.{◌≡◌, Bool, true, false, not, ◌↔◌, ℕ, zero, suc, ◌+◌, ◌*◌, ◌-◌, ◌<◌, T, ℤ, pos, ◌+ℤ◌, length, get_or, None, Some}
 use mathlib.Core.List.{List, [], ◌∷◌, ◌++◌, map, flatten}
 use Rattle.std.proofs.Math.Option.{Option, none, some}
 use Rattle.model.specs.declared.generator.Generator.{Generator}
@@ -15,8 +15,7 @@ use Rattle.model.specs.Tree as tree
 use Rattle.model.specs.Tree.{Leaf}
 use Rattle.model.specs.Turns.{in_turn, Fewest}
 use Rattle.walk.specs.Marks.{mark_of, most_of}
-use Rattle.least.specs.declared.unit.Least.{Least}
-use Rattle.least.specs.declared.unit.Least.TheVariants.{Stuck, Value}
+use Rattle.least.specs.UnitLeasts.{Least}
 use Rattle.leaves.specs.declared.short.Taken.{Taken}
 use Rattle.runs.specs.declared.drafting.RunsAnswer.TheVariants as runs
 use Rattle.runs.specs.Drafts as drafts
@@ -113,8 +112,8 @@ pub record PartLineDue (P : Instance) (text : List ℕ) (before : List Line) (x 
 
 -- what the single walk gives, as an entry
 abbrev pub as_entry : Least → Option ℤ
-as_entry Stuck = none
-as_entry (Value z) = some z
+as_entry None = none
+as_entry (Some z) = some z
 
 -- where the entry of unit u stands, with period t forced off or on, among those of units with n periods: unit by unit, period by period, all counted from 0, off forced before on forced
 abbrev pub place : ℕ → ℕ → ℕ → Bool → ℕ

@@ -14,7 +14,7 @@ use Rattle.model.specs.Above.{Mark}
 use Rattle.model.proofs.Extents.{Same, is_stuck_ext, unit_least_ext, ramp_least_ext}
 use Rattle.walk.specs.Marks.{mark_of, marks_of, marks_in}
 use Rattle.walk.proofs.AboveMarks.{marks_same}
-use Rattle.least.specs.declared.unit.Least.TheVariants.{Stuck, Value}
+use Rattle.std.specs.Prelude.{None, Some}
 use Rattle.least.specs.UnitLeasts.{least_of, ramp_least_of}
 
 -- what holds of all units
@@ -51,12 +51,12 @@ module _ (I n u : ℕ) (above : List ℕ) (inside : u < I) where
         → least_of N q s g (marks_of (take long (drop place above))) ≡ least_of n q s g (marks_in I n above u)
     part_answer =
         part_same (λ N m. least_of N q s g m)
-        (λ m m' h. ap₂ (λ (b : Bool) (z : ℤ). cond b Stuck (Value z)) (is_stuck_ext n g m m' h) (unit_least_ext n g m m' h good q q s s (λ t l. refl) (λ t l. refl)))
+        (λ m m' h. ap₂ (λ (b : Bool) (z : ℤ). cond b None (Some z)) (is_stuck_ext n g m m' h) (unit_least_ext n g m m' h good q q s s (λ t l. refl) (λ t l. refl)))
 
     pub ramp_part_answer : (x y : ℕ → ℕ) (N place long : ℕ) → N ≡ n → place ≡ u * n → long ≡ n
         → ramp_least_of N q s x y g (marks_of (take long (drop place above))) ≡ ramp_least_of n q s x y g (marks_in I n above u)
     ramp_part_answer x y =
         part_same (λ N m. ramp_least_of N q s x y g m)
         (λ m m' h.
-        ap₂ (λ (b : Bool) (z : ℤ). cond b Stuck (Value z)) (is_stuck_ext n g m m' h)
+        ap₂ (λ (b : Bool) (z : ℤ). cond b None (Some z)) (is_stuck_ext n g m m' h)
         (ramp_least_ext n g m m' h good q q s s x x y y (λ t l. refl) (λ t l. refl) (λ t l. refl) (λ t l. refl)))

@@ -9,7 +9,6 @@ ghost use Rattle.least.specs.Limits.{GoodPrices, GoodSteps};
 ghost use Rattle.least.specs.Priced.{Costed};
 
 use crate::output::least_on;
-use crate::unit::Least;
 use model::generator::Generator;
 use walk::walk_value;
 
@@ -85,7 +84,7 @@ fn sum_ramp_offset(g: Generator, q: &[u64], s: &[u64], up: &[u64], down: &[u64])
     sum
 }
 
-// The unit's least value at the prices under the fixed statuses (1 off, 2 on), over all its runs and outputs; or that it is stuck.
+// The unit's least value at the prices under the fixed statuses (1 off, 2 on), over all its runs and outputs; none where it is stuck.
 pub fn ramp_least(
     g: Generator,
     q: &[u64],
@@ -93,7 +92,7 @@ pub fn ramp_least(
     up: &[u64],
     down: &[u64],
     fixed: &[u8],
-) -> Least
+) -> Option<i64>
     requires good_unit { GoodUnit g }
     requires good_prices { GoodPrices (length q.now) q.now s.now × (length fixed.now ≡ length q.now) }
     requires good_steps { GoodSteps (length q.now) up.now × GoodSteps (length q.now) down.now }
@@ -101,8 +100,8 @@ pub fn ramp_least(
 {
     let value = ramp_value(g, q, s, up, down, fixed);
     if value == 0 {
-        return Least::Stuck;
+        return None;
     }
     let added = sum_ramp_offset(g, q, s, up, down);
-    Least::Value((value - 1) as i64 - added as i64)
+    Some((value - 1) as i64 - added as i64)
 }

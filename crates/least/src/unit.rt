@@ -12,13 +12,6 @@ use crate::output::least_on;
 use model::generator::Generator;
 use walk::walk_value;
 
-// That a unit is stuck, or a least value.
-#[derive(Clone, Copy)]
-pub enum Least {
-    Stuck,
-    Value(i64),
-}
-
 // Writes what each period costs on and off, with (q + s)·pU added.
 pub fn fill_costs(g: Generator, q: &[u64], s: &[u64], on: &mut [u64], off: &mut [u64])
     requires good_unit { GoodUnit g }
@@ -67,16 +60,16 @@ pub fn sum_offset(g: Generator, q: &[u64], s: &[u64]) -> u64
     sum
 }
 
-// The unit's least value at the prices under the fixed statuses (1 off, 2 on), over all its runs and outputs; or that it is stuck.
-pub fn unit_least(g: Generator, q: &[u64], s: &[u64], fixed: &[u8]) -> Least
+// The unit's least value at the prices under the fixed statuses (1 off, 2 on), over all its runs and outputs; none where it is stuck.
+pub fn unit_least(g: Generator, q: &[u64], s: &[u64], fixed: &[u8]) -> Option<i64>
     requires good_unit { GoodUnit g }
     requires good_prices { GoodPrices (length q.now) q.now s.now × (length fixed.now ≡ length q.now) }
     ensures { result ≡ least_of (length q.now) (λ t. q.now at t) (λ t. s.now at t) g (marks_of fixed.now) }
 {
     let value = price_value(g, q, s, fixed);
     if value == 0 {
-        return Least::Stuck;
+        return None;
     }
     let added = sum_offset(g, q, s);
-    Least::Value((value - 1) as i64 - added as i64)
+    Some((value - 1) as i64 - added as i64)
 }

@@ -8,7 +8,7 @@ use Rattle.model.specs.Instance.{Instance, ◌at◌}
 use Rattle.model.specs.Above.{Marks}
 use Rattle.model.specs.Ranges.{WellFormed}
 use Rattle.model.specs.Leaf.{any_stuck, units_least, requirement, leaf_value}
-use Rattle.least.specs.declared.unit.Least.TheVariants.{Stuck, Value}
+use Rattle.std.specs.Prelude.{None, Some}
 use Rattle.least.specs.Limits.{GoodPrices}
 use Rattle.leaves.specs.LeafLeasts.{leasts_of, leaf_of, plus_requirement}
 use Rattle.leaves.specs.Limits.{SmallLeast}
@@ -16,7 +16,7 @@ use Rattle.leaves.proofs.SmallSums.{small_least}
 use Rattle.leaves.proofs.Units.{units_small}
 
 -- of units that are stuck where b says so, and have the sum z
-pub plus_required : (P : Instance) (q s : ℕ → ℕ) (b : Bool) (z : ℤ) → plus_requirement P q s (cond b Stuck (Value z)) ≡ cond b Stuck (Value (z +ℤ pos (requirement P q s)))
+pub plus_required : (P : Instance) (q s : ℕ → ℕ) (b : Bool) (z : ℤ) → plus_requirement P q s (cond b None (Some z)) ≡ cond b None (Some (z +ℤ pos (requirement P q s)))
 plus_required P q s true z = refl
 plus_required P q s false z = refl
 

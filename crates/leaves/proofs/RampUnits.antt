@@ -15,7 +15,7 @@ use Rattle.model.specs.Leaf.{is_stuck, any_stuck}
 use Rattle.model.specs.Ramps.{Steps, rest_steps, ramp_least, ramp_leasts, ramp_leaf_value}
 use Rattle.model.proofs.RampSizes.{ramp_least_fits}
 use Rattle.model.proofs.LeafSizes.{ramp_leasts_fit}
-use Rattle.least.specs.declared.unit.Least.TheVariants.{Stuck, Value}
+use Rattle.std.specs.Prelude.{None, Some}
 use Rattle.least.specs.UnitLeasts.{ramp_least_of}
 use Rattle.leaves.specs.LeafLeasts.{ramp_leasts_of, ramp_leaf_of, plus_unit, plus_requirement}
 use Rattle.leaves.specs.Limits.{Small, SmallLeast}
@@ -34,7 +34,7 @@ ramp_leasts_more n q s x y (suc u) (g ∷ l) d m h =
     ap (λ (z : ℤ). ramp_least n q s (x 0) (y 0) g (m 0) +ℤ z) (ramp_leasts_more n q s (rest_steps x) (rest_steps y) u l d (rest m) (omega arith))
     ∙ sym (+ℤ_assoc (ramp_least n q s (x 0) (y 0) g (m 0)) (ramp_leasts n q s (rest_steps x) (rest_steps y) (take u l) (rest m)) (ramp_least n q s (x (suc u)) (y (suc u)) (get_or l u d) (m (suc u))))
 
-joined : (b c : Bool) (v w : ℤ) → plus_unit (cond b Stuck (Value v)) (cond c Stuck (Value w)) ≡ cond (b || c) Stuck (Value (v +ℤ w))
+joined : (b c : Bool) (v w : ℤ) → plus_unit (cond b None (Some v)) (cond c None (Some w)) ≡ cond (b || c) None (Some (v +ℤ w))
 joined true c v w = refl
 joined false true v w = refl
 joined false false v w = refl
@@ -44,7 +44,7 @@ pub plus_unit_is : (n : ℕ) (q s : ℕ → ℕ) (x y : Steps) (u : ℕ) (l : Li
 plus_unit_is n q s x y u l d m h =
     rw (add-one u)
     (joined (any_stuck n (take u l) m) (is_stuck n (get_or l u d) (m u)) (ramp_leasts n q s x y (take u l) m) (ramp_least n q s (x u) (y u) (get_or l u d) (m u))
-    ∙ ap₂ (λ (b : Bool) (z : ℤ). cond b Stuck (Value z)) (sym (any_stuck_next n u l d m h)) (sym (ramp_leasts_more n q s x y u l d m h)))
+    ∙ ap₂ (λ (b : Bool) (z : ℤ). cond b None (Some z)) (sym (any_stuck_next n u l d m h)) (sym (ramp_leasts_more n q s x y u l d m h)))
 
 -- ---- all units
 
@@ -58,7 +58,7 @@ plus_requirement_is P m q s x y = plus_required P q s (any_stuck P.periods P.uni
 module _ (n : ℕ) (n_le : n ≤ 48) (q s : ℕ → ℕ) (hq : (t : ℕ) → t < n → GoodPrice (q t)) (hs : (t : ℕ) → t < n → GoodPrice (s t)) where
   -- what a unit answered
   pub ramp_value_small : (x y : ℕ → ℕ) → ((t : ℕ) → GoodPrice (x t)) → ((t : ℕ) → GoodPrice (y t)) → (g : Generator) → GoodUnit g → (m : ℕ → Mark) (v : ℤ)
-      → Value v ≡ ramp_least_of n q s x y g m → Small v
+      → Some v ≡ ramp_least_of n q s x y g m → Small v
   ramp_value_small x y hx hy g good m v e =
       let z = ramp_least n q s x y g m in
       let f = ramp_least_fits g good n n_le q s x y hq hs hx hy m in

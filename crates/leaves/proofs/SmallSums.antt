@@ -9,8 +9,8 @@ use lib.Signed.{mag}
 use mir.Syntax.{w64}
 use mir.Val.{SFits}
 use Rattle.model.proofs.Integers.{up, down}
-use Rattle.least.specs.declared.unit.Least.{Least}
-use Rattle.least.specs.declared.unit.Least.TheVariants.{Stuck, Value}
+use Rattle.least.specs.UnitLeasts.{Least}
+use Rattle.std.specs.Prelude.{None, Some}
 use Rattle.leaves.specs.Limits.{Small, SmallLeast}
 
 mag_either : (t : Bool) (x y k : ℕ) → x < k → y < k → mag (cond t (negsuc x) (pos y)) < k
@@ -36,12 +36,12 @@ small_of (negsuc a) h j = omega arith
 
 -- ---- answers
 
-pub small_least : (b : Bool) (z : ℤ) → Small z → SmallLeast (cond b Stuck (Value z))
+pub small_least : (b : Bool) (z : ℤ) → Small z → SmallLeast (cond b None (Some z))
 small_least true z h = tt
 small_least false z h = h
 
-pub small_told : (l : Least) (v : ℤ) → Value v ≡ l → SmallLeast l → Small v
-small_told Stuck v e h = absurd (let i : ◌≡◌ {A = ℕ} 0 1 = cc in omega arith)
-small_told (Value w) v e h =
+pub small_told : (l : Least) (v : ℤ) → Some v ≡ l → SmallLeast l → Small v
+small_told None v e h = absurd (let i : ◌≡◌ {A = ℕ} 0 1 = cc in omega arith)
+small_told (Some w) v e h =
     let i : v ≡ w = cc in
     rw i h

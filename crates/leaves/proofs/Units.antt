@@ -15,7 +15,7 @@ use Rattle.model.specs.Above.{Mark, Marks, rest}
 use Rattle.model.specs.Leaf.{is_stuck, any_stuck, unit_least, units_least}
 use Rattle.model.proofs.WalkSizes.{unit_least_fits}
 use Rattle.model.proofs.LeafSizes.{units_least_fits}
-use Rattle.least.specs.declared.unit.Least.TheVariants.{Stuck, Value}
+use Rattle.std.specs.Prelude.{None, Some}
 use Rattle.least.specs.UnitLeasts.{least_of}
 use Rattle.least.specs.Limits.{GoodPrices}
 use Rattle.least.proofs.Costs.{price_in, reserve_in}
@@ -25,11 +25,11 @@ use Rattle.leaves.proofs.SmallSums.{small_of}
 
 -- ---- what an answer says
 
-pub said_stuck : (b : Bool) (z : ℤ) → Stuck ≡ cond b Stuck (Value z) → b ≡ true
+pub said_stuck : (b : Bool) (z : ℤ) → None ≡ cond b None (Some z) → b ≡ true
 said_stuck true z e = refl
 said_stuck false z e = absurd (let i : ◌≡◌ {A = ℕ} 0 1 = cc in omega arith)
 
-pub said_value : (b : Bool) (z v : ℤ) → Value v ≡ cond b Stuck (Value z) → (b ≡ false) × (v ≡ z)
+pub said_value : (b : Bool) (z v : ℤ) → Some v ≡ cond b None (Some z) → (b ≡ false) × (v ≡ z)
 said_value true z v e = absurd (let i : ◌≡◌ {A = ℕ} 0 1 = cc in omega arith)
 said_value false z v e = (refl, cc)
 
@@ -80,12 +80,12 @@ module _ (n : ℕ) where
 
 module _ (n : ℕ) (q s : ℕ → ℕ) (u : ℕ) (l : List Generator) (d : Generator) (m : Marks) (inside : u < length l) where
   -- the next unit is stuck
-  pub stuck_found : Stuck ≡ least_of n q s (get_or l u d) (m u) → Stuck ≡ leasts_of n q s l m
+  pub stuck_found : None ≡ least_of n q s (get_or l u d) (m u) → None ≡ leasts_of n q s l m
   stuck_found e =
       rw (any_stuck_at n u l d m inside (said_stuck (is_stuck n (get_or l u d) (m u)) (unit_least n q s (get_or l u d) (m u)) e))
 
   -- it has a least value
-  pub value_found : (v : ℤ) → Value v ≡ least_of n q s (get_or l u d) (m u) → any_stuck n (take u l) m ≡ false
+  pub value_found : (v : ℤ) → Some v ≡ least_of n q s (get_or l u d) (m u) → any_stuck n (take u l) m ≡ false
       → (any_stuck n (take (u + 1) l) m ≡ false) × (units_least n q s (take u l) m +ℤ v ≡ units_least n q s (take (u + 1) l) m)
   value_found v e h =
       let r = said_value (is_stuck n (get_or l u d) (m u)) (unit_least n q s (get_or l u d) (m u)) v e in
@@ -96,7 +96,7 @@ module _ (n : ℕ) (q s : ℕ → ℕ) (u : ℕ) (l : List Generator) (d : Gener
 
 -- no unit is stuck
 pub none_found : (n : ℕ) (q s : ℕ → ℕ) (u : ℕ) (l : List Generator) (m : Marks) (z : ℤ) → u ≡ length l → any_stuck n (take u l) m ≡ false → z ≡ units_least n q s (take u l) m
-    → Value z ≡ leasts_of n q s l m
+    → Some z ≡ leasts_of n q s l m
 none_found n q s u l m z e h j =
     let all : take u l ≡ l = rw e (take-length l) in
     rw (rw all at h, rw all at j)
@@ -105,7 +105,7 @@ none_found n q s u l m z e h j =
 
 module _ (n : ℕ) (q s : List ℕ) (P : GoodPrices n q s) where
   -- what a unit answered
-  pub value_small : (g : Generator) → GoodUnit g → (m : ℕ → Mark) (v : ℤ) → Value v ≡ least_of n (λ t. q at t) (λ t. s at t) g m → Small v
+  pub value_small : (g : Generator) → GoodUnit g → (m : ℕ → Mark) (v : ℤ) → Some v ≡ least_of n (λ t. q at t) (λ t. s at t) g m → Small v
   value_small g good m v e =
       let z = unit_least n (λ t. q at t) (λ t. s at t) g m in
       let f = unit_least_fits g good n P.periods_in.1 (λ t. q at t) (λ t. s at t) (λ t l. price_in n q s P t) (λ t l. reserve_in n q s P t) m in

@@ -1,6 +1,6 @@
 -- What a leaf answers: that a unit is stuck, or a least value, which only a leaf without a stuck unit has; whether the units are short and how many were taken, or
 -- whether they are a crowd (document 01, Rules for a leaf; document 02, [1], [2] and [6]).
-use Rattle.std.specs.Prelude.{Bool, false, cond, ◌||◌, List, ℕ, ◌+◌, ltb, pos, ◌+ℤ◌}
+use Rattle.std.specs.Prelude.{Bool, false, cond, ◌||◌, List, ℕ, ◌+◌, ltb, pos, ◌+ℤ◌, None, Some}
 use Rattle.std.proofs.Math.Option.{Option, none, some}
 use Rattle.model.specs.declared.generator.Generator.{Generator}
 use Rattle.model.specs.Instance.{Instance, ◌at◌}
@@ -9,35 +9,34 @@ use Rattle.model.specs.Largest.{total}
 use Rattle.model.specs.Turns.{in_turn, took}
 use Rattle.model.specs.Leaf.{available, fixed_on, not_off, any_stuck, units_least, requirement, leaf_value}
 use Rattle.model.specs.Ramps.{Steps, ramp_leasts, ramp_leaf_value}
-use Rattle.least.specs.declared.unit.Least.{Least}
-use Rattle.least.specs.declared.unit.Least.TheVariants.{Stuck, Value}
+use Rattle.least.specs.UnitLeasts.{Least}
 use Rattle.leaves.specs.declared.short.Taken.{Taken}
 
 -- of all units, in n periods
 abbrev pub leasts_of : ℕ → (ℕ → ℕ) → (ℕ → ℕ) → List Generator → Marks → Least
-leasts_of n q s gs m = cond (any_stuck n gs m) Stuck (Value (units_least n q s gs m))
+leasts_of n q s gs m = cond (any_stuck n gs m) None (Some (units_least n q s gs m))
 
 -- of a price leaf
 abbrev pub leaf_of : Instance → Marks → (ℕ → ℕ) → (ℕ → ℕ) → Least
-leaf_of P m q s = cond (any_stuck P.periods P.units m) Stuck (Value (leaf_value P m q s))
+leaf_of P m q s = cond (any_stuck P.periods P.units m) None (Some (leaf_value P m q s))
 
 -- with prices on the ramps: of these units, and of a leaf
 abbrev pub ramp_leasts_of : ℕ → (ℕ → ℕ) → (ℕ → ℕ) → Steps → Steps → List Generator → Marks → Least
-ramp_leasts_of n q s x y gs m = cond (any_stuck n gs m) Stuck (Value (ramp_leasts n q s x y gs m))
+ramp_leasts_of n q s x y gs m = cond (any_stuck n gs m) None (Some (ramp_leasts n q s x y gs m))
 
 abbrev pub ramp_leaf_of : Instance → Marks → (ℕ → ℕ) → (ℕ → ℕ) → Steps → Steps → Least
-ramp_leaf_of P m q s x y = cond (any_stuck P.periods P.units m) Stuck (Value (ramp_leaf_value P m q s x y))
+ramp_leaf_of P m q s x y = cond (any_stuck P.periods P.units m) None (Some (ramp_leaf_value P m q s x y))
 
 -- what units answer, and one unit more
 abbrev pub plus_unit : Least → Least → Least
-plus_unit Stuck l = Stuck
-plus_unit (Value v) Stuck = Stuck
-plus_unit (Value v) (Value w) = Value (v +ℤ w)
+plus_unit None l = None
+plus_unit (Some v) None = None
+plus_unit (Some v) (Some w) = Some (v +ℤ w)
 
 -- what all units answer, with what the periods require
 abbrev pub plus_requirement : Instance → (ℕ → ℕ) → (ℕ → ℕ) → Least → Least
-plus_requirement P q s Stuck = Stuck
-plus_requirement P q s (Value v) = Value (v +ℤ pos (requirement P q s))
+plus_requirement P q s None = None
+plus_requirement P q s (Some v) = Some (v +ℤ pos (requirement P q s))
 
 -- whether `short` holds: what is available in period t is below D + R
 abbrev pub short_at : Instance → Above → ℕ → Bool

@@ -1,8 +1,7 @@
 -- What callers ensure of the values they hand over.
-use Rattle.std.specs.Prelude.{◌<◌, ◌^◌, ℤ}
+use Rattle.std.specs.Prelude.{◌<◌, ◌^◌, ℤ, None, Some}
 use Rattle.std.specs.Int.Signed.{mag}
-use Rattle.least.specs.declared.unit.Least.{Least}
-use Rattle.least.specs.declared.unit.Least.TheVariants.{Stuck, Value}
+use Rattle.least.specs.UnitLeasts.{Least}
 
 -- a signed value that leaves room for a sum
 abbrev pub Small : ℤ → Type 0
@@ -10,5 +9,5 @@ Small z = mag z < 2 ^ 61
 
 -- and that an answer has, if it is one
 abbrev pub SmallLeast : Least → Type 0
-SmallLeast Stuck = Unit {0}
-SmallLeast (Value z) = Small z
+SmallLeast None = Unit {0}
+SmallLeast (Some z) = Small z

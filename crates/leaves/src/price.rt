@@ -11,7 +11,7 @@ ghost use Rattle.leaves.specs.Limits.{Small};
 
 use crate::ramp::with_requirement;
 use layout::{demand_at, generator_at, periods_in, spare_at, units_in};
-use least::unit::{Least, unit_least};
+use least::unit::unit_least;
 
 // The sum of two values.
 pub(crate) fn add(x: i64, y: i64) -> i64
@@ -21,33 +21,22 @@ pub(crate) fn add(x: i64, y: i64) -> i64
     x + y
 }
 
-// The sum of the units' least values, or that one of them is stuck; unit u's fixed statuses begin at u times the periods.
-fn units_least(numbers: &[u64], q: &[u64], s: &[u64], above: &[u8]) -> Least
+// The sum of the units' least values, or none where one of them is stuck; unit u's fixed statuses begin at u times the periods.
+fn units_least(numbers: &[u64], q: &[u64], s: &[u64], above: &[u8]) -> Option<i64>
     requires laid { Laid numbers.now }
     requires good_prices { GoodPrices (instance_in numbers.now).periods q.now s.now }
     requires numbers_in_bounds { length (instance_in numbers.now).units * (instance_in numbers.now).periods ≤ length above.now }
     ensures { result ≡ leasts_of (instance_in numbers.now).periods (λ t. q.now at t) (λ t. s.now at t) (instance_in numbers.now).units (above_of (instance_in numbers.now) above.now).marks }
 {
     let n = periods_in(numbers);
-    let units = units_in(numbers);
-    let mut total: i64 = 0;
-    let mut begin = 0;
-    let mut u = 0;
-    while u < units {
-        let g = generator_at(numbers, u);
+    let mut total = 0;
+    for u in 0..units_in(numbers) {
+        let begin = u * n;
         let end = begin + n;
-        match unit_least(g, q, s, &above[begin..end]) {
-            Least::Stuck => {
-                return Least::Stuck;
-            }
-            Least::Value(v) => {
-                total = add(total, v);
-            }
-        }
-        begin = end;
-        u += 1;
+        let v = unit_least(generator_at(numbers, u), q, s, &above[begin..end])?;
+        total = add(total, v);
     }
-    Least::Value(total)
+    Some(total)
 }
 
 // What a period requires at the price q and the reserve price s, demand and spare being its D and R.
@@ -75,8 +64,8 @@ pub(crate) fn sum_requirement(numbers: &[u64], q: &[u64], s: &[u64]) -> u64
     sum
 }
 
-// The value of a price leaf, or that a unit is stuck.
-pub fn leaf_value(numbers: &[u64], q: &[u64], s: &[u64], above: &[u8]) -> Least
+// The value of a price leaf, or none where a unit is stuck.
+pub fn leaf_value(numbers: &[u64], q: &[u64], s: &[u64], above: &[u8]) -> Option<i64>
     requires laid { Laid numbers.now }
     requires good_prices { GoodPrices (instance_in numbers.now).periods q.now s.now }
     requires numbers_in_bounds { length (instance_in numbers.now).units * (instance_in numbers.now).periods ≤ length above.now }

@@ -12,7 +12,6 @@ ghost use Rattle.leaves.specs.Limits.{SmallLeast};
 use crate::price::{add, sum_requirement};
 use layout::{generator_at, periods_in};
 use least::ramp::ramp_least;
-use least::unit::Least;
 
 // What unit u answers; its fixed statuses begin at u times the periods.
 fn unit_answer(
@@ -23,7 +22,7 @@ fn unit_answer(
     up: &[u64],
     down: &[u64],
     above: &[u8],
-) -> Least
+) -> Option<i64>
     requires laid { Laid numbers.now }
     requires u_in_bounds { u < length (instance_in numbers.now).units }
     requires good_prices { GoodPrices (instance_in numbers.now).periods q.now s.now }
@@ -47,8 +46,8 @@ pub fn add_unit(
     up: &[u64],
     down: &[u64],
     above: &[u8],
-    sum: Least,
-) -> Least
+    sum: Option<i64>,
+) -> Option<i64>
     requires laid { Laid numbers.now }
     requires u_in_bounds { u < length (instance_in numbers.now).units }
     requires good_prices { GoodPrices (instance_in numbers.now).periods q.now s.now }
@@ -57,27 +56,19 @@ pub fn add_unit(
     requires small_least { SmallLeast sum }
     ensures { result ≡ plus_unit sum (ramp_least_of (instance_in numbers.now).periods (λ t. q.now at t) (λ t. s.now at t) (λ t. up.now at suc t) (λ t. down.now at suc t) (get_or (instance_in numbers.now).units u blank_generator) ((above_of (instance_in numbers.now) above.now).marks u)) }
 {
-    let Least::Value(before) = sum else {
-        return Least::Stuck;
-    };
-    match unit_answer(numbers, u, q, s, up, down, above) {
-        Least::Stuck => Least::Stuck,
-        Least::Value(v) => Least::Value(add(before, v)),
-    }
+    let before = sum?;
+    let v = unit_answer(numbers, u, q, s, up, down, above)?;
+    Some(add(before, v))
 }
 
 // What all units answer, with what the periods require.
-pub fn with_requirement(numbers: &[u64], q: &[u64], s: &[u64], sum: Least) -> Least
+pub fn with_requirement(numbers: &[u64], q: &[u64], s: &[u64], sum: Option<i64>) -> Option<i64>
     requires laid { Laid numbers.now }
     requires good_prices { GoodPrices (instance_in numbers.now).periods q.now s.now }
     requires small_least { SmallLeast sum }
     ensures { result ≡ plus_requirement (instance_in numbers.now) (λ t. q.now at t) (λ t. s.now at t) sum }
 {
-    match sum {
-        Least::Stuck => Least::Stuck,
-        Least::Value(v) => {
-            let requirement = sum_requirement(numbers, q, s);
-            Least::Value(add(v, requirement as i64))
-        }
-    }
+    let v = sum?;
+    let requirement = sum_requirement(numbers, q, s);
+    Some(add(v, requirement as i64))
 }

@@ -10,8 +10,8 @@ use Rattle.model.specs.Instance.{Instance, ◌at◌}
 use Rattle.model.specs.Ranges.{All, GoodUnit, WellFormed}
 use Rattle.model.specs.Leaf.{any_stuck, leaf_value}
 use Rattle.model.specs.Runs.{first_stuck, shortfalls}
-use Rattle.least.specs.declared.unit.Least.{Least}
-use Rattle.least.specs.declared.unit.Least.TheVariants.{Stuck, Value}
+use Rattle.least.specs.UnitLeasts.{Least}
+use Rattle.std.specs.Prelude.{None, Some}
 use Rattle.least.specs.Limits.{GoodPrices}
 use Rattle.leaves.specs.LeafLeasts.{leaf_of}
 use Rattle.leaves.proofs.Units.{said_stuck, said_value}
@@ -52,14 +52,14 @@ module _ (P : Instance) (q s fixed rows short : List ℕ) where
   abbrev leaf : Least
   leaf = leaf_of P (marks_asked P fixed) (λ t. q at t) (λ t. s at t)
 
-  pub some_stuck : Stuck ≡ leaf → stuck ≡ true
+  pub some_stuck : None ≡ leaf → stuck ≡ true
   some_stuck e = said_stuck stuck (leaf_value P (marks_asked P fixed) (λ t. q at t) (λ t. s at t)) e
 
-  pub none_stuck : (v : ℤ) → Value v ≡ leaf → stuck ≡ false
+  pub none_stuck : (v : ℤ) → Some v ≡ leaf → stuck ≡ false
   none_stuck v e = (said_value stuck (leaf_value P (marks_asked P fixed) (λ t. q at t) (λ t. s at t)) v e).0
 
   -- a unit is stuck: the first such, counted from 0, is k
-  pub stuck_drafted : Stuck ≡ leaf → (k : ℕ) → k ≡ first_stuck P.periods P.units (marks_asked P fixed)
+  pub stuck_drafted : None ≡ leaf → (k : ℕ) → k ≡ first_stuck P.periods P.units (marks_asked P fixed)
       → Drafts (StuckUnit (k + 1)) rows short (drafted P q s fixed rows short)
   stuck_drafted e k i =
       let d = sym (by_stuck true (some_stuck e)) in
@@ -67,7 +67,7 @@ module _ (P : Instance) (q s fixed rows short : List ℕ) where
       (ap StuckUnit next ∙ ap (λ (x : Drafted). x.answer) d, (ap (λ (x : Drafted). x.rows) d, ap (λ (x : Drafted). x.short) d))
 
   -- none is: the runs and the shortfalls are written; x is the value as the code has it
-  pub runs_drafted : All GoodUnit P.units → (x v : ℤ) → x ≡ v → Value v ≡ leaf → (written short' : List ℕ) → written ≡ flatten (runs_asked P q s fixed rows short)
+  pub runs_drafted : All GoodUnit P.units → (x v : ℤ) → x ≡ v → Some v ≡ leaf → (written short' : List ℕ) → written ≡ flatten (runs_asked P q s fixed rows short)
       → short' ≡ short_of P written → Drafts (Found x) written short' (drafted P q s fixed rows short)
   runs_drafted good x v h e written short' i j =
       let d = sym (by_stuck false (none_stuck v e)) in

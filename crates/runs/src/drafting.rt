@@ -8,7 +8,6 @@ ghost use Rattle.runs.specs.Drafts.{is_price, fits_in, fits, drafted, draft_unde
 use crate::short::write_short;
 use crate::units::{first_stuck, write_runs};
 use layout::ranking::lay_out_ranked;
-use least::unit::Least;
 use leaves::marks::are_statuses;
 use leaves::price::leaf_value;
 use model::arrays::Problem;
@@ -90,8 +89,8 @@ fn draft(
     ensures short { short.new ≡ (drafted (instance_in numbers.now) q.now s.now fixed.now rows.old short.old).short }
 {
     match leaf_value(numbers, q, s, fixed) {
-        Least::Stuck => RunsAnswer::Stuck(first_stuck(numbers, fixed) + 1),
-        Least::Value(value) => {
+        None => RunsAnswer::Stuck(first_stuck(numbers, fixed) + 1),
+        Some(value) => {
             write_runs(numbers, q, s, fixed, rows);
             write_short(numbers, rows, short);
             RunsAnswer::Found(value)

@@ -18,7 +18,7 @@ ghost use Rattle.runs.specs.Kept.{Kept, row_found};
 use crate::status::{next_status, periods_spent};
 use crate::table::{keep_walk, kept_at};
 use least::output::best_output;
-use least::unit::{Least, fill_costs, sum_offset};
+use least::unit::{fill_costs, sum_offset};
 use model::generator::Generator;
 
 // The best output of a unit that is on, else 0.
@@ -107,7 +107,7 @@ fn write_priced(g: Generator, q: &[u64], s: &[u64], fixed: &[u8], row: &mut [u64
 
 // The unit's least value at the prices under the fixed statuses (1 off, 2 on), and in `row` the first run that has it, 0 for off; or that it is stuck, and the row is
 // as it was.
-pub fn unit_run(g: Generator, q: &[u64], s: &[u64], fixed: &[u8], row: &mut [u64]) -> Least
+pub fn unit_run(g: Generator, q: &[u64], s: &[u64], fixed: &[u8], row: &mut [u64]) -> Option<i64>
     requires good_unit { GoodUnit g }
     requires good_prices { GoodPrices (length q.now) q.now s.now × (length fixed.now ≡ length q.now) }
     requires row_len { length row.old ≡ length q.now }
@@ -116,8 +116,8 @@ pub fn unit_run(g: Generator, q: &[u64], s: &[u64], fixed: &[u8], row: &mut [u64
 {
     let value = write_priced(g, q, s, fixed, row);
     if value == 0 {
-        return Least::Stuck;
+        return None;
     }
     let added = sum_offset(g, q, s);
-    Least::Value((value - 1) as i64 - added as i64)
+    Some((value - 1) as i64 - added as i64)
 }

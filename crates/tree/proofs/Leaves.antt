@@ -20,7 +20,7 @@ use Rattle.text.specs.declared.Row.{Row}
 use Rattle.text.specs.declared.Verdict.TheVariants.{Good}
 use Rattle.text.specs.Tests.{Test, ◌if◌, found}
 use Rattle.text.proofs.Verdicts.{form_found}
-use Rattle.least.specs.declared.unit.Least.TheVariants.{Stuck, Value}
+use Rattle.std.specs.Prelude.{None, Some}
 use Rattle.leaves.specs.LeafLeasts.{short_at, crowd_at, leaf_of}
 use Rattle.tree.specs.Rendering.{price_key, reserve_key, rampprice_key}
 use Rattle.tree.specs.Places.{Part, priced, ramp_priced}
@@ -168,11 +168,11 @@ module _ (P : Instance) (text : List ℕ) (here : ℕ) (A : Above) (q : List ℕ
       part_passed P text here A (priced q) (row_good (part_form P (priced q)) text here row is n v) (ap (λ (x : Bool). 35 if x ∷ []) e)
 
   -- 35
-  pub unit_stuck : Stuck ≡ leaf_of P A.marks (λ t. q at t) (λ t. take P.periods row.values at t)
+  pub unit_stuck : None ≡ leaf_of P A.marks (λ t. q at t) (λ t. take P.periods row.values at t)
       → AtPart P text here A (priced q) (λ F rest. refused 35)
   unit_stuck e = go (any_stuck P.periods P.units A.marks) refl e
     where
-      go : (b : Bool) → any_stuck P.periods P.units A.marks ≡ b → Stuck ≡ cond b Stuck (Value value)
+      go : (b : Bool) → any_stuck P.periods P.units A.marks ≡ b → None ≡ cond b None (Some value)
           → AtPart P text here A (priced q) (λ F rest. refused 35)
       go true p z = passed true p
       go false p z = absurd (let y : ◌≡◌ {A = ℕ} 0 1 = cc in omega arith)
@@ -180,12 +180,12 @@ module _ (P : Instance) (text : List ℕ) (here : ℕ) (A : Above) (q : List ℕ
   value_same : value ≡ leaf_value P A.marks (λ t. q at t) (λ t. numbers_of (part_form P (priced q)) (line_at text here) at t)
   value_same = ap (λ (s : List ℕ). leaf_value P A.marks (λ t. q at t) (λ t. s at t)) (values_taken P reserve_key text here row is n v)
 
-  pub value_read : (z : ℤ) → Value z ≡ leaf_of P A.marks (λ t. q at t) (λ t. take P.periods row.values at t)
+  pub value_read : (z : ℤ) → Some z ≡ leaf_of P A.marks (λ t. q at t) (λ t. take P.periods row.values at t)
       → AtPart P text here A (priced q) (λ F rest. good (nodes_due (with_leaf F (number z)) rest))
   unfolding after_part leaf_bound
   value_read z e = go (any_stuck P.periods P.units A.marks) refl e
     where
-      go : (b : Bool) → any_stuck P.periods P.units A.marks ≡ b → Value z ≡ cond b Stuck (Value value)
+      go : (b : Bool) → any_stuck P.periods P.units A.marks ≡ b → Some z ≡ cond b None (Some value)
           → AtPart P text here A (priced q) (λ F rest. good (nodes_due (with_leaf F (number z)) rest))
       go true p x = absurd (let y : ◌≡◌ {A = ℕ} 0 1 = cc in omega arith)
       go false p x =

@@ -19,9 +19,8 @@ use Rattle.model.specs.declared.figures.TreeFigures.{TreeFigures}
 use Rattle.model.specs.Figures.{add_leaf}
 use Rattle.model.specs.Tree.{price, ramp, StepMultipliers, ramped, leaf_bound}
 use Rattle.model.proofs.RampLeaf.{ramp_one}
-use Rattle.least.specs.declared.unit.Least.{Least}
-use Rattle.least.specs.declared.unit.Least.TheVariants.{Stuck, Value}
-use Rattle.least.specs.UnitLeasts.{ramp_least_of}
+use Rattle.least.specs.UnitLeasts.{Least, ramp_least_of}
+use Rattle.std.specs.Prelude.{None, Some}
 use Rattle.leaves.specs.LeafLeasts.{plus_unit, ramp_leaf_of}
 use Rattle.text.specs.Lines.{line_at}
 use Rattle.text.specs.Forms.{numbers_of, place_after, row_of, good_line, form_tests}
@@ -148,7 +147,7 @@ module _ (P : Instance) (text : List ℕ) (S : TreeFigures) (A : Above) (q s : L
         -- past the down line, by whether it is the last and whether a unit is stuck
         past_down : (last : Bool) → eqb (ramped P) (suc (length k)) ≡ last → (b : Bool) → stuck ≡ b
             → part_read P text second (l + 1) S A (with_ups q s k x)
-            ≡ cond last (ramp_ended third (l + 2) S (cond b Stuck (Value (ramp_leaf_value P A.marks (λ t. q at t) (λ t. s at t) (ups k') (downs k'))))) (part_read P text third (l + 2) S A (with_steps q s k'))
+            ≡ cond last (ramp_ended third (l + 2) S (cond b None (Some (ramp_leaf_value P A.marks (λ t. q at t) (λ t. s at t) (ups k') (downs k'))))) (part_read P text third (l + 2) S A (with_steps q s k'))
         unfolding leaf_tests after_part leaf_bound
         past_down last e b f = go last b e f
           where
@@ -169,7 +168,7 @@ module _ (P : Instance) (text : List ℕ) (S : TreeFigures) (A : Above) (q s : L
 
             go : (last b : Bool) → eqb (ramped P) (suc (length k)) ≡ last → stuck ≡ b
                 → part_read P text second (l + 1) S A (with_ups q s k x)
-                ≡ cond last (ramp_ended third (l + 2) S (cond b Stuck (Value (ramp_leaf_value P A.marks (λ t. q at t) (λ t. s at t) (ups k') (downs k'))))) (part_read P text third (l + 2) S A (with_steps q s k'))
+                ≡ cond last (ramp_ended third (l + 2) S (cond b None (Some (ramp_leaf_value P A.marks (λ t. q at t) (λ t. s at t) (ups k') (downs k'))))) (part_read P text third (l + 2) S A (with_steps q s k'))
             go true true e f = sym (part_refused P text second (l + 1) S A (with_ups q s k x) 35 (here_is true true e f)) ∙ ap (Refused 35) one
             go true false e f =
                 sym (part_leaf P text second (l + 1) S A (with_ups q s k x) (number (ramp_leaf_value P A.marks (λ t. q at t) (λ t. s at t) (ups k') (downs k'))) third _ (here_is true false e f) down_moved refl)

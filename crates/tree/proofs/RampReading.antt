@@ -20,10 +20,9 @@ use Rattle.model.specs.Ramps.{RampPrices, unpriced, ramp_least, Steps, rest_step
 use Rattle.model.specs.declared.figures.TreeFigures.{TreeFigures}
 use Rattle.model.specs.Tree.{ramped}
 use Rattle.model.proofs.LeafSizes.{steps_in}
-use Rattle.least.specs.declared.unit.Least.{Least}
-use Rattle.least.specs.declared.unit.Least.TheVariants.{Stuck, Value}
+use Rattle.least.specs.UnitLeasts.{Least, ramp_least_of}
+use Rattle.std.specs.Prelude.{None, Some}
 use Rattle.least.specs.Limits.{GoodPrices}
-use Rattle.least.specs.UnitLeasts.{ramp_least_of}
 use Rattle.least.proofs.Costs.{price_in, reserve_in}
 use Rattle.leaves.specs.LeafLeasts.{plus_unit, ramp_leasts_of, ramp_leaf_of}
 use Rattle.leaves.specs.Limits.{SmallLeast}
@@ -82,7 +81,7 @@ module _ (P : Instance) (W : WellFormed P) (two : 2 ≤ P.periods) (text : List 
   all_ramped = ap (λ (b : Bool). cond b 0 (length P.units)) (ne_eqb P.periods 1 (λ e. omega (arith, two, e)))
 
   -- none yet
-  pub reading_none : (here l : ℕ) → Placed text here l S → (sum : Least) → sum ≡ Value (pos 0) → Reading P text S A q s (part_read P text here l S A (with_steps q s [])) 0 here l sum
+  pub reading_none : (here l : ℕ) → Placed text here l S → (sum : Least) → sum ≡ Some (pos 0) → Reading P text S A q s (part_read P text here l S A (with_steps q s [])) 0 here l sum
   unfolding ramp_leasts
   reading_none here l p sum e = record {
     said = [];
@@ -144,7 +143,7 @@ module _ (P : Instance) (W : WellFormed P) (two : 2 ≤ P.periods) (text : List 
               let g = get_or P.units u blank_generator in
               let gs = take u P.units in
               let before : leasts P text S A q s k u ≡ ramp_leasts_of n Q R' (ups k') (downs k') gs A.marks =
-              ap (λ (v : ℤ). cond (any_stuck n gs A.marks) Stuck (Value v))
+              ap (λ (v : ℤ). cond (any_stuck n gs A.marks) None (Some v))
               (leasts_same n Q R' (ups k) (ups k') (downs k) (downs k') gs A.marks (λ v i.
               let o = one_of_them k z v (omega (arith, i, front_long u P.units, R.many)) in
               (ap {B = ℕ → ℕ} (λ (r : RampPrices) (t : ℕ). r.up at t) o, ap {B = ℕ → ℕ} (λ (r : RampPrices) (t : ℕ). r.down at t) o))) in

@@ -13,9 +13,8 @@ use Rattle.model.specs.Above.{Mark, Above}
 use Rattle.model.specs.Held.{blank_generator}
 use Rattle.model.specs.Leaf.{is_stuck}
 use Rattle.model.proofs.Extents.{Same, ramp_least_ext}
-use Rattle.least.specs.declared.unit.Least.{Least}
-use Rattle.least.specs.declared.unit.Least.TheVariants.{Stuck, Value}
-use Rattle.least.specs.UnitLeasts.{ramp_least_of}
+use Rattle.least.specs.UnitLeasts.{Least, ramp_least_of}
+use Rattle.std.specs.Prelude.{None, Some}
 use Rattle.leaves.specs.LeafLeasts.{plus_unit}
 use Rattle.text.specs.Lines.{line_at}
 use Rattle.text.specs.Forms.{Form, numbers_of, place_after, row_of, good_line, form_tests}
@@ -33,7 +32,7 @@ use Rattle.tree.proofs.Rows.{refused_found}
 pub unit_same : (n : ℕ) (q s x x' y y' : ℕ → ℕ) (g : Generator) (m : ℕ → Mark) → GoodUnit g → Same (pred n) x x' → Same (pred n) y y'
     → ramp_least_of n q s x y g m ≡ ramp_least_of n q s x' y' g m
 unit_same n q s x x' y y' g m fine hx hy =
-    ap (λ (z : ℤ). cond (is_stuck n g m) Stuck (Value z))
+    ap (λ (z : ℤ). cond (is_stuck n g m) None (Some z))
     (ramp_least_ext n g m m (λ t l. refl) fine q q s s x x' y y' (λ t l. refl) (λ t l. refl) hx hy)
 
 module _ (P : Instance) (text : List ℕ) (here l : ℕ) (A : Above) (q s : List ℕ) (u : ℕ) (sum : Least) where

@@ -1,14 +1,12 @@
 -- What the readers of a ramp leaf's units answer: the two lines of a unit, with what the units so far answer; and the leaf after the last of them.
-use Rattle.std.specs.Prelude.{◌≡◌, List, [], ◌++◌, ℕ, suc, pred, ◌+◌, ◌-◌, length, get_or, take, drop}
+use Rattle.std.specs.Prelude.{◌≡◌, List, [], ◌++◌, ℕ, suc, pred, ◌+◌, ◌-◌, length, get_or, take, drop, None, Some}
 use Rattle.model.specs.Instance.{Instance, ◌at◌}
 use Rattle.model.specs.Above.{Above}
 use Rattle.model.specs.Held.{blank_generator}
 use Rattle.std.specs.Prelude.{Some as number}
 use Rattle.model.specs.declared.figures.TreeFigures.{TreeFigures}
 use Rattle.model.specs.Figures.{add_leaf}
-use Rattle.least.specs.declared.unit.Least.{Least}
-use Rattle.least.specs.declared.unit.Least.TheVariants.{Stuck, Value}
-use Rattle.least.specs.UnitLeasts.{ramp_least_of}
+use Rattle.least.specs.UnitLeasts.{Least, ramp_least_of}
 use Rattle.leaves.specs.LeafLeasts.{plus_unit, plus_requirement}
 use Rattle.text.specs.Lines.{line_at}
 use Rattle.text.specs.Forms.{Form, plain, numbers_of, place_after, form_tests}
@@ -68,5 +66,5 @@ with_required P q s sum = plus_requirement P (λ t. q at t) (λ t. s at t) sum
 
 -- 35 at the line before it, or one leaf more
 abbrev pub ramp_ended : ℕ → ℕ → TreeFigures → Least → Read
-ramp_ended here l S Stuck = Refused 35 (l - 1)
-ramp_ended here l S (Value v) = Tree here l (add_leaf S (number v))
+ramp_ended here l S None = Refused 35 (l - 1)
+ramp_ended here l S (Some v) = Tree here l (add_leaf S (number v))

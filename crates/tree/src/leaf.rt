@@ -14,7 +14,6 @@ use crate::naming::{NamedLine, read_named};
 use crate::ramp::read_ramp;
 use layout::{periods_in, units_in};
 use least::stuck::is_unit_stuck;
-use least::unit::Least;
 use leaves::crowd::is_crowd;
 use leaves::price::leaf_value;
 use leaves::short::sum_until;
@@ -167,7 +166,7 @@ pub fn read_reserve(
         Verdict::Good { next } => {
             let s = row.values;
             let least = leaf_value(numbers, &q[..periods], &s[..periods], above);
-            let Least::Value(v) = least else {
+            let Some(v) = least else {
                 return Read::Refused { number: 35, line };
             };
             Read::Tree {

@@ -15,7 +15,6 @@ ghost use Rattle.tree.specs.RampReads.{Padded, inner, steps_stored, unit_read, w
 
 use crate::leaf::{Read, read_reserve};
 use layout::{periods_in, units_in};
-use least::unit::Least;
 use leaves::ramp::{add_unit, with_requirement};
 use model::figures::TreeFigures;
 use model::ranges::Price;
@@ -25,7 +24,7 @@ use text::Verdict;
 #[derive(Clone, Copy)]
 pub enum UnitRead {
     Refused { number: u64, line: usize },
-    Passed { next: usize, sum: Least },
+    Passed { next: usize, sum: Option<i64> },
 }
 
 // What the line that starts at `at` with key is, where it has a multiplier for each step. Those read are stored between the first number of
@@ -52,7 +51,7 @@ fn read_unit(
     up: &mut [u64],
     down: &mut [u64],
     above: &[u8],
-    sum: Least,
+    sum: Option<i64>,
 ) -> UnitRead
     requires laid { Laid numbers.now × (2 ≤ (instance_in numbers.now).periods) × (u < length (instance_in numbers.now).units) }
     requires good_prices { GoodPrices (instance_in numbers.now).periods q.now s.now }
@@ -88,7 +87,7 @@ fn end_ramp(
     s: &[u64],
     next: usize,
     line: usize,
-    sum: Least,
+    sum: Option<i64>,
     figures: TreeFigures,
 ) -> Read
     requires laid { Laid numbers.now }
@@ -97,7 +96,7 @@ fn end_ramp(
     ensures { result ≡ ramp_ended next line figures (with_required (instance_in numbers.now) q.now s.now sum) }
 {
     let least = with_requirement(numbers, q, s, sum);
-    let Least::Value(v) = least else {
+    let Some(v) = least else {
         return Read::Refused {
             number: 35,
             line: line - 1,
@@ -131,7 +130,7 @@ fn read_units(
     let end = periods_in(numbers) + 1;
     let mut up = [0u64; 49];
     let mut down = [0u64; 49];
-    let mut sum = Least::Value(0);
+    let mut sum = Some(0);
     let mut place = at;
     let mut here = line;
     let mut u = 0;

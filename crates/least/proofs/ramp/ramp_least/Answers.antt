@@ -7,7 +7,7 @@ use lib.ListN.{length}
 use lib.IntN.{pos, ◌-ℤ◌}
 use Rattle.model.specs.Instance.{◌at◌}
 use Rattle.walk.specs.Marks.{marks_of}
-use Rattle.least.specs.declared.unit.Least.TheVariants.{Value}
+use Rattle.std.specs.Prelude.{Some}
 use Rattle.least.proofs.StepCosts.{steps, ramp_value_fits, sum_ramp_offset_fits}
 use Rattle.least.proofs.Signed.{pos_fits, read_sub_fits, read_sub}
 use Rattle.least.proofs.UnitAnswers.{ramp_answer_stuck, ramp_answer_value}
@@ -48,6 +48,6 @@ pub returns : goal.returns
 returns c =
     let a = c.args in
     let value = c.ramp_value-value in
-    ap Value (read_sub (value.result - 1) c.sum_ramp_offset-added.result (sums c.before).0 (sums c.before).1 ∙ ap (λ (x : ℕ). pos (value.result - 1) -ℤ pos x) c.sum_ramp_offset-added.ensures)
+    ap Some (read_sub (value.result - 1) c.sum_ramp_offset-added.result (sums c.before).0 (sums c.before).1 ∙ ap (λ (x : ℕ). pos (value.result - 1) -ℤ pos x) c.sum_ramp_offset-added.ensures)
     ∙ ramp_answer_value (length a.q.now) (λ t. a.q.now at t) (λ t. a.s.now at t) (steps a.up.now) (steps a.down.now) a.g (marks_of a.fixed.now)
     c.requires.good_unit value.result value.ensures c.if-value-eq0.false

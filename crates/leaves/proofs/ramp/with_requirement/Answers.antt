@@ -1,15 +1,8 @@
 -- `with_requirement` meets its contract: the answer taken apart, and the requirement added.
-use mathlib.Core.Path.{◌≡◌, ap, ap₂, ◌∙◌}
-use Prim.Native.Nat.{◌^◌, ◌<◌}
-use native.Mathlib.Omega.{arith}
-use borrow.Author.Rules.{rules}
-use mir.Syntax.{w64}
-use mir.Val.{to_z, of_z}
+use Rattle.std.proofs.Common.{rules, arith, ◌≡◌, ◌∙◌, ap, ap₂, sym, ◌<◌, ◌^◌, pos, ◌+ℤ◌, Some, w64, to_z, of_z}
 use mir.ValLaws.{to_z_pos}
-use lib.IntN.{pos, ◌+ℤ◌}
 use Rattle.model.specs.Instance.{◌at◌}
 use Rattle.layout.specs.Numbers.{instance_in}
-use Rattle.least.specs.declared.unit.Least.TheVariants.{Value}
 use Rattle.least.proofs.Signed.{pos_fits}
 use Rattle.leaves.specs.LeafLeasts.{plus_requirement}
 use Rattle.leaves.proofs.Requirements.{required_sum_fits}
@@ -24,28 +17,26 @@ required : (c : lts.After-sum_requirement tie.the-claims reads.Pre reads.Post ti
 required c =
     omega (arith, c.sum_requirement-requirement.ensures, required_sum_fits (instance_in c.args.numbers.now) c.args.q.now c.args.s.now c.requires.laid.well_formed c.requires.good_prices)
 
--- the arm of a value
-told : (c : lts.Past-After-known_told tie.the-claims reads.Pre reads.Post tie.handed_clauses) → Value c.in-Value.v ≡ c.args.sum
-told c = cc
-
 pub overflow_cast-requirement : goal.overflow_cast-requirement
 overflow_cast-requirement c = pos_fits _ (omega (arith, required c.before))
 
 pub add-requires : goal.add-requires
 add-requires c =
-    let v = c.in-Value.v in
+    let v = c.in_ok-v.v in
     let x = c.sum_requirement-requirement.result in
     let same : to_z w64 (of_z w64 v) ≡ v = search rules in
+    let was : Some v ≡ c.args.sum = cc in
     let read : to_z w64 x ≡ pos x = to_z_pos w64 x (omega (arith, required c.before)) in
-    (rw same (small_told c.args.sum v (told c.before.before) c.requires.small_least), rw read (required c.before))
+    (rw same (small_told c.args.sum v was c.requires.small_least), rw read (required c.before))
 
-pub returns-in-Value : goal.returns-in-Value
-returns-in-Value c =
+pub returns : goal.returns
+returns c =
     let a = c.args in
-    let v = c.in-Value.v in
+    let v = c.in_ok-v.v in
     let x = c.sum_requirement-requirement.result in
     let same : to_z w64 (of_z w64 v) ≡ v = search rules in
     let sum : to_z w64 (of_z w64 c.add.result) ≡ c.add.result = search rules in
     let read : to_z w64 x ≡ pos x = to_z_pos w64 x (omega (arith, required c.before.before)) in
-    ap Value (sum ∙ c.add.ensures ∙ ap₂ ◌+ℤ◌ same (read ∙ ap pos c.sum_requirement-requirement.ensures))
-    ∙ ap (plus_requirement (instance_in a.numbers.now) (λ t. a.q.now at t) (λ t. a.s.now at t)) (told c.before.before.before)
+    let was : Some v ≡ a.sum = cc in
+    ap Some (sum ∙ c.add.ensures ∙ ap₂ ◌+ℤ◌ same (read ∙ ap pos c.sum_requirement-requirement.ensures))
+    ∙ ap (plus_requirement (instance_in a.numbers.now) (λ t. a.q.now at t) (λ t. a.s.now at t)) was

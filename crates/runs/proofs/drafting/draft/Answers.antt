@@ -10,7 +10,7 @@ use lib.ListN.{length}
 use Rattle.model.specs.Instance.{◌at◌}
 use Rattle.model.specs.Leaf.{any_stuck}
 use Rattle.layout.specs.Numbers.{instance_in}
-use Rattle.least.specs.declared.unit.Least.TheVariants.{Stuck, Value}
+use Rattle.std.specs.Prelude.{None, Some}
 use Rattle.least.specs.Limits.{GoodPrices}
 use Rattle.leaves.specs.LeafLeasts.{leaf_of}
 use Rattle.runs.specs.Drafts.{FitQuestion, marks_asked}
@@ -38,15 +38,15 @@ room s = omega (arith, (fit s).fixed_long)
 told-stuck : (c : lts.Past-After-enum_told tie.the-claims reads.Pre reads.Post tie.handed_clauses) →
     let a = c.args in
     let P = instance_in a.numbers.now in
-    Stuck ≡ leaf_of P (marks_asked P a.fixed.now) (λ t. a.q.now at t) (λ t. a.s.now at t)
-told-stuck c = let here : Stuck ≡ c.leaf_value.result = cc in here ∙ c.leaf_value.ensures
+    None ≡ leaf_of P (marks_asked P a.fixed.now) (λ t. a.q.now at t) (λ t. a.s.now at t)
+told-stuck c = let here : None ≡ c.leaf_value.result = cc in here ∙ c.leaf_value.ensures
 
 -- and in the arm of a value
 told-value : (c : lts.Past-After-known_told tie.the-claims reads.Pre reads.Post tie.handed_clauses) →
     let a = c.args in
     let P = instance_in a.numbers.now in
-    Value c.in-Value.value ≡ leaf_of P (marks_asked P a.fixed.now) (λ t. a.q.now at t) (λ t. a.s.now at t)
-told-value c = let here : Value c.in-Value.value ≡ c.leaf_value.result = cc in here ∙ c.leaf_value.ensures
+    Some c.in-Some.value ≡ leaf_of P (marks_asked P a.fixed.now) (λ t. a.q.now at t) (λ t. a.s.now at t)
+told-value c = let here : Some c.in-Some.value ≡ c.leaf_value.result = cc in here ∙ c.leaf_value.ensures
 
 -- none is stuck then
 free : (c : lts.Past-After-known_told tie.the-claims reads.Pre reads.Post tie.handed_clauses) →
@@ -55,7 +55,7 @@ free : (c : lts.Past-After-known_told tie.the-claims reads.Pre reads.Post tie.ha
     any_stuck P.periods P.units (marks_asked P a.fixed.now) ≡ false
 free c =
     let a = c.args in
-    none_stuck (instance_in a.numbers.now) a.q.now a.s.now a.fixed.now a.rows.now a.short.now c.in-Value.value (told-value c)
+    none_stuck (instance_in a.numbers.now) a.q.now a.s.now a.fixed.now a.rows.now a.short.now c.in-Some.value (told-value c)
 
 pub leaf_value-requires : goal.leaf_value-requires
 leaf_value-requires c =
@@ -90,15 +90,15 @@ write_short-requires c =
       short_len = (fit c.before.before.before.before.before.before.before.before.before.before.before.before.before.before).short_long;
     }
 
-pub returns-in-Stuck : goal.returns-in-Stuck
-returns-in-Stuck c =
+pub returns-in-None : goal.returns-in-None
+returns-in-None c =
     let a = c.args in
     let P = instance_in a.numbers.now in let whole = stuck_drafted P a.q.now a.s.now a.fixed.now a.rows.now a.short.now (told-stuck c.before.before) _ c.first_stuck.ensures in record { answer = whole.0; rows = whole.1.0; short = whole.1.1 }
 
-pub returns-in-Value : goal.returns-in-Value
-returns-in-Value c =
+pub returns-in-Some : goal.returns-in-Some
+returns-in-Some c =
     let a = c.args in
     let P = instance_in a.numbers.now in
-    let v = c.in-Value.value in
+    let v = c.in-Some.value in
     let same : to_z w64 (of_z w64 v) ≡ v = search rules in let whole = runs_drafted P a.q.now a.s.now a.fixed.now a.rows.now a.short.now c.requires.laid.well_formed.units_good
     (to_z w64 (of_z w64 v)) v same (told-value c.before.before.before.before.before.before.before.before.before) _ _ c.write_runs.ensures c.write_short.ensures in record { answer = whole.0; rows = whole.1.0; short = whole.1.1 }

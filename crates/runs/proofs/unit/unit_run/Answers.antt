@@ -7,7 +7,7 @@ use lib.ListN.{length}
 use lib.IntN.{pos, ◌-ℤ◌}
 use Rattle.model.specs.Instance.{◌at◌}
 use Rattle.walk.specs.Marks.{marks_of}
-use Rattle.least.specs.declared.unit.Least.TheVariants.{Value}
+use Rattle.std.specs.Prelude.{Some}
 use Rattle.least.proofs.Costs.{price_value_fits, sum_offset_fits}
 use Rattle.least.proofs.Signed.{pos_fits, read_sub_fits, read_sub}
 use Rattle.least.proofs.UnitAnswers.{answer_stuck, answer_value}
@@ -44,7 +44,7 @@ returns c =
     let a = c.args in
     let n = length a.q.now in
     let value = c.write_priced-value.result in record {
-      least = ap Value (read_sub (value - 1) c.sum_offset-added.result (sums c.before).0 (sums c.before).1 ∙ ap (λ (x : ℕ). pos (value - 1) -ℤ pos x) c.sum_offset-added.ensures)
+      least = ap Some (read_sub (value - 1) c.sum_offset-added.result (sums c.before).0 (sums c.before).1 ∙ ap (λ (x : ℕ). pos (value - 1) -ℤ pos x) c.sum_offset-added.ensures)
           ∙ answer_value n (λ t. a.q.now at t) (λ t. a.s.now at t) a.g (marks_of a.fixed.now) c.requires.good_unit value c.write_priced-value.ensures.value c.if-value-eq0.false;
       row = c.write_priced-value.ensures.row ∙ found_row n (λ t. a.q.now at t) (λ t. a.s.now at t) a.g (marks_of a.fixed.now) c.requires.good_unit a.row.now;
     }

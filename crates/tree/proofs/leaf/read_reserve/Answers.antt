@@ -140,14 +140,14 @@ returns-in-Refused c =
     (part_line_refused P a.text.now a.at A (part s) c.in-Refused.number
     (row_refused (part_form P (part s)) a.text.now a.at c.read_row-row.result (is_row c.before.before) c.in-Refused.number c.in-Refused.is))
 
-pub returns-in-Value : goal.returns-in-Value
-returns-in-Value c =
+pub returns-in-Some : goal.returns-in-Some
+returns-in-Some c =
     let s = start c.before.before.before.before.before.before.before.before in
     let a = s.args in
     let P = instance_in a.numbers.now in
     let q = take P.periods a.q in
-    let fits : SFits w64 c.in-Value.v = search rules in
-    part_leaf P a.text.now a.at a.line a.figures (above_of P a.above.now) (priced q) (Number c.in-Value.v) c.in-Good.next c.with_leaf.result
-    (value_read P a.text.now a.at (above_of P a.above.now) q c.read_row-row.result (is_row c.before.before.before.before.before.before.before.before) c.in-Good.next c.in-Good.is c.in-Value.v
-    (sym c.in-Value.is ∙ leaf_is c.before.before.before)) (moved c.before.before.before.before.before.before.before)
-    (c.with_leaf.ensures ∙ ap (λ (z : ℤ). add_leaf a.figures (Number z)) (to_z-of_z w64 c.in-Value.v fits))
+    let fits : SFits w64 c.in-Some.v = search rules in
+    part_leaf P a.text.now a.at a.line a.figures (above_of P a.above.now) (priced q) (Number c.in-Some.v) c.in-Good.next c.with_leaf.result
+    (value_read P a.text.now a.at (above_of P a.above.now) q c.read_row-row.result (is_row c.before.before.before.before.before.before.before.before) c.in-Good.next c.in-Good.is c.in-Some.v
+    (sym c.in-Some.is ∙ leaf_is c.before.before.before)) (moved c.before.before.before.before.before.before.before)
+    (c.with_leaf.ensures ∙ ap (λ (z : ℤ). add_leaf a.figures (Number z)) (to_z-of_z w64 c.in-Some.v fits))

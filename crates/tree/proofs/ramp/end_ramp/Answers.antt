@@ -10,7 +10,7 @@ use mir.ValLaws.{to_z-of_z}
 use Rattle.std.specs.Prelude.{Some as Number}
 use Rattle.model.specs.declared.figures.TreeFigures.{TreeFigures}
 use Rattle.model.specs.Figures.{add_leaf}
-use Rattle.least.specs.declared.unit.Least.{Least}
+use Rattle.least.specs.UnitLeasts.{Least}
 use Rattle.tree.specs.declared.leaf.Read.TheVariants.{Tree}
 use Rattle.tree.specs.RampReads.{ramp_ended}
 use Rattle.tree.proofs.ramp.end_ramp.Goals as goal
@@ -26,6 +26,6 @@ with_leaf-requires c = c.requires.small_least.2
 pub returns : goal.returns
 returns c =
     let a = c.args in
-    let fits : SFits w64 c.in-Value.v = search rules in
-    ap (Tree a.next a.line) (c.with_leaf.ensures ∙ ap (λ (z : ℤ). add_leaf a.figures (Number z)) (to_z-of_z w64 c.in-Value.v fits))
-    ∙ ap (ramp_ended a.next a.line a.figures) (sym c.in-Value.is ∙ c.with_requirement-least.ensures)
+    let fits : SFits w64 c.in-Some.v = search rules in
+    ap (Tree a.next a.line) (c.with_leaf.ensures ∙ ap (λ (z : ℤ). add_leaf a.figures (Number z)) (to_z-of_z w64 c.in-Some.v fits))
+    ∙ ap (ramp_ended a.next a.line a.figures) (sym c.in-Some.is ∙ c.with_requirement-least.ensures)
