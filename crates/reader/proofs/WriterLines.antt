@@ -5,30 +5,35 @@ use mathlib.Core.Path.{◌≡◌, refl, sym, ap, ◌∙◌}
 use mathlib.Core.Bool.{Bool, true, false, cond}
 use lib.ListN.{get_or}
 use Rattle.text.specs.Lines.{Line}
-use Rattle.text.specs.Forms.{numbers_of, form_refusal, good_line, place_after, row_of}
+use Rattle.text.specs.Forms.{numbers_of, form_refusal, fault_number, fault_of, good_line, place_after, good_row_of, row_of}
 use Rattle.text.specs.Writer.{writer_key, writer_form}
 use Rattle.text.specs.declared.Row.{Row}
-use Rattle.text.specs.declared.Verdict.TheVariants as verdict
-use Rattle.text.proofs.Verdicts.{verdict_refused}
+use Rattle.std.specs.Prelude.{Result, Ok, Err}
+use Rattle.text.specs.declared.Fault.{Fault}
+use Rattle.text.proofs.Verdicts.{fault_is}
 use Rattle.text.proofs.PlainRows.{plain_row}
 use Rattle.reader.specs.Written.{writer_line}
 use Rattle.reader.specs.declared.WriterLine.{WriterLine}
-use Rattle.reader.specs.declared.Written.{Written}
-use Rattle.reader.specs.declared.Written.TheVariants.{Refused, By}
 
--- ---- what `writer_at` answers at each return
+-- the line where it is good, and where it is not
+abbrev found : Line → ℕ → Bool → Result WriterLine Fault
+found l at p = cond p (Ok (record { writer = get_or (numbers_of writer_form l) 0 0; next = place_after l at })) (Err (fault_of (form_refusal writer_form l)))
 
-module _ (l : Line) (at : ℕ) (row : Row) (is : row ≡ row_of writer_form l at) where
-  pub row_refused : (n : ℕ) → row.verdict ≡ verdict.Refused n → record { written = Refused n; next = at } ≡ writer_line l at
+-- ---- what the reader's `writer` answers at each return
+
+module _ (l : Line) (at : ℕ) (r : Result Row Fault) (is : r ≡ row_of writer_form l at) where
+  pub row_refused : (w : Fault) → r ≡ Err w → Err w ≡ writer_line l at
+  unfolding writer_line row_of
+  row_refused w e = go (good_line writer_form l) (sym is ∙ e)
+    where
+      go : (p : Bool) → cond p (Ok (good_row_of writer_form l at)) (Err (fault_of (form_refusal writer_form l))) ≡ Err w → Err w ≡ found l at p
+      go true q = absurd (let z : ◌≡◌ {A = ℕ} 0 1 = cc in omega arith)
+      go false q = let p : w ≡ fault_of (form_refusal writer_form l) = cc in ap (λ (x : Fault). Err x) p
+
+  pub row_written : (row : Row) → r ≡ Ok row → Ok (record { writer = get_or row.values 0 0; next = row.next }) ≡ writer_line l at
   unfolding writer_line
-  row_refused n v =
-      let g = verdict_refused writer_form l at row is n v in
-      rw (g.0, g.1) refl
-
-  pub row_written : (next : ℕ) → row.verdict ≡ verdict.Good next → record { written = By (get_or row.values 0 0); next = next } ≡ writer_line l at
-  unfolding writer_line
-  row_written next v =
-      let g = plain_row writer_key 1 1 65535 l at next row is v in
+  row_written row e =
+      let g = plain_row writer_key 1 1 65535 l at r is row e in
       rw (g.line_good, g.first (omega arith), g.next_is) refl
 
 -- ---- what is known of a line that was read
@@ -39,31 +44,21 @@ pub record Passed (l : Line) (at w next : ℕ) : Type 0 where
   pub writer_is : w ≡ get_or (numbers_of writer_form l) 0 0
   pub next_is : next ≡ place_after l at
 
-module _ (l : Line) (at : ℕ) where
-  -- the line where it is good, and where it is not
-  abbrev found : Bool → WriterLine
-  found p = cond p (record { written = By (get_or (numbers_of writer_form l) 0 0); next = place_after l at }) (record { written = Refused (form_refusal writer_form l); next = at })
+module _ (l : Line) (at : ℕ) (r : Result WriterLine Fault) (is : r ≡ writer_line l at) where
+  pub line_refused : (w : Fault) → r ≡ Err w → (good_line writer_form l ≡ false) × (form_refusal writer_form l ≡ fault_number w)
+  unfolding writer_line
+  line_refused w e = go (good_line writer_form l) refl (sym is ∙ e)
+    where
+      go : (p : Bool) → good_line writer_form l ≡ p → found l at p ≡ Err w → (good_line writer_form l ≡ false) × (form_refusal writer_form l ≡ fault_number w)
+      go true g q = absurd (let z : ◌≡◌ {A = ℕ} 0 1 = cc in omega arith)
+      go false g q = let p : fault_of (form_refusal writer_form l) ≡ w = cc in (g, sym (fault_is writer_form l g) ∙ ap fault_number p)
 
-  module _ (r : WriterLine) (is : r ≡ writer_line l at) where
-    by_good : {p : Bool} → good_line writer_form l ≡ p → r ≡ found p
-    unfolding writer_line
-    by_good g = is ∙ rw g refl
-
-    says : {p : Bool} {x : Written} → good_line writer_form l ≡ p → r.written ≡ x → (found p).written ≡ x
-    says g e = sym (ap (λ (y : WriterLine). y.written) (by_good g)) ∙ e
-
-    pub line_refused : (n : ℕ) → r.written ≡ Refused n → (good_line writer_form l ≡ false) × (form_refusal writer_form l ≡ n)
-    line_refused n e = go (good_line writer_form l) refl
-      where
-        go : (p : Bool) → good_line writer_form l ≡ p → (good_line writer_form l ≡ false) × (form_refusal writer_form l ≡ n)
-        go true g = let z : By (get_or (numbers_of writer_form l) 0 0) ≡ Refused n = says g e in absurd (let y : ◌≡◌ {A = ℕ} 0 1 = cc in omega arith)
-        go false g = let z : Refused (form_refusal writer_form l) ≡ Refused n = says g e in (g, cc)
-
-    pub line_written : (w : ℕ) → r.written ≡ By w → Passed l at w r.next
-    line_written w e = go (good_line writer_form l) refl
-      where
-        go : (p : Bool) → good_line writer_form l ≡ p → Passed l at w r.next
-        go true g =
-            let z : By (get_or (numbers_of writer_form l) 0 0) ≡ By w = says g e in
-            record { line_good = g; writer_is = cc; next_is = ap (λ (y : WriterLine). y.next) (by_good g) }
-        go false g = let z : Refused (form_refusal writer_form l) ≡ By w = says g e in absurd (let y : ◌≡◌ {A = ℕ} 0 1 = cc in omega arith)
+  pub line_written : (line : WriterLine) → r ≡ Ok line → Passed l at line.writer line.next
+  unfolding writer_line
+  line_written line e = go (good_line writer_form l) refl (sym is ∙ e)
+    where
+      go : (p : Bool) → good_line writer_form l ≡ p → found l at p ≡ Ok line → Passed l at line.writer line.next
+      go true g q =
+          let p : record { writer = get_or (numbers_of writer_form l) 0 0; next = place_after l at } ≡ line = cc in
+          record { line_good = g; writer_is = ap (λ (x : WriterLine). x.writer) (sym p); next_is = ap (λ (x : WriterLine). x.next) (sym p) }
+      go false g q = absurd (let z : ◌≡◌ {A = ℕ} 0 1 = cc in omega arith)

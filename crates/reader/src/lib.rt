@@ -8,7 +8,7 @@ ghost use Rattle.reader.specs.Places.{placed, lines_left};
 ghost use Rattle.reader.specs.Written.{writer_line, writer_read};
 
 use model::ranges::Writer;
-use text::{End, Kind, Verdict, is_line};
+use text::{End, Fault, Kind, is_line};
 
 // A lent text, and the start of its next line.
 #[derive(Clone, Copy)]
@@ -17,24 +17,17 @@ pub struct Reader<'a> {
     at: usize,
 }
 
-// What a writer's line says: a number, 12, 14 or 13, that refuses the line, or the writer.
-#[derive(Clone, Copy)]
-pub enum Written {
-    Refused { number: u64 },
-    By { writer: u64 },
-}
-
-// A writer's line: what it says, and the next line's start, or its own where it is refused.
+// A good writer's line: the writer, and the next line's start.
 #[derive(Clone, Copy)]
 pub struct WriterLine {
-    pub written: Written,
+    pub writer: u64,
     pub next: usize,
 }
 
-// What a writer's line says, and the reader past it, or at it where it is refused.
+// The writer of a good writer's line, and the reader past it.
 #[derive(Clone, Copy)]
 pub struct WriterRead<'a> {
-    written: Written,
+    writer: u64,
     reader: Reader<'a>,
 }
 
@@ -50,17 +43,23 @@ impl<'a> Reader<'a> {
     pub fn moved(self, at: usize) -> Reader<'a>
         ensures { result ≡ placed self.entry.text at }
     {
-        Reader {
-            text: self.text,
-            at,
-        }
+        Reader { at, ..self }
     }
 
     // The kind of text that the next line says.
     pub fn kind(self) -> Kind
         ensures { result ≡ kind_of (due (lines_left self.entry)) }
     {
-        kind_at(self.text, self.at)
+        if is_line(self.text, self.at, b"kind=problem") {
+            return Kind::Problem;
+        }
+        if is_line(self.text, self.at, b"kind=schedule") {
+            return Kind::Schedule;
+        }
+        if is_line(self.text, self.at, b"kind=tree") {
+            return Kind::Tree;
+        }
+        Kind::Unknown
     }
 
     // Whether the next line is the end line, this word, and the last.
@@ -68,74 +67,32 @@ impl<'a> Reader<'a> {
         requires { one_line word.now ≡ true }
         ensures { result ≡ end_of word.now (lines_left self.entry) }
     {
-        end_at(self.text, self.at, word)
-    }
-
-    // What the next line says as the writer's, and the reader past it.
-    pub fn writer(self) -> WriterRead<'a>
-        ensures { result ≡ writer_read self.entry }
-    {
-        let line = writer_at(self.text, self.at);
-        WriterRead {
-            written: line.written,
-            reader: Reader {
-                text: self.text,
-                at: line.next,
-            },
+        if !is_line(self.text, self.at, word) {
+            return End::Missing;
         }
-    }
-}
-
-// The kind of text that the line says which starts at `at`.
-fn kind_at(s: &[u8], at: usize) -> Kind
-    ensures { result ≡ kind_of (line_at s.now at) }
-{
-    if is_line(s, at, b"kind=problem") {
-        return Kind::Problem;
-    }
-    if is_line(s, at, b"kind=schedule") {
-        return Kind::Schedule;
-    }
-    if is_line(s, at, b"kind=tree") {
-        return Kind::Tree;
-    }
-    Kind::Unknown
-}
-
-// Whether the line that starts at `at` is the end line, this word, and the last.
-fn end_at(s: &[u8], at: usize, word: &[u8]) -> End
-    requires { one_line word.now ≡ true }
-    ensures { result ≡ end_of word.now (lines_of (drop at s.now)) }
-{
-    if is_line(s, at, word) {
-        let next = at + word.len() + 1;
-        if next < s.len() {
+        let next = self.at + word.len() + 1;
+        if next < self.text.len() {
             return End::Followed;
         }
-        return End::Last;
+        End::Last
     }
-    End::Missing
-}
 
-// What the line that starts at `at` says as the writer's, and the next line's start.
-fn writer_at(s: &[u8], at: usize) -> WriterLine
-    ensures { result ≡ writer_line (line_at s.now at) at }
-{
-    let row = text::read_row(s, at, b"writer=", 1, Writer::LEAST, Writer::MOST);
-    let verdict = row.verdict;
-    match verdict {
-        Verdict::Refused { number } => WriterLine {
-            written: Written::Refused { number },
-            next: at,
-        },
-        Verdict::Good { next } => {
-            let values = row.values;
-            let writer = values[0];
-            WriterLine {
-                written: Written::By { writer },
-                next,
-            }
-        }
+    // What the next line says as the writer's, with the reader past it, or what is wrong with the line.
+    pub fn writer(self) -> Result<WriterRead<'a>, Fault>
+        ensures { result ≡ writer_read self.entry }
+    {
+        let row = text::read_row(
+            self.text,
+            self.at,
+            b"writer=",
+            1,
+            Writer::LEAST,
+            Writer::MOST,
+        )?;
+        Ok(WriterRead {
+            writer: row.values[0],
+            reader: self.moved(row.next),
+        })
     }
 }
 
@@ -154,13 +111,13 @@ pub fn read_end(s: &[u8], at: usize, word: &[u8]) -> End
     Reader::open(s).moved(at).end(word)
 }
 
-// What the line that starts at `at` says as the writer's, and the next line's start.
-pub fn read_writer(s: &[u8], at: usize) -> WriterLine
+// What the line that starts at `at` says as the writer's, with the next line's start, or what is wrong with it.
+pub fn read_writer(s: &[u8], at: usize) -> Result<WriterLine, Fault>
     ensures { result ≡ writer_line (line_at s.now at) at }
 {
-    let read = Reader::open(s).moved(at).writer();
-    WriterLine {
-        written: read.written,
+    let read = Reader::open(s).moved(at).writer()?;
+    Ok(WriterLine {
+        writer: read.writer,
         next: read.reader.at,
-    }
+    })
 }
