@@ -12,13 +12,15 @@ use Rattle.model.specs.Instance.{Instance}
 use Rattle.model.specs.Held.{pad, held, view, blank_generator}
 use Rattle.text.specs.Lines.{lines_of, line_at}
 use Rattle.text.specs.Course.{refused_at}
-use Rattle.text.specs.declared.Verdict.TheVariants as verdict
+use Rattle.text.specs.declared.Fault.{Fault}
+use Rattle.text.specs.Forms.{fault_number}
+use Rattle.std.specs.Prelude.{Result, Ok, Err}
+use Rattle.refusal.specs.declared.Refusal.{Refusal}
 use Rattle.text.proofs.Verdicts.{good_next}
 use Rattle.problem.specs.Units.{unit_form}
 use Rattle.problem.specs.Course.{unit_due, end_due, fleet_due}
 use Rattle.problem.specs.ReadAnswers.{read_as}
 use Rattle.problem.specs.Storing.{FilledTo, read_from, unit_row}
-use Rattle.problem.specs.declared.ProblemRead.{ProblemRead}
 use Rattle.problem.specs.declared.unit.UnitRow.{UnitRow}
 use Rattle.problem.proofs.LineByLine.{read_refused, read_on}
 use Rattle.problem.proofs.UnitRows.{row_number, row_unit}
@@ -30,33 +32,32 @@ some_units T D R gs = record { periods = T; demand = D; spare = R; units = gs }
 -- ---- the lines one by one
 
 -- what remains after k of n unit lines, where line k + 6 starts at the place i
-abbrev pub remains : List ℕ → ℕ → ℕ → ℕ → List ℕ → List ℕ → ℕ → List Generator → ProblemRead
+abbrev pub remains : List ℕ → ℕ → ℕ → ℕ → List ℕ → List ℕ → ℕ → List Generator → Result Problem Refusal
 remains text T n i D R k gs = read_from text i (k + 6) (fleet_due (n - k) (some_units T D R (take k gs)))
 
-module _ (text : List ℕ) (T n i : ℕ) (D R : List ℕ) (k : ℕ) (gs : List Generator) (whole : ProblemRead) (so_far : remains text T n i D R k gs ≡ whole) where
-  module _ (h : k < n) (row : UnitRow) (is : row ≡ unit_row (line_at text i) i) where
+module _ (text : List ℕ) (T n i : ℕ) (D R : List ℕ) (k : ℕ) (gs : List Generator) (whole : Result Problem Refusal) (so_far : remains text T n i D R k gs ≡ whole) where
+  module _ (h : k < n) (read : Result UnitRow Fault) (is : read ≡ unit_row (line_at text i) i) where
     due_more : (P : Instance) → fleet_due (n - k) P ≡ unit_due (n - (k + 1)) P
     due_more P = let e : n - k ≡ suc (n - (k + 1)) = omega arith in ap (λ (m : ℕ). fleet_due m P) e
 
     -- the answer where the line is refused
-    pub fleet_refused : (r : ProblemRead) (m : ℕ) → row.verdict ≡ verdict.Refused m → r ≡ read_as (refused_at m (k + 6)) → r ≡ whole
-    fleet_refused r m v a =
+    pub fleet_refused : (r : Result Problem Refusal) (w : Fault) → read ≡ Err w → r ≡ read_as (refused_at (fault_number w) (k + 6)) → r ≡ whole
+    fleet_refused r w v a =
         let P = some_units T D R (take k gs) in
         a
-        ∙ read_refused text i (k + 6) (unit_due (n - (k + 1)) P) m refl (row_number (line_at text i) i (n - (k + 1)) m P (ap (λ (x : UnitRow). x.verdict) (sym is) ∙ v))
+        ∙ read_refused text i (k + 6) (unit_due (n - (k + 1)) P) (fault_number w) refl (row_number (line_at text i) i (n - (k + 1)) w P (sym is ∙ v))
         ∙ ap (read_from text i (k + 6)) (sym (due_more P))
         ∙ so_far
 
     -- one line more
-    pub fleet_on : (next : ℕ) → row.verdict ≡ verdict.Good next → k < length gs → remains text T n next D R (k + 1) (set gs k row.generator) ≡ whole
-    fleet_on next v b =
+    pub fleet_on : (row : UnitRow) → read ≡ Ok row → k < length gs → remains text T n row.next D R (k + 1) (set gs k row.generator) ≡ whole
+    fleet_on row v b =
         let P = some_units T D R (take k gs) in
-        let u = row_unit (line_at text i) i next (ap (λ (x : UnitRow). x.verdict) (sym is) ∙ v) in
-        let g : row.generator ≡ (unit_row (line_at text i) i).generator = ap (λ (x : UnitRow). x.generator) is in
-        let t : take (k + 1) (set gs k row.generator) ≡ take k gs ++ ((unit_row (line_at text i) i).generator ∷ []) = ap (λ (m : ℕ). take m (set gs k row.generator)) (add-one k) ∙ take-suc-set gs k row.generator b ∙ ap (λ (x : Generator). take k gs ++ (x ∷ [])) g in
+        let u = row_unit (line_at text i) i row (sym is ∙ v) in
+        let t : take (k + 1) (set gs k row.generator) ≡ take k gs ++ (row.generator ∷ []) = ap (λ (m : ℕ). take m (set gs k row.generator)) (add-one k) ∙ take-suc-set gs k row.generator b in
         let l : k + 1 + 6 ≡ suc (k + 6) = omega arith in
-        (λ j. read_from text next (l j) (fleet_due (n - (k + 1)) (some_units T D R (t j))))
-        ∙ read_on text i (k + 6) (unit_due (n - (k + 1)) P) next _ (u.judged (n - (k + 1)) P)
+        (λ j. read_from text row.next (l j) (fleet_due (n - (k + 1)) (some_units T D R (t j))))
+        ∙ read_on text i (k + 6) (unit_due (n - (k + 1)) P) row.next _ (u.judged (n - (k + 1)) P)
         (ap (λ (m : ℕ). lines_of (drop m text)) u.place ∙ good_next unit_form text i u.formed)
         ∙ ap (read_from text i (k + 6)) (sym (due_more P))
         ∙ so_far
@@ -74,7 +75,7 @@ module _ (T n : ℕ) (D R : List ℕ) (gs : List Generator) where
       λ i. record { periods = T; units = length-take-le n gs (omega arith) i; demand = d i; spare = r i; generators = e i }
 
   -- the answer is that of the end line
-  pub fleet_ended : (text : List ℕ) (i k : ℕ) (whole r : ProblemRead) → remains text T n i (take T D) (take T R) k gs ≡ whole → k ≤ n → n ≤ k
+  pub fleet_ended : (text : List ℕ) (i k : ℕ) (whole r : Result Problem Refusal) → remains text T n i (take T D) (take T R) k gs ≡ whole → k ≤ n → n ≤ k
       → r ≡ read_from text i (n + 6) (end_due (view arrays)) → r ≡ whole
   unfolding view
   fleet_ended text i k whole r so_far h m a =

@@ -10,35 +10,37 @@ use Rattle.model.specs.Instance.{Instance}
 use Rattle.model.specs.Ranges.{ordered}
 use Rattle.text.specs.Lines.{Line}
 use Rattle.text.specs.Forms as forms
-use Rattle.text.specs.Forms.{form_refusal, place_after, pad_48, row_of, any_minus, values_of, sizes}
+use Rattle.text.specs.Forms.{form_refusal, fault_number, fault_of, place_after, pad_48, row_of, good_row_of, values_of, sizes}
 use Rattle.text.specs.Course.{refused, good}
 use Rattle.text.specs.Tests.{◌if◌, found}
 use Rattle.text.specs.declared.Row.{Row}
-use Rattle.text.specs.declared.Verdict.TheVariants as verdict
-use Rattle.text.proofs.Verdicts.{verdict_refused, verdict_good, row_read, form_refused, form_found}
+use Rattle.text.specs.declared.Fault.{Fault}
+use Rattle.text.specs.declared.Fault.TheVariants.{Disordered}
+use Rattle.std.specs.Prelude.{Result, Ok, Err}
+use Rattle.text.proofs.Verdicts.{fault_is, good_read, form_refused, form_found}
 use Rattle.text.proofs.Accepted.{good_rendered}
 use Rattle.text.proofs.Plain.{pad_48_at}
 use Rattle.problem.specs.Units.{unit_form, unit_of, generator}
 use Rattle.problem.specs.Course.{unit_due, fleet_due, with_unit, judge}
-use Rattle.problem.specs.Storing.{no_unit_row, unit_row}
+use Rattle.problem.specs.Storing.{unit_row}
 use Rattle.problem.specs.declared.unit.UnitRow.{UnitRow}
 
 module _ (l : Line) (at : ℕ) where
   -- ---- what the reader of the line answers, from the row of its numbers
 
-  module _ (row : Row) (is : row ≡ row_of unit_form l at) where
-    pub unit_refused : (n : ℕ) → row.verdict ≡ verdict.Refused n → no_unit_row n ≡ unit_row l at
-    unfolding unit_row
-    unit_refused n v =
-        let p = verdict_refused unit_form l at row is n v in
-        simp (p.0, p.1)
+  module _ (read : Result Row Fault) (is : read ≡ row_of unit_form l at) where
+    pub unit_refused : (w : Fault) → read ≡ Err w → Err w ≡ unit_row l at
+    unfolding unit_row row_of
+    unit_refused w v = go (forms.good_line unit_form l) (sym is ∙ v)
+      where
+        go : (g : Bool) → cond g (Ok (good_row_of unit_form l at)) (Err (fault_of (form_refusal unit_form l))) ≡ Err w
+            → Err w ≡ cond g (cond {A = Result UnitRow Fault} (ordered (unit_of l)) (Ok (record { next = place_after l at; generator = unit_of l })) (Err Disordered)) (Err (fault_of (form_refusal unit_form l)))
+        go true q = absurd (let z : ◌≡◌ {A = ℕ} 0 1 = cc in omega arith)
+        go false q = let p : w ≡ fault_of (form_refusal unit_form l) = cc in ap (λ (x : Fault). Err x) p
 
-    module _ (next : ℕ) (v : row.verdict ≡ verdict.Good next) where
-      was_good : (forms.good_line unit_form l ≡ true) × (next ≡ place_after l at)
-      was_good = verdict_good unit_form l at row is next v
-
-      whole : row ≡ record { verdict = verdict.Good (place_after l at); minus = any_minus (values_of unit_form l); values = pad_48 (sizes (values_of unit_form l)) }
-      whole = is ∙ row_read unit_form l at was_good.0
+    module _ (row : Row) (v : read ≡ Ok row) where
+      was_good : (forms.good_line unit_form l ≡ true) × (row ≡ good_row_of unit_form l at)
+      was_good = good_read unit_form l at read is row v
 
       -- the zeros after the values change nothing
       built : (g : Generator) → g ≡ generator row.minus row.values → g ≡ unit_of l
@@ -48,7 +50,7 @@ module _ (l : Line) (at : ℕ) where
           let c = (good_rendered unit_form l was_good.0).fits.count in
           let i : (k : ℕ) → k < 15 → get_or (pad_48 vs) k 0 ≡ get_or vs k 0 = λ k h. pad_48_at vs k (omega arith) in
           e
-          ∙ ap (λ (r : Row). generator r.minus r.values) whole
+          ∙ ap (λ (r : Row). generator r.minus r.values) was_good.1
           ∙ simp (
             i 0 (omega arith),
             i 1 (omega arith),
@@ -68,13 +70,13 @@ module _ (l : Line) (at : ℕ) where
           )
 
       module _ (g : Generator) (e : g ≡ generator row.minus row.values) where
-        pub unit_unordered : ordered g ≡ false → no_unit_row 15 ≡ unit_row l at
+        pub unit_unordered : ordered g ≡ false → Err Disordered ≡ unit_row l at
         unfolding unit_row
         unit_unordered o = simp (was_good.0, ap ordered (sym (built g e)) ∙ o)
 
-        pub unit_good : ordered g ≡ true → ◌≡◌ {A = UnitRow} (record { verdict = verdict.Good next; generator = g }) (unit_row l at)
+        pub unit_good : ordered g ≡ true → Ok (record { next = row.next; generator = g }) ≡ unit_row l at
         unfolding unit_row
-        unit_good o = simp (was_good.0, ap ordered (sym (built g e)) ∙ o) (λ i. record { verdict = verdict.Good (was_good.1 i); generator = built g e i })
+        unit_good o = simp (was_good.0, ap ordered (sym (built g e)) ∙ o) (λ i. Ok (record { next = (was_good.1 i).next; generator = built g e i }))
 
   -- ---- what the row says of the line at its place
 
@@ -89,15 +91,15 @@ module _ (l : Line) (at : ℕ) where
         form_found unit_form l (15 if not (ordered (unit_of l)) ∷ []) (fleet_due m (with_unit P (unit_of l))) g
         ∙ ap (λ (x : Bool). found (15 if not x ∷ []) (fleet_due m (with_unit P (unit_of l)))) e
 
-  pub row_number : (m n : ℕ) (P : Instance) → (unit_row l at).verdict ≡ verdict.Refused n → judge (unit_due m P) l ≡ refused n
+  pub row_number : (m : ℕ) (w : Fault) (P : Instance) → unit_row l at ≡ Err w → judge (unit_due m P) l ≡ refused (fault_number w)
   unfolding unit_row
-  row_number m n P = go (forms.good_line unit_form l) refl (ordered (unit_of l)) refl
+  row_number m w P = go (forms.good_line unit_form l) refl (ordered (unit_of l)) refl
     where
       go : (g : Bool) → forms.good_line unit_form l ≡ g → (o : Bool) → ordered (unit_of l) ≡ o
-          → (cond g (cond o (record { verdict = verdict.Good (place_after l at); generator = unit_of l }) (no_unit_row 15)) (no_unit_row (form_refusal unit_form l))).verdict ≡ verdict.Refused n
-          → judge (unit_due m P) l ≡ refused n
-      go false p o q e = judge_number m P p ∙ ap refused (let z : form_refusal unit_form l ≡ n = cc in z)
-      go true p false q e = judge_15 m P false p q ∙ ap refused (let z : 15 ≡ n = cc in z)
+          → cond g (cond {A = Result UnitRow Fault} o (Ok (record { next = place_after l at; generator = unit_of l })) (Err Disordered)) (Err (fault_of (form_refusal unit_form l))) ≡ Err w
+          → judge (unit_due m P) l ≡ refused (fault_number w)
+      go false p o q e = let z : fault_of (form_refusal unit_form l) ≡ w = cc in judge_number m P p ∙ ap refused (sym (fault_is unit_form l p) ∙ ap fault_number z)
+      go true p false q e = let z : Disordered ≡ w = cc in judge_15 m P false p q ∙ ap (λ (x : Fault). refused (fault_number x)) z
       go true p true q e = absurd (let z : ◌≡◌ {A = ℕ} 0 1 = cc in omega arith)
 
   -- a good row: the line is good at its place, and its generator follows those before it
@@ -107,17 +109,20 @@ module _ (l : Line) (at : ℕ) where
     pub unit : g ≡ unit_of l
     pub judged : (m : ℕ) (P : Instance) → judge (unit_due m P) l ≡ good (fleet_due m (with_unit P g))
 
-  pub row_unit : (next : ℕ) → (unit_row l at).verdict ≡ verdict.Good next → IsUnit next (unit_row l at).generator
+  pub row_unit : (row : UnitRow) → unit_row l at ≡ Ok row → IsUnit row.next row.generator
   unfolding unit_row
-  row_unit next = go (forms.good_line unit_form l) refl (ordered (unit_of l)) refl
+  row_unit row = go (forms.good_line unit_form l) refl (ordered (unit_of l)) refl
     where
       go : (g : Bool) → forms.good_line unit_form l ≡ g → (o : Bool) → ordered (unit_of l) ≡ o
-          → (let r = cond g (cond o (record { verdict = verdict.Good (place_after l at); generator = unit_of l }) (no_unit_row 15)) (no_unit_row (form_refusal unit_form l)) in r.verdict ≡ verdict.Good next → IsUnit next r.generator)
+          → cond g (cond {A = Result UnitRow Fault} o (Ok (record { next = place_after l at; generator = unit_of l })) (Err Disordered)) (Err (fault_of (form_refusal unit_form l))) ≡ Ok row → IsUnit row.next row.generator
       go false p o q e = absurd (let z : ◌≡◌ {A = ℕ} 0 1 = cc in omega arith)
       go true p false q e = absurd (let z : ◌≡◌ {A = ℕ} 0 1 = cc in omega arith)
-      go true p true q e = record {
-        formed = p;
-        place = let z : place_after l at ≡ next = cc in sym z;
-        unit = refl;
-        judged = λ m P. judge_15 m P true p q;
-      }
+      go true p true q e =
+          let z : ◌≡◌ {A = UnitRow} (record { next = place_after l at; generator = unit_of l }) row = cc in
+          let g = ap (λ (x : UnitRow). x.generator) z in
+          record {
+            formed = p;
+            place = sym (ap (λ (x : UnitRow). x.next) z);
+            unit = sym g;
+            judged = λ m P. judge_15 m P true p q ∙ ap (λ (x : Generator). good (fleet_due m (with_unit P x))) g;
+          }

@@ -5,48 +5,30 @@ mod unit;
 
 ghost use Rattle.std.specs.Prelude.{◌≡◌, ◌+◌, ◌≤◌, take};
 ghost use Rattle.model.specs.Held.{held, view};
-ghost use Rattle.text.specs.Course.{refused_at};
+ghost use Rattle.refusal.specs.Refusals.{refusal_of};
+ghost use Rattle.text.specs.Forms.{fault_number};
 ghost use Rattle.problem.specs.Course.{units_due, demand_due, spare_due, end_due, fleet_due, no_units};
-ghost use Rattle.problem.specs.ReadAnswers.{IsProblem, read_as, problem_read};
+ghost use Rattle.problem.specs.ReadAnswers.{IsProblem, problem_read};
 ghost use Rattle.problem.specs.Storing.{FilledTo, read_from};
 
 use model::arrays::Problem;
 use model::generator::Generator;
 use model::ranges::{Fleet, Horizon, Load};
 use refusal::Refusal;
-use text::{End, Verdict};
-
-// What a problem's text is: refused, or accepted.
-#[derive(Clone, Copy)]
-pub enum ProblemAnswer {
-    Refused(Refusal),
-    Accepted,
-}
-
-// The answer, and the problem that was read; a blank one where the text is refused.
-#[derive(Clone, Copy)]
-pub struct ProblemRead {
-    pub answer: ProblemAnswer,
-    pub problem: Problem,
-}
+use text::{End, Fault};
 
 // The start of the line after kind=problem and its byte 10.
 const SECOND_LINE: usize = 13;
 
-// The answer to a text that a number refuses at a line.
-fn refuse_text(number: u64, line: usize) -> ProblemRead
-    ensures { result ≡ read_as (refused_at number line) }
+// The refusal of a text by what is wrong with a line.
+fn refuse_line(fault: Fault, line: usize) -> Refusal
+    ensures { result ≡ refusal_of (fault_number fault) line 0 0 }
 {
-    let refusal = refusal::refuse(number, line, 0, 0);
-    let problem = Problem::blank();
-    ProblemRead {
-        answer: ProblemAnswer::Refused(refusal),
-        problem,
-    }
+    refusal::refuse(u64::from(fault), line, 0, 0)
 }
 
-// The problem that a text gives whose first line is kind=problem.
-pub fn read_problem(s: &[u8]) -> ProblemRead
+// The problem that a text gives whose first line is kind=problem, or the text's refusal.
+pub fn read_problem(s: &[u8]) -> Result<Problem, Refusal>
     requires { IsProblem s.now }
     ensures { result ≡ problem_read s.now }
 {
@@ -57,47 +39,31 @@ pub fn read_problem(s: &[u8]) -> ProblemRead
         1,
         Horizon::LEAST,
         Horizon::MOST,
-    );
-    let verdict = row.verdict;
-    match verdict {
-        Verdict::Refused { number } => refuse_text(number, 2),
-        Verdict::Good { next } => {
-            let values = row.values;
-            read_from_units(s, next, values[0] as usize)
-        }
-    }
+    )
+    .map_err(|fault| refuse_line(fault, 2))?;
+    read_from_units(s, row.next, row.values[0] as usize)
 }
 
 // The problem of a text whose units line starts at `at`.
-fn read_from_units(s: &[u8], at: usize, periods: usize) -> ProblemRead
+fn read_from_units(s: &[u8], at: usize, periods: usize) -> Result<Problem, Refusal>
     requires { periods ≤ 48 }
     ensures { result ≡ read_from s.now at 3 (units_due periods) }
 {
-    let row = text::read_row(s, at, b"units=", 1, Fleet::LEAST, Fleet::MOST);
-    let verdict = row.verdict;
-    match verdict {
-        Verdict::Refused { number } => refuse_text(number, 3),
-        Verdict::Good { next } => {
-            let values = row.values;
-            read_from_demand(s, next, periods, values[0] as usize)
-        }
-    }
+    let row = text::read_row(s, at, b"units=", 1, Fleet::LEAST, Fleet::MOST).map_err(
+        |fault| refuse_line(fault, 3),
+    )?;
+    read_from_demand(s, row.next, periods, row.values[0] as usize)
 }
 
 // The problem of a text whose demand line starts at `at`.
-fn read_from_demand(s: &[u8], at: usize, periods: usize, units: usize) -> ProblemRead
+fn read_from_demand(s: &[u8], at: usize, periods: usize, units: usize) -> Result<Problem, Refusal>
     requires { (periods ≤ 48) × (units ≤ 32) }
     ensures { result ≡ read_from s.now at 4 (demand_due periods units) }
 {
-    let row = text::read_row(s, at, b"demand=", periods, Load::LEAST, Load::MOST);
-    let verdict = row.verdict;
-    match verdict {
-        Verdict::Refused { number } => refuse_text(number, 4),
-        Verdict::Good { next } => {
-            let demand = row.values;
-            read_from_spare(s, next, periods, units, demand)
-        }
-    }
+    let row = text::read_row(s, at, b"demand=", periods, Load::LEAST, Load::MOST).map_err(
+        |fault| refuse_line(fault, 4),
+    )?;
+    read_from_spare(s, row.next, periods, units, row.values)
 }
 
 // The problem of a text whose spare line starts at `at`.
@@ -107,19 +73,14 @@ fn read_from_spare(
     periods: usize,
     units: usize,
     demand: [u64; 48],
-) -> ProblemRead
+) -> Result<Problem, Refusal>
     requires { (periods ≤ 48) × ((units ≤ 32) × FilledTo periods demand) }
     ensures { result ≡ read_from s.now at 5 (spare_due periods units (take periods demand)) }
 {
-    let row = text::read_row(s, at, b"spare=", periods, Load::LEAST, Load::MOST);
-    let verdict = row.verdict;
-    match verdict {
-        Verdict::Refused { number } => refuse_text(number, 5),
-        Verdict::Good { next } => {
-            let spare = row.values;
-            read_from_fleet(s, next, periods, units, demand, spare)
-        }
-    }
+    let row = text::read_row(s, at, b"spare=", periods, Load::LEAST, Load::MOST).map_err(
+        |fault| refuse_line(fault, 5),
+    )?;
+    read_from_fleet(s, row.next, periods, units, demand, row.values)
 }
 
 // The problem of a text whose unit lines start at `at`.
@@ -130,28 +91,17 @@ fn read_from_fleet(
     units: usize,
     demand: [u64; 48],
     spare: [u64; 48],
-) -> ProblemRead
+) -> Result<Problem, Refusal>
     requires { (periods ≤ 48) × ((units ≤ 32) × (FilledTo periods demand × FilledTo periods spare)) }
     ensures { result ≡ read_from s.now at 6 (fleet_due units (no_units periods (take periods demand) (take periods spare))) }
 {
-    let blank = Generator::blank();
-    let mut generators = [blank; 32];
-    let mut i = at;
-    let mut k: usize = 0;
-    while k < units {
-        let row = unit::read_unit(s, i);
-        let verdict = row.verdict;
-        match verdict {
-            Verdict::Refused { number } => {
-                return refuse_text(number, k + 6);
-            }
-            Verdict::Good { next } => {
-                let generator = row.generator;
-                generators[k] = generator;
-                i = next;
-                k += 1;
-            }
-        }
+    let mut generators = [Generator::blank(); 32];
+    let mut next = at;
+    for k in 0..units {
+        let line = k + 6;
+        let row = unit::read_unit(s, next).map_err(|fault| refuse_line(fault, line))?;
+        generators[k] = row.generator;
+        next = row.next;
     }
     let problem = Problem {
         periods,
@@ -160,21 +110,17 @@ fn read_from_fleet(
         spare,
         generators,
     };
-    read_from_end(s, i, units + 6, problem)
+    read_from_end(s, next, units + 6, problem)
 }
 
 // The problem of a text whose end line, with the number `line`, starts at `at`.
-fn read_from_end(s: &[u8], at: usize, line: usize, problem: Problem) -> ProblemRead
+fn read_from_end(s: &[u8], at: usize, line: usize, problem: Problem) -> Result<Problem, Refusal>
     requires { (line ≤ 38) × (held (view problem) ≡ problem) }
     ensures { result ≡ read_from s.now at line (end_due (view problem)) }
 {
-    let end = reader::read_end(s, at, b"end=problem");
-    match end {
-        End::Missing => refuse_text(12, line),
-        End::Followed => refuse_text(12, line + 1),
-        End::Last => ProblemRead {
-            answer: ProblemAnswer::Accepted,
-            problem,
-        },
+    match reader::read_end(s, at, b"end=problem") {
+        End::Missing => Err(refuse_line(Fault::Malformed, line)),
+        End::Followed => Err(refuse_line(Fault::Malformed, line + 1)),
+        End::Last => Ok(problem),
     }
 }

@@ -2,10 +2,10 @@
 ghost use Rattle.std.specs.Prelude.{◌≡◌};
 ghost use Rattle.text.specs.Lines.{line_at};
 ghost use Rattle.problem.specs.Units.{generator};
-ghost use Rattle.problem.specs.Storing.{no_unit_row, unit_row};
+ghost use Rattle.problem.specs.Storing.{unit_row};
 
 use model::generator::Generator;
-use text::Verdict;
+use text::Fault;
 
 // The lowest and the highest that each value may be, Tini's without its sign.
 const LOWS: [u64; 15] = [
@@ -44,22 +44,11 @@ const HIGHS: [u64; 15] = [
     Generator::MOST_OUTPUT,
 ];
 
-// What a unit line is, and its generator; a blank one where the line is refused.
+// A good unit line: the next line's start, and its generator.
 #[derive(Clone, Copy)]
 pub struct UnitRow {
-    pub verdict: Verdict,
+    pub next: usize,
     pub generator: Generator,
-}
-
-// The row of a unit line that a number refuses.
-fn refuse_unit(number: u64) -> UnitRow
-    ensures { result ≡ no_unit_row number }
-{
-    let generator = Generator::blank();
-    UnitRow {
-        verdict: Verdict::Refused { number },
-        generator,
-    }
 }
 
 // The generator of a unit line's values, of which Tini carries a minus or not.
@@ -86,24 +75,17 @@ fn make_generator(minus: bool, v: [u64; 48]) -> Generator
     }
 }
 
-// The unit line that starts at `at`.
-pub fn read_unit(s: &[u8], at: usize) -> UnitRow
+// The unit line that starts at `at`, or what is wrong with it.
+pub fn read_unit(s: &[u8], at: usize) -> Result<UnitRow, Fault>
     ensures { result ≡ unit_row (line_at s.now at) at }
 {
-    let row = text::read_line(s, at, b"unit=", 8, &LOWS, &HIGHS);
-    let verdict = row.verdict;
-    match verdict {
-        Verdict::Refused { number } => refuse_unit(number),
-        Verdict::Good { next } => {
-            let values = row.values;
-            let generator = make_generator(row.minus, values);
-            if generator.is_ordered() {
-                return UnitRow {
-                    verdict: Verdict::Good { next },
-                    generator,
-                };
-            }
-            refuse_unit(15)
-        }
+    let row = text::read_line(s, at, b"unit=", 8, &LOWS, &HIGHS)?;
+    let generator = make_generator(row.minus, row.values);
+    if !generator.is_ordered() {
+        return Err(Fault::Disordered);
     }
+    Ok(UnitRow {
+        next: row.next,
+        generator,
+    })
 }

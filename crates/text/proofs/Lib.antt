@@ -2,6 +2,7 @@ pub mod Fields
 pub mod ValueTurns
 pub mod Cuts
 pub mod Keys
+pub mod Mapped
 pub mod Words
 pub mod FirstLine
 pub mod Ranges

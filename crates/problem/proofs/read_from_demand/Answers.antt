@@ -1,30 +1,39 @@
-use mathlib.Core.Path.{refl, sym, ap}
+use mathlib.Core.Path.{◌≡◌, refl, sym, ap}
+use Rattle.std.specs.Prelude.{Err}
+use Rattle.refusal.specs.declared.Refusal.{Refusal}
+use Rattle.refusal.specs.Refusals.{refusal_of}
+use Rattle.text.specs.Forms.{fault_number}
+use Rattle.problem.specs.ReadAnswers.{read_as}
 use Rattle.text.specs.Lines.{line_at}
 use Rattle.text.proofs.PlainRows.{plain_row}
+use Rattle.problem.proofs.LineByLine.{line_refused, line_good}
 use Rattle.problem.specs.Rendering.{demand_key}
 use Rattle.problem.specs.Course.{demand_due, spare_due}
 use Rattle.problem.specs.Refusals.{demand_form}
-use Rattle.problem.proofs.LineByLine.{line_refused, line_good}
+use Rattle.std.proofs.lemmas.Result.{err_from_is_err_and}
+use Rattle.text.proofs.Mapped.{mapped_ok, mapped_err}
 use borrow.Author.Rules.{rules}
 use Rattle.problem.proofs.read_from_demand.Goals as goal
 
 pub read_from_spare-requires : goal.read_from_spare-requires
 read_from_spare-requires c =
     let a = c.args in
-    let row = c.read_row-row in
-    let h = plain_row demand_key a.periods 0 320000 (line_at a.s.now a.at) a.at _ row.result row.ensures c.in-Good.is in
+    let is = mapped_ok c.read_row.result c.map_err.result _ _ c.map_err.ensures.cases c.in_ok-row.was in
+    let h = plain_row demand_key a.periods 0 320000 (line_at a.s.now a.at) a.at c.read_row.result c.read_row.ensures _ is in
     (c.requires.0, (c.requires.1, h.holds))
 
-pub returns-in-Refused : goal.returns-in-Refused
-returns-in-Refused c =
+pub returns-in_err-row : goal.returns-in_err-row
+unfolding read_as
+returns-in_err-row c =
     let a = c.args in
-    let row = c.read_row-row in
-    line_refused a.s.now a.at 4 (demand_due a.periods a.units) (demand_form a.periods) refl row.result row.ensures _ _ refl c.in-Refused.is c.refuse_text.ensures
+    let p = err_from_is_err_and c.from_residual.result c.from_residual.ensures.1 in
+    let m = mapped_err c.read_row.result c.map_err.result _ _ c.map_err.ensures.cases c.in_err-row.was in
+    let e : c.in_err-row.field-0.0 ≡ refusal_of (fault_number m.0) 4 0 0 = search (rules, m.1.1) in
+    rw (p.1, p.2) (line_refused a.s.now a.at 4 (demand_due a.periods a.units) (demand_form a.periods) refl c.read_row.result c.read_row.ensures _ m.0 refl m.1.0 (ap (λ (x : Refusal). Err x) e))
 
-pub returns-in-Good : goal.returns-in-Good
-returns-in-Good c =
+pub returns : goal.returns
+returns c =
     let a = c.args in
-    let row = c.read_row-row in
-    let v = c.in-Good.is in
-    let h = plain_row demand_key a.periods 0 320000 (line_at a.s.now a.at) a.at _ row.result row.ensures v in
-    line_good a.s.now a.at 4 (demand_due a.periods a.units) (demand_form a.periods) refl row.result row.ensures _ _ _ v (ap (spare_due a.periods a.units) (sym h.values)) c.read_from_spare.ensures
+    let is = mapped_ok c.read_row.result c.map_err.result _ _ c.map_err.ensures.cases c.in_ok-row.was in
+    let h = plain_row demand_key a.periods 0 320000 (line_at a.s.now a.at) a.at c.read_row.result c.read_row.ensures _ is in
+    line_good a.s.now a.at 4 (demand_due a.periods a.units) (demand_form a.periods) refl c.read_row.result c.read_row.ensures _ c.in_ok-row.row _ is (ap (spare_due a.periods a.units) (sym h.values)) c.read_from_spare.ensures

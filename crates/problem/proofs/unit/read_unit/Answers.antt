@@ -1,26 +1,23 @@
 use mathlib.Core.Path.{sym, ◌∙◌}
 use Rattle.text.specs.Lines.{line_at}
+use Rattle.std.proofs.lemmas.Result.{err_from_is_err_and}
 use Rattle.problem.proofs.UnitRows.{unit_refused, unit_unordered, unit_good}
-use borrow.Author.Rules.{rules}
 use Rattle.problem.proofs.unit.read_unit.Goals as goal
 
-pub returns-then-is_ordered : goal.returns-then-is_ordered
-returns-then-is_ordered c =
+pub returns-in_err-row : goal.returns-in_err-row
+returns-in_err-row c =
     let a = c.args in
-    let row = c.read_line-row in
-    unit_good (line_at a.s.now a.at) a.at row.result row.ensures _ c.in-Good.is c.make_generator-generator.result c.make_generator-generator.ensures
-    (sym c.is_ordered.ensures ∙ c.if-is_ordered.true)
+    let p = err_from_is_err_and c.from_residual.result c.from_residual.ensures.1 in
+    rw (p.1, p.2) (unit_refused (line_at a.s.now a.at) a.at c.read_line.result c.read_line.ensures _ c.in_err-row.was)
 
-pub returns-in-Refused : goal.returns-in-Refused
-returns-in-Refused c =
+pub returns-then-not-is_ordered : goal.returns-then-not-is_ordered
+returns-then-not-is_ordered c =
     let a = c.args in
-    let row = c.read_line-row in
-    c.refuse_unit.ensures ∙ unit_refused (line_at a.s.now a.at) a.at row.result row.ensures _ c.in-Refused.is
+    unit_unordered (line_at a.s.now a.at) a.at c.read_line.result c.read_line.ensures _ c.in_ok-row.was c.make_generator-generator.result c.make_generator-generator.ensures
+    (sym c.is_ordered.ensures ∙ c.if-not-is_ordered.true)
 
-pub returns-else-is_ordered : goal.returns-else-is_ordered
-returns-else-is_ordered c =
+pub returns : goal.returns
+returns c =
     let a = c.args in
-    let row = c.read_line-row in
-    c.refuse_unit-in-Good.ensures
-    ∙ unit_unordered (line_at a.s.now a.at) a.at row.result row.ensures _ c.in-Good.is c.make_generator-generator.result c.make_generator-generator.ensures
-    (sym c.is_ordered.ensures ∙ c.if-is_ordered.false)
+    unit_good (line_at a.s.now a.at) a.at c.read_line.result c.read_line.ensures _ c.in_ok-row.was c.make_generator-generator.result c.make_generator-generator.ensures
+    (sym c.is_ordered.ensures ∙ c.if-not-is_ordered.false)
