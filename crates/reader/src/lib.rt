@@ -7,7 +7,7 @@ ghost use Rattle.text.specs.Ends.{end_of};
 ghost use Rattle.reader.specs.Places.{placed, lines_left};
 ghost use Rattle.reader.specs.Written.{writer_line, writer_read};
 
-use model::ranges::Writer;
+use model::ranges::WRITER;
 use text::{End, Fault, Kind, is_line};
 
 // A lent text, and the start of its next line.
@@ -86,8 +86,8 @@ impl<'a> Reader<'a> {
             self.at,
             b"writer=",
             1,
-            Writer::LEAST,
-            Writer::MOST,
+            WRITER.least,
+            WRITER.most,
         )?;
         Ok(WriterRead {
             writer: row.values[0],
