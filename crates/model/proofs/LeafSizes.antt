@@ -13,8 +13,8 @@ use Rattle.model.specs.Ranges.{Between, All, GoodUnit, GoodPrice, WellFormed}
 use Rattle.model.specs.Above.{Marks, rest, Above}
 use Rattle.model.specs.Leaf.{unit_least, units_least, requirement, leaf_value}
 use Rattle.model.specs.Ramps.{RampPrices, ramp_least, Steps, rest_steps, ups, downs, ramp_leasts, ramp_leaf_value}
-use Rattle.model.specs.declared.figures.Bound.{Bound}
-use Rattle.model.specs.declared.figures.Bound.TheVariants.{Never as never, Number as number}
+use Rattle.model.specs.Figures.{Bound}
+use Rattle.std.specs.Prelude.{None as never, Some as number}
 use Rattle.model.specs.Tree.{Leaf, short, crowd, stuck, price, ramp, StepMultipliers, GoodLeaf, leaf_bound}
 use Rattle.model.specs.Prices.{price_walks, offsets}
 use Rattle.model.proofs.Integers.{up, down, +ℤ-nat}

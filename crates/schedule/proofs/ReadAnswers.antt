@@ -9,11 +9,11 @@ use Rattle.model.specs.Held.{pad}
 use Rattle.refusal.specs.declared.Refusal.{Refusal}
 use Rattle.schedule.specs.ReadAnswers.{Outcome, refused_by, accepted_as, schedule_outcome, in_arrays, schedule_read}
 use Rattle.schedule.specs.declared.Priced.{Priced}
-use Rattle.schedule.specs.declared.ScheduleAnswer.TheVariants.{Refused, Accepted}
+use Rattle.std.specs.Prelude.{Ok, Err}
 
 -- ---- by the answer
 
-refused_was : (r : Refusal) (o : Outcome) → (in_arrays o).answer ≡ Refused r → (o ≡ refused_by r) × ((in_arrays o).rows ≡ replicate 1536 0)
+refused_was : (r : Refusal) (o : Outcome) → (in_arrays o).answer ≡ Err r → (o ≡ refused_by r) × ((in_arrays o).rows ≡ replicate 1536 0)
 unfolding in_arrays
 refused_was r (refused_by x) e = (cc, refl)
 refused_was r (accepted_as w c s) e = absurd (let z : ◌≡◌ {A = ℕ} 0 1 = cc in omega arith)
@@ -24,7 +24,7 @@ pub record Holds (a : Priced) (o : Outcome) : Type 0 where
   pub outcome : o ≡ accepted_as a.writer a.cost schedule
   pub array : (in_arrays o).rows ≡ pad 0 1536 (flatten schedule)
 
-accepted_was : (a : Priced) (o : Outcome) → (in_arrays o).answer ≡ Accepted a → Holds a o
+accepted_was : (a : Priced) (o : Outcome) → (in_arrays o).answer ≡ Ok a → Holds a o
 unfolding in_arrays
 accepted_was a (refused_by x) e = absurd (let z : ◌≡◌ {A = ℕ} 0 1 = cc in omega arith)
 accepted_was a (accepted_as w c s) e =
@@ -39,11 +39,11 @@ accepted_was a (accepted_as w c s) e =
 
 module _ (P : Instance) (text : List ℕ) where
   -- refused: nothing is kept
-  pub answer_refused : (r : Refusal) → (schedule_read P text).answer ≡ Refused r
+  pub answer_refused : (r : Refusal) → (schedule_read P text).answer ≡ Err r
       → (schedule_outcome P text ≡ refused_by r) × ((schedule_read P text).rows ≡ replicate 1536 0)
   unfolding schedule_read
   answer_refused r e = refused_was r (schedule_outcome P text) e
 
-  pub answer_accepted : (a : Priced) → (schedule_read P text).answer ≡ Accepted a → Holds a (schedule_outcome P text)
+  pub answer_accepted : (a : Priced) → (schedule_read P text).answer ≡ Ok a → Holds a (schedule_outcome P text)
   unfolding schedule_read
   answer_accepted a e = accepted_was a (schedule_outcome P text) e

@@ -12,7 +12,6 @@ use Rattle.judge.proofs.RuleByRule.{refused_is, accepted_is}
 use Rattle.schedule.specs.Refusals.{written}
 use Rattle.schedule.specs.ReadAnswers.{refused_by, accepted_as, by_rules, ruled, in_arrays}
 use Rattle.schedule.specs.Storing.{Filled}
-use Rattle.schedule.specs.declared.ScheduleAnswer.TheVariants.{Accepted}
 use Rattle.schedule.proofs.Filling.{filled_joined}
 
 module _ (P : Instance) (s : Schedule) (w : ℕ) where
@@ -27,6 +26,6 @@ module _ (P : Instance) (s : Schedule) (w : ℕ) where
 
 -- the array that is filled with the rows holds what is accepted
 pub accepted_held : (k T : ℕ) (l : List ℕ) (w c : ℕ) → Filled k T l
-    → record { answer = Accepted (record { writer = w; cost = c }); rows = l } ≡ in_arrays (accepted_as w c (cut_rows k T l))
+    → record { answer = Ok (record { writer = w; cost = c }); rows = l } ≡ in_arrays (accepted_as w c (cut_rows k T l))
 unfolding in_arrays
-accepted_held k T l w c f = ap (λ (rows : List ℕ). record { answer = Accepted (record { writer = w; cost = c }); rows = rows }) (sym (filled_joined k T l f))
+accepted_held k T l w c f = ap (λ (rows : List ℕ). record { answer = Ok (record { writer = w; cost = c }); rows = rows }) (sym (filled_joined k T l f))

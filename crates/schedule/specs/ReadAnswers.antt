@@ -1,5 +1,5 @@
 -- The whole answer to a schedule's text, and what reading it gives.
-use Rattle.std.specs.Prelude.{ℕ, ◌≡◌, replicate}
+use Rattle.std.specs.Prelude.{ℕ, ◌≡◌, replicate, Ok, Err}
 use mathlib.Core.List.{List, flatten}
 use Rattle.std.proofs.Math.Option.{Option, none, some}
 use Rattle.model.specs.Instance.{Instance, Schedule}
@@ -13,7 +13,6 @@ use Rattle.text.specs.Course.{Judged, refused_at, accepted}
 use Rattle.text.specs.declared.Kind.TheVariants as kind
 use Rattle.schedule.specs.Course.{schedule_judged}
 use Rattle.schedule.specs.Refusals.{Written}
-use Rattle.schedule.specs.declared.ScheduleAnswer.TheVariants.{Refused, Accepted}
 use Rattle.schedule.specs.declared.ScheduleRead.{ScheduleRead}
 
 -- the first line is kind=schedule
@@ -46,8 +45,8 @@ schedule_outcome P text = by_lines P (schedule_judged P text)
 -- ---- the same in arrays: the rows one after the other and zeros after them, only zeros where the text is refused
 
 unfoldable pub in_arrays : Outcome → ScheduleRead
-in_arrays (refused_by r) = record { answer = Refused r; rows = replicate 1536 0 }
-in_arrays (accepted_as w c s) = record { answer = Accepted (record { writer = w; cost = c }); rows = pad 0 1536 (flatten s) }
+in_arrays (refused_by r) = record { answer = Err r; rows = replicate 1536 0 }
+in_arrays (accepted_as w c s) = record { answer = Ok (record { writer = w; cost = c }); rows = pad 0 1536 (flatten s) }
 
 unfoldable pub schedule_read : Instance → List ℕ → ScheduleRead
 schedule_read P text = in_arrays (schedule_outcome P text)

@@ -8,15 +8,15 @@ ghost use Rattle.judge.specs.Rows.{schedule_of};
 ghost use Rattle.schedule.specs.Course.{runs_due, end_due};
 ghost use Rattle.schedule.specs.Refusals.{written};
 ghost use Rattle.schedule.specs.ReadAnswers.{IsSchedule, refused_by, ruled, in_arrays, schedule_read};
-ghost use Rattle.schedule.specs.Storing.{read_from, Filled};
+ghost use Rattle.text.specs.Forms.{fault_number};
+ghost use Rattle.schedule.specs.Storing.{refused_read, read_from, Filled};
 
 mod rows;
 
 use model::arrays::Problem;
 use model::ranges::OUTPUT;
-use reader::Written;
 use refusal::Refusal;
-use text::{End, Verdict};
+use text::{End, Fault};
 
 // An accepted schedule's writer and its cost.
 #[derive(Clone, Copy)]
@@ -25,29 +25,33 @@ pub struct Priced {
     pub cost: u64,
 }
 
-// What a schedule's text is: refused, or accepted.
-#[derive(Clone, Copy)]
-pub enum ScheduleAnswer {
-    Refused(Refusal),
-    Accepted(Priced),
-}
-
-// The answer, and the rows: row u from u times T on, zeros after the last; only zeros where the text is refused.
+// What a schedule's text is found to be: its writer and cost, or its refusal; and the rows: row u from u times T on, zeros after the last; only zeros where
+// the text is refused. The rows stand beside the answer and not in its Ok, since what they are beside a refusal is promised too (must-fail
+// rows_kept_where_refused).
 #[derive(Clone, Copy)]
 pub struct ScheduleRead {
-    pub answer: ScheduleAnswer,
+    pub answer: Result<Priced, Refusal>,
     pub rows: [u16; 1536],
 }
+
+// Where the second line starts: after kind=schedule and its byte 10.
+const SECOND_LINE: usize = 14;
 
 // What reading gives of a text that this number refuses.
 fn refuse_text(number: u64, line: usize, unit: usize, period: usize) -> ScheduleRead
     ensures { result ≡ in_arrays (refused_by (refusal_of number line unit period)) }
 {
-    let refusal = refusal::refuse(number, line, unit, period);
     ScheduleRead {
-        answer: ScheduleAnswer::Refused(refusal),
+        answer: Err(refusal::refuse(number, line, unit, period)),
         rows: [0; 1536],
     }
+}
+
+// What reading gives of a text by what is wrong with a line.
+fn refuse_line(fault: Fault, line: usize) -> ScheduleRead
+    ensures { result ≡ refused_read (fault_number fault) line }
+{
+    refuse_text(u64::from(fault), line, 0, 0)
 }
 
 // What reading gives of a text whose first line is kind=schedule.
@@ -55,11 +59,9 @@ pub fn read_schedule(problem: Problem, text: &[u8]) -> ScheduleRead
     requires { Valid problem × IsSchedule text.now }
     ensures { result ≡ schedule_read (view problem) text.now }
 {
-    let line = reader::read_writer(text, 14);
-    let written = line.written;
-    match written {
-        Written::Refused { number } => refuse_text(number, 2, 0, 0),
-        Written::By { writer } => read_from_runs(problem, text, line.next, writer),
+    match reader::read_writer(text, SECOND_LINE) {
+        Ok(line) => read_from_runs(problem, text, line.next, line.writer),
+        Err(fault) => refuse_line(fault, 2),
     }
 }
 
@@ -68,33 +70,19 @@ fn read_from_runs(problem: Problem, text: &[u8], at: usize, writer: u64) -> Sche
     requires { Valid problem }
     ensures { result ≡ read_from (view problem) text.now at 3 (runs_due problem.units (written writer [])) }
 {
-    let units = problem.units;
     let periods = problem.periods;
     let mut rows = [0u16; 1536];
     let mut values = [0u64; 48];
-    let mut i = at;
-    let mut k: usize = 0;
-    while k < units {
-        let verdict = text::fill_row(
-            text,
-            i,
-            b"run=",
-            OUTPUT.least,
-            OUTPUT.most,
-            &mut values[..periods],
-        );
-        match verdict {
-            Verdict::Refused { number } => {
-                return refuse_text(number, k + 3, 0, 0);
-            }
-            Verdict::Good { next } => {
-                rows::store_row(&mut rows, k * periods, &values[..periods]);
-                i = next;
-                k += 1;
-            }
+    let mut next = at;
+    for k in 0..problem.units {
+        let outputs = &mut values[..periods];
+        match text::fill_row(text, next, b"run=", OUTPUT.least, OUTPUT.most, outputs) {
+            Ok(after) => next = after,
+            Err(fault) => return refuse_line(fault, k + 3),
         }
+        rows::store_row(&mut rows, k * periods, &values[..periods]);
     }
-    read_from_end(problem, text, i, writer, rows)
+    read_from_end(problem, text, next, writer, rows)
 }
 
 // What reading gives of a text whose end line starts at `at`, after lines that said these rows.
@@ -109,10 +97,9 @@ fn read_from_end(
     ensures { result ≡ read_from (view problem) text.now at (problem.units + 3) (end_due (written writer (schedule_of problem rows))) }
 {
     let line = problem.units + 3;
-    let end = reader::read_end(text, at, b"end=schedule");
-    match end {
-        End::Missing => refuse_text(12, line, 0, 0),
-        End::Followed => refuse_text(12, line + 1, 0, 0),
+    match reader::read_end(text, at, b"end=schedule") {
+        End::Missing => refuse_line(Fault::Malformed, line),
+        End::Followed => refuse_line(Fault::Malformed, line + 1),
         End::Last => judge_rows(problem, writer, rows),
     }
 }
@@ -125,7 +112,7 @@ fn judge_rows(problem: Problem, writer: u64, rows: [u16; 1536]) -> ScheduleRead
     let n = problem.units * problem.periods;
     match judge::judge(problem, &rows[..n]) {
         Ok(cost) => ScheduleRead {
-            answer: ScheduleAnswer::Accepted(Priced { writer, cost }),
+            answer: Ok(Priced { writer, cost }),
             rows,
         },
         Err(broken) => refuse_text(broken.number, 0, broken.place.unit, broken.place.period),

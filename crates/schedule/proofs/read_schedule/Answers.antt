@@ -13,14 +13,14 @@ use Rattle.schedule.proofs.read_schedule.Lts as lts
 many : (c : lts.Start tie.the-claims reads.Pre reads.Post) → length c.args.problem.generators ≡ 32
 many c = c.well_formed.0.1.1.1.1.1.1.0.1.0.1
 
-pub returns-in-Refused : goal.returns-in-Refused
-returns-in-Refused c =
+pub returns-in-Err : goal.returns-in-Err
+returns-in-Err c =
     let text = c.args.text.now in
-    c.refuse_text.ensures
-    ∙ sym (opening_stopped (view c.args.problem) text c.requires.1 (line_refused (line_at text 14) 14 c.read_writer-line.result c.read_writer-line.ensures _ c.in-Refused.is))
+    c.refuse_line.ensures
+    ∙ sym (opening_stopped (view c.args.problem) text c.requires.1 (line_refused (line_at text 14) 14 c.read_writer.result c.read_writer.ensures _ c.in-Err.is))
 
-pub returns-in-By : goal.returns-in-By
-returns-in-By c =
+pub returns-in-Ok : goal.returns-in-Ok
+returns-in-Ok c =
     let text = c.args.text.now in
     c.read_from_runs.ensures
-    ∙ sym (opening_passed c.args.problem c.requires.0 (many c.before.before.before.before.before) text c.requires.1 (line_written (line_at text 14) 14 c.read_writer-line.result c.read_writer-line.ensures _ c.in-By.is))
+    ∙ sym (opening_passed c.args.problem c.requires.0 (many c.before.before.before.before.before) text c.requires.1 (line_written (line_at text 14) 14 c.read_writer.result c.read_writer.ensures _ c.in-Ok.is))

@@ -5,4 +5,4 @@ use Rattle.schedule.proofs.refuse_text.Goals as goal
 
 pub returns : goal.returns
 unfolding in_arrays
-returns c = ap (λ (r : Refusal). in_arrays (refused_by r)) c.refuse-refusal.ensures
+returns c = ap (λ (r : Refusal). in_arrays (refused_by r)) c.refuse.ensures
