@@ -36,7 +36,7 @@ fn bound_figure(bound: HeldBound) -> Figure
 {
     match bound {
         HeldBound::Nothing => Figure::Missing,
-        HeldBound::Number(n) => writer::figure_of(n.value),
+        HeldBound::Number(n) => Figure::from(n.value),
         HeldBound::Never(_) => Figure::Never,
     }
 }
@@ -58,7 +58,7 @@ fn difference_figure(cost: u64, value: i64) -> Figure
     ensures { result ≡ figure_of (pos cost -ℤ value) }
 {
     let gap = cost as i64 - value;
-    writer::figure_of(gap)
+    Figure::from(gap)
 }
 
 // Cost minus bound, where both are numbers.

@@ -10,4 +10,4 @@ use Rattle.answer.proofs.figure_of_bound.Goals as goal
 pub returns-in-Number : goal.returns-in-Number
 returns-in-Number c =
     let z : to_z w64 (of_z w64 c.in-Number.z) ≡ c.in-Number.z = search rules in
-    c.figure_of.ensures ∙ ap figure_of z ∙ number_shown _ c.in-Number.z c.in-Number.is
+    c.from.ensures ∙ ap figure_of z ∙ number_shown _ c.in-Number.z c.in-Number.is
