@@ -1,5 +1,6 @@
 -- Of every value of the struct, sound or not (demand 1): what is refused gets document 01's number and place under the problem that the
 -- value judges by; what is refused or passed leaves it; and a report leaves it and writes what it shows at the place, or is 43.
+use Rattle.std.specs.Prelude.{None, Some}
 use mathlib.Core.Path.{◌≡◌, refl, sym, ap, subst, ◌∙◌}
 use mathlib.Core.Bool.{Bool, true, false, ◌&&◌, cond}
 use mathlib.Core.List.{List}
@@ -27,11 +28,9 @@ use Rattle.answer.specs.StatedAnswers.{stated}
 use Rattle.docket.specs.declared.Docket.{Docket}
 use Rattle.docket.specs.declared.held.CostBy.{CostBy}
 use Rattle.docket.specs.declared.held.BoundBy.{BoundBy}
-use Rattle.docket.specs.declared.held.HeldCost.{HeldCost}
-use Rattle.docket.specs.declared.held.HeldCost.TheVariants as cost
 use Rattle.docket.specs.declared.held.HeldBound.{HeldBound}
 use Rattle.docket.specs.declared.held.HeldBound.TheVariants as bound
-use Rattle.docket.specs.Docket.{fresh_docket, size_limit, small_number, small_cost, small_bound, sound}
+use Rattle.docket.specs.Docket.{HeldCost, fresh_docket, size_limit, small_number, small_cost, small_bound, sound}
 use Rattle.docket.specs.Verdicts as verdict
 use Rattle.docket.specs.Verdicts.{Verdict}
 use Rattle.docket.specs.Texts.{Is}
@@ -53,13 +52,13 @@ if_known false P = none
 abbrev judged_under : Docket → Option Instance
 judged_under d = if_known (trusted d).known (view (trusted d).problem)
 
-small_so : (c : HeldCost) → ((by : CostBy) → c ≡ cost.Number by → by.cost < size_limit) → small_cost c ≡ true
-small_so cost.Nothing h = refl
-small_so (cost.Number n) h = lt-ltb n.cost size_limit (h n refl)
+small_so : (c : HeldCost) → ((by : CostBy) → c ≡ Some by → by.cost < size_limit) → small_cost c ≡ true
+small_so None h = refl
+small_so (Some n) h = lt-ltb n.cost size_limit (h n refl)
 
-so_small : (c : HeldCost) → small_cost c ≡ true → (by : CostBy) → c ≡ cost.Number by → by.cost < size_limit
-so_small cost.Nothing s by e = absurd (let z : ◌≡◌ {A = ℕ} 0 1 = cc in omega arith)
-so_small (cost.Number n) s by e = let k : n ≡ by = cc in subst (λ (x : CostBy). x.cost < size_limit) k (ltb-true n.cost size_limit s)
+so_small : (c : HeldCost) → small_cost c ≡ true → (by : CostBy) → c ≡ Some by → by.cost < size_limit
+so_small None s by e = absurd (let z : ◌≡◌ {A = ℕ} 0 1 = cc in omega arith)
+so_small (Some n) s by e = let k : n ≡ by = cc in subst (λ (x : CostBy). x.cost < size_limit) k (ltb-true n.cost size_limit s)
 
 bounded_so : (b : HeldBound) → ((by : BoundBy) → b ≡ bound.Number by → T (small_number by.value)) → small_bound b ≡ true
 bounded_so bound.Nothing h = refl

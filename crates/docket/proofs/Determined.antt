@@ -1,5 +1,6 @@
 -- Demand 3 leaves nothing open: what the texts of a list are is one list of verdicts, of a list only one member is the first of the best, and an answer
 -- is known by what it states. So two ways of lodging that both meet it give the same answers and the same docket after every list.
+use Rattle.std.specs.Prelude.{None, Some}
 use mathlib.Core.Path.{◌≡◌, refl, sym, ap, subst, ◌∙◌}
 use mathlib.Core.Bool.{Bool}
 use mathlib.Core.List.Memᴰ
@@ -15,13 +16,11 @@ use Rattle.model.specs.Best.{First}
 use Rattle.model.proofs.Lists.{held_least, held_highest}
 use Rattle.tree.specs.Acceptance.{Bounded}
 use Rattle.docket.specs.declared.Docket.{Docket}
-use Rattle.docket.specs.declared.held.HeldCost.{HeldCost}
-use Rattle.docket.specs.declared.held.HeldCost.TheVariants as cost
 use Rattle.docket.specs.declared.held.HeldBound.{HeldBound}
 use Rattle.docket.specs.declared.held.HeldBound.TheVariants as bound
 use Rattle.answer.specs.declared.Answer.{Answer}
 use Rattle.answer.specs.declared.Answer.TheVariants.{Refused, TextHeld, ScheduleHeld, SchedulePassed, TreeHeld, TreePassed}
-use Rattle.docket.specs.Docket.{fresh_docket}
+use Rattle.docket.specs.Docket.{HeldCost, fresh_docket}
 use Rattle.answer.specs.StatedAnswers as answers
 use Rattle.answer.specs.StatedAnswers.{no_values, its_cost, its_bound, Stated, stated}
 use Rattle.docket.specs.Verdicts.{Costed, Verdict, schedules, trees, known_at_end}
@@ -66,15 +65,15 @@ no_first better h l f e = Memᴰ.not-nil (subst (λ (k : List _). Memᴰ h k) e 
 
 module _ (P : Instance) where
   cost_one : (l : List Costed) (c c' : HeldCost) (rows rows' : List ℕ) → CostHeld P l c rows → CostHeld P l c' rows' → (c ≡ c') × (rows ≡ rows')
-  cost_one l cost.Nothing cost.Nothing rows rows' p q = (refl, p.1 ∙ sym q.1)
-  cost_one l cost.Nothing (cost.Number n) rows rows' p q = absurd (no_first by_cost q.best l q.first p.0)
-  cost_one l (cost.Number n) cost.Nothing rows rows' p q = absurd (no_first by_cost p.best l p.first q.0)
-  cost_one l (cost.Number n) (cost.Number n') rows rows' p q =
+  cost_one l None None rows rows' p q = (refl, p.1 ∙ sym q.1)
+  cost_one l None (Some n) rows rows' p q = absurd (no_first by_cost q.best l q.first p.0)
+  cost_one l (Some n) None rows rows' p q = absurd (no_first by_cost p.best l p.first q.0)
+  cost_one l (Some n) (Some n') rows rows' p q =
       let e : p.best ≡ q.best =
       one_first by_cost (cheaper_trans (λ (x : Costed). x.cost)) (cheaper_weak (λ (x : Costed). x.cost)) (held_least (λ (x : Costed). x.cost)) p.best q.best l p.first q.first in
       let c : n.cost ≡ n'.cost = p.held_cost ∙ ap (λ (x : Costed). x.cost) e ∙ sym q.held_cost in
       let w : n.writer ≡ n'.writer = p.held_writer ∙ ap (λ (x : Costed). x.writer) e ∙ sym q.held_writer in
-      ((λ i. cost.Number (record { cost = c i; writer = w i })), p.held_rows ∙ ap (λ (x : Costed). pad 0 1536 (flatten x.rows)) e ∙ sym q.held_rows)
+      ((λ i. Some (record { cost = c i; writer = w i })), p.held_rows ∙ ap (λ (x : Costed). pad 0 1536 (flatten x.rows)) e ∙ sym q.held_rows)
 
   same_bound : (l : List Bounded) (b b' : Bound) (w w' : ℕ) → HoldsBound l b w → HoldsBound l b' w' → (b ≡ b') × (w ≡ w')
   same_bound l b b' w w' p q =

@@ -1,4 +1,5 @@
 -- Cost minus bound fits an i64 where both are small, and what a sound docket holds is small.
+use Rattle.std.specs.Prelude.{None, Option, Some, is_some, not}
 use mathlib.Core.Path.{◌≡◌, refl}
 use mathlib.Core.Bool.{Bool, true, false, cond}
 use Prim.Native.Nat.{ℕ, zero, suc, ◌-◌, ◌<◌}
@@ -17,8 +18,6 @@ use Rattle.docket.specs.declared.held.Held.{Held}
 use Rattle.writer.specs.Written.{figure_of}
 use Rattle.docket.specs.declared.held.CostBy.{CostBy}
 use Rattle.docket.specs.declared.held.BoundBy.{BoundBy}
-use Rattle.docket.specs.declared.held.HeldCost.{HeldCost}
-use Rattle.docket.specs.declared.held.HeldCost.TheVariants as cost
 use Rattle.docket.specs.declared.held.HeldBound.{HeldBound}
 use Rattle.docket.specs.declared.held.HeldBound.TheVariants as bound
 use Rattle.docket.specs.Docket.{size_limit, small_number, small_cost, small_bound, no_cost, no_bound, sound_by, sound}
@@ -41,7 +40,7 @@ gap_fits n (negsuc b) h e = record { sfits = omega (arith, small_size (negsuc b)
 
 -- ---- where both are numbers
 
-module _ (h : HeldCost) (c : CostBy) (e : h ≡ cost.Number c) where
+module _ (h : Option CostBy) (c : CostBy) (e : h ≡ Some c) where
   pub cost_below : small_cost h ≡ true → c.cost < size_limit
   cost_below t = ltb-true c.cost size_limit (rw e at t)
 
@@ -54,11 +53,11 @@ module _ (h : HeldCost) (c : CostBy) (e : h ≡ cost.Number c) where
 
 -- ---- what a sound docket holds is small
 
-nothing_small : (c : HeldCost) (b : HeldBound) → no_cost c ≡ true → no_bound b ≡ true → (small_cost c ≡ true) × (small_bound b ≡ true)
-nothing_small cost.Nothing bound.Nothing e f = (refl, refl)
-nothing_small cost.Nothing (bound.Number n) e f = absurd (let z : ◌≡◌ {A = ℕ} 0 1 = cc in omega arith)
-nothing_small cost.Nothing (bound.Never n) e f = (refl, refl)
-nothing_small (cost.Number n) b e f = absurd (let z : ◌≡◌ {A = ℕ} 0 1 = cc in omega arith)
+nothing_small : (c : Option CostBy) (b : HeldBound) → no_cost c ≡ true → no_bound b ≡ true → (small_cost c ≡ true) × (small_bound b ≡ true)
+nothing_small None bound.Nothing e f = (refl, refl)
+nothing_small None (bound.Number n) e f = absurd (let z : ◌≡◌ {A = ℕ} 0 1 = cc in omega arith)
+nothing_small None (bound.Never n) e f = (refl, refl)
+nothing_small (Some n) b e f = absurd (let z : ◌≡◌ {A = ℕ} 0 1 = cc in omega arith)
 
 small_by : (known : Bool) (p : Problem) (h : Held) → sound_by known p h ≡ true → (small_cost h.cost ≡ true) × (small_bound h.bound ≡ true)
 small_by true p h e = and_true (small_cost h.cost) (small_bound h.bound) (and_true (valid_problem p) _ e).1
@@ -67,3 +66,7 @@ small_by false p h e = let n = and_true (no_cost h.cost) (no_bound h.bound) e in
 pub sound_small : (d : Docket) → sound d ≡ true → (small_cost d.held.cost ≡ true) × (small_bound d.held.bound ≡ true)
 unfolding sound
 sound_small d e = small_by d.known d.problem d.held e
+
+pub no_cost_is : (c : Option CostBy) → no_cost c ≡ not (is_some c)
+no_cost_is None = refl
+no_cost_is (Some n) = refl

@@ -14,7 +14,7 @@ use Rattle.model.specs.declared.generator.Generator.{Generator}
 use Rattle.model.specs.Instance.{Instance, ◌at◌}
 use Rattle.model.specs.Ranges.{GoodUnit, WellFormed}
 use Rattle.model.specs.Held.{view, blank_generator}
-use Rattle.model.specs.Above.{Mark, fixed, Marks, allows, root}
+use Rattle.model.specs.Above.{Mark, Marks, allows, root}
 use Rattle.model.specs.Agreement.{LeafOf, above, leaf_at}
 use Rattle.model.specs.Leaf.{is_stuck, unit_least}
 use Rattle.model.specs.Forced.{unit_answer, force, forced_least, forced_tables, value_number, stuck_number}

@@ -1,5 +1,6 @@
 -- The rows that a docket holds, read back from its array: cut into a row of T outputs for each unit they are the rows of the first accepted schedule with
 -- the least cost. So what stands in the array meets the rules and costs what is held.
+use Rattle.std.specs.Prelude.{Some}
 use mathlib.Core.Path.{◌≡◌, sym, ap, subst, ◌∙◌}
 use mathlib.Core.List.{List, []}
 use mathlib.Core.Option.{Option, none, some}
@@ -14,10 +15,9 @@ use Rattle.model.proofs.Unbroken.{meets_shaped}
 use Rattle.judge.specs.Rows.{cut_rows, schedule_of}
 use Rattle.judge.proofs.Rows.{cut_rows_at}
 use Rattle.schedule.proofs.Filling.{rows_held}
+use Rattle.docket.specs.Docket.{HeldCost}
 use Rattle.docket.specs.declared.Docket.{Docket}
 use Rattle.docket.specs.declared.held.CostBy.{CostBy}
-use Rattle.docket.specs.declared.held.HeldCost.{HeldCost}
-use Rattle.docket.specs.declared.held.HeldCost.TheVariants as cost
 use Rattle.docket.specs.Verdicts.{Costed, schedules, known_at_end}
 use Rattle.docket.specs.Demand3.{reached, HoldsSchedule, CostHeld, Holding, HoldsUnder, Lodging, Reporting, Writing, Demand3}
 
@@ -39,7 +39,7 @@ module _ (P : Instance) (accepted : List Costed) (by : CostBy) (d : Docket) (hel
 -- ---- after every list
 
 module _ (lodge : Lodging) {report : Reporting} {buffer : Writing} (D : Demand3 lodge report buffer) (texts : List (List ℕ)) (P : Instance)
-    (known : known_at_end none (D texts).verdicts ≡ some P) (by : CostBy) (e : (reached lodge texts).held.cost ≡ cost.Number by) where
+    (known : known_at_end none (D texts).verdicts ≡ some P) (by : CostBy) (e : (reached lodge texts).held.cost ≡ Some by) where
   under : HoldsUnder P (D texts).verdicts (reached lodge texts)
   under = subst (λ (o : Option Instance). Holding o (D texts).verdicts (reached lodge texts)) known (D texts).holds
 

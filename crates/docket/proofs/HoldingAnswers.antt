@@ -1,5 +1,6 @@
 -- Lodging, by what the readers give: an admitted text is of its kind, what lodging does with its verdict is what is done with its reader's answer, and
 -- a schedule or a tree is admitted only under a known problem, so that what is done with it is done over the docket itself.
+use Rattle.std.specs.Prelude.{Err, Ok, Result}
 use mathlib.Core.Path.{◌≡◌, refl, sym, ap, ◌∙◌}
 use mathlib.Core.Bool.{Bool, true, false, ◌&&◌, cond}
 use mathlib.Core.List.{List}
@@ -26,12 +27,11 @@ use Rattle.tree.specs.ReadAnswers.{tree_read}
 use Rattle.docket.specs.declared.Docket.{Docket}
 use Rattle.docket.specs.declared.admission.Admission.{Admission}
 use Rattle.docket.specs.declared.admission.Admission.TheVariants as admission
-use Rattle.docket.specs.declared.admission.Screened.TheVariants as screened
 use Rattle.answer.specs.declared.Answer.TheVariants.{Refused}
 use Rattle.docket.specs.Docket.{fresh_docket, sound_by, sound}
 use Rattle.docket.specs.Texts.{Short}
 use Rattle.docket.specs.Lodging.{refuse_whole, admit_kind, admit, by_problem, by_schedule, by_tree, verdict_by, text_judged, lodged, hold, trusted, lodge_of}
-use Rattle.docket.specs.HoldingAnswers.{screen, hold_problem, hold_schedule, hold_tree}
+use Rattle.docket.specs.HoldingAnswers.{hold_problem, hold_schedule, hold_tree}
 
 -- ---- admitted
 
@@ -42,7 +42,7 @@ pub record Admitted (known : Bool) (text : List ℕ) (k : Kind) (held : Bool) : 
   pub known_is : known ≡ held
 
 module _ (known : Bool) (text : List ℕ) where
-  of_kind : (k : Kind) (held : Bool) (a : Admission) → ((j : Kind) (b : Bool) → admit_kind j b ≡ a → (j ≡ k) × (b ≡ held)) → ((n l : ℕ) → refuse_whole n l ≡ a → ⊥)
+  of_kind : (k : Kind) (held : Bool) (a : Result Admission Refusal) → ((j : Kind) (b : Bool) → admit_kind j b ≡ a → (j ≡ k) × (b ≡ held)) → ((n l : ℕ) → refuse_whole n l ≡ a → ⊥)
       → admit known text ≡ a
       → Admitted known text k held
   unfolding admit
@@ -55,10 +55,10 @@ module _ (known : Bool) (text : List ℕ) where
   clash : {A : Type 0} → ◌≡◌ {A = ℕ} 0 1 → A
   clash z = absurd (omega arith)
 
-  pub admitted_problem : admit known text ≡ admission.Problem → Admitted known text kind.Problem false
-  admitted_problem = of_kind kind.Problem false admission.Problem go (λ n l e. clash (cc))
+  pub admitted_problem : admit known text ≡ Ok admission.Problem → Admitted known text kind.Problem false
+  admitted_problem = of_kind kind.Problem false (Ok admission.Problem) go (λ n l e. clash (cc))
     where
-      go : (j : Kind) (b : Bool) → admit_kind j b ≡ admission.Problem → (j ≡ kind.Problem) × (b ≡ false)
+      go : (j : Kind) (b : Bool) → admit_kind j b ≡ Ok admission.Problem → (j ≡ kind.Problem) × (b ≡ false)
       go kind.Unknown b e = clash (cc)
       go kind.Problem true e = clash (cc)
       go kind.Problem false e = (refl, refl)
@@ -67,10 +67,10 @@ module _ (known : Bool) (text : List ℕ) where
       go kind.Tree true e = clash (cc)
       go kind.Tree false e = clash (cc)
 
-  pub admitted_schedule : admit known text ≡ admission.Schedule → Admitted known text kind.Schedule true
-  admitted_schedule = of_kind kind.Schedule true admission.Schedule go (λ n l e. clash (cc))
+  pub admitted_schedule : admit known text ≡ Ok admission.Schedule → Admitted known text kind.Schedule true
+  admitted_schedule = of_kind kind.Schedule true (Ok admission.Schedule) go (λ n l e. clash (cc))
     where
-      go : (j : Kind) (b : Bool) → admit_kind j b ≡ admission.Schedule → (j ≡ kind.Schedule) × (b ≡ true)
+      go : (j : Kind) (b : Bool) → admit_kind j b ≡ Ok admission.Schedule → (j ≡ kind.Schedule) × (b ≡ true)
       go kind.Unknown b e = clash (cc)
       go kind.Problem true e = clash (cc)
       go kind.Problem false e = clash (cc)
@@ -79,10 +79,10 @@ module _ (known : Bool) (text : List ℕ) where
       go kind.Tree true e = clash (cc)
       go kind.Tree false e = clash (cc)
 
-  pub admitted_tree : admit known text ≡ admission.Tree → Admitted known text kind.Tree true
-  admitted_tree = of_kind kind.Tree true admission.Tree go (λ n l e. clash (cc))
+  pub admitted_tree : admit known text ≡ Ok admission.Tree → Admitted known text kind.Tree true
+  admitted_tree = of_kind kind.Tree true (Ok admission.Tree) go (λ n l e. clash (cc))
     where
-      go : (j : Kind) (b : Bool) → admit_kind j b ≡ admission.Tree → (j ≡ kind.Tree) × (b ≡ true)
+      go : (j : Kind) (b : Bool) → admit_kind j b ≡ Ok admission.Tree → (j ≡ kind.Tree) × (b ≡ true)
       go kind.Unknown b e = clash (cc)
       go kind.Problem true e = clash (cc)
       go kind.Problem false e = clash (cc)
@@ -189,37 +189,31 @@ module _ (d : Docket) where
 -- ---- by the admission
 
 module _ (d : Docket) (text : List ℕ) where
-  by_admission : (a : Admission) → admit (trusted d).known text ≡ a → lodge_of d text ≡ hold d (trusted d) (verdict_by a (view (trusted d).problem) text)
+  by_admission : (a : Result Admission Refusal) → admit (trusted d).known text ≡ a → lodge_of d text ≡ hold d (trusted d) (verdict_by a (view (trusted d).problem) text)
   unfolding lodge_of text_judged
   by_admission a e = rw e refl
 
-  pub refused_lodged : (r : Refusal) → admit (trusted d).known text ≡ admission.Refused r → lodge_of d text ≡ lodged d (Refused r)
-  refused_lodged r e = by_admission (admission.Refused r) e
+  pub refused_lodged : (r : Refusal) → admit (trusted d).known text ≡ Err r → lodge_of d text ≡ lodged d (Refused r)
+  refused_lodged r e = by_admission (Err r) e
 
   -- so a text that is refused before its lines need not be lodged in a sound docket
-  pub screened_lodged : sound d ≡ true → (r : Refusal) → screen (admit d.known text) ≡ screened.Refused r → lodge_of d text ≡ lodged d (Refused r)
-  screened_lodged s r e = refused_lodged r (ap (λ (x : Docket). admit x.known text) (itself d s) ∙ go (admit d.known text) e)
-    where
-      go : (a : Admission) → screen a ≡ screened.Refused r → a ≡ admission.Refused r
-      go (admission.Refused q) h = ap admission.Refused (cc)
-      go admission.Problem h = absurd (let z : ◌≡◌ {A = ℕ} 0 1 = cc in omega arith)
-      go admission.Schedule h = absurd (let z : ◌≡◌ {A = ℕ} 0 1 = cc in omega arith)
-      go admission.Tree h = absurd (let z : ◌≡◌ {A = ℕ} 0 1 = cc in omega arith)
+  pub screened_lodged : sound d ≡ true → (r : Refusal) → admit d.known text ≡ Err r → lodge_of d text ≡ lodged d (Refused r)
+  screened_lodged s r e = refused_lodged r (ap (λ (x : Docket). admit x.known text) (itself d s) ∙ e)
 
-  pub problem_lodged : admit (trusted d).known text ≡ admission.Problem → lodge_of d text ≡ hold_problem d (problem_read text).answer (problem_read text).problem
-  problem_lodged e = by_admission admission.Problem e ∙ problem_held d text (trusted d)
+  pub problem_lodged : admit (trusted d).known text ≡ Ok admission.Problem → lodge_of d text ≡ hold_problem d (problem_read text).answer (problem_read text).problem
+  problem_lodged e = by_admission (Ok admission.Problem) e ∙ problem_held d text (trusted d)
 
   -- under a known problem
-  over_itself : (a : Admission) → admit (trusted d).known text ≡ a → (trusted d).known ≡ true → lodge_of d text ≡ hold d d (verdict_by a (view d.problem) text)
+  over_itself : (a : Result Admission Refusal) → admit (trusted d).known text ≡ a → (trusted d).known ≡ true → lodge_of d text ≡ hold d d (verdict_by a (view d.problem) text)
   over_itself a e k = by_admission a e ∙ ap (λ (x : Docket). hold d x (verdict_by a (view x.problem) text)) (itself d (knows_sound d k))
 
-  pub schedule_lodged : admit (trusted d).known text ≡ admission.Schedule
+  pub schedule_lodged : admit (trusted d).known text ≡ Ok admission.Schedule
       → lodge_of d text ≡ hold_schedule d (schedule_read (view d.problem) text).answer (schedule_read (view d.problem) text).rows
   schedule_lodged e =
-      over_itself admission.Schedule e (admitted_schedule (trusted d).known text e).known_is
+      over_itself (Ok admission.Schedule) e (admitted_schedule (trusted d).known text e).known_is
       ∙ schedule_held d text (view d.problem)
 
-  pub tree_lodged : admit (trusted d).known text ≡ admission.Tree → lodge_of d text ≡ hold_tree d (tree_read (view d.problem) text)
+  pub tree_lodged : admit (trusted d).known text ≡ Ok admission.Tree → lodge_of d text ≡ hold_tree d (tree_read (view d.problem) text)
   tree_lodged e =
-      over_itself admission.Tree e (admitted_tree (trusted d).known text e).known_is
+      over_itself (Ok admission.Tree) e (admitted_tree (trusted d).known text e).known_is
       ∙ tree_held d text (view d.problem)

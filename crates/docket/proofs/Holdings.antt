@@ -1,4 +1,5 @@
 -- What is held after any list, clause by clause as demand 3 has it: whether, with what figures, of which accepted text, and what no schedule can undercut.
+use Rattle.std.specs.Prelude.{None, Some}
 use mathlib.Core.Path.{◌≡◌, refl, sym, ap, subst, ◌∙◌}
 use mathlib.Core.Bool.{Bool, not}
 use mathlib.Core.Option.{Option, none, some}
@@ -25,11 +26,9 @@ use Rattle.docket.specs.declared.Docket.{Docket}
 use Rattle.docket.specs.declared.held.CostBy.{CostBy}
 use Rattle.docket.specs.declared.held.BoundBy.{BoundBy}
 use Rattle.docket.specs.declared.held.NeverBy.{NeverBy}
-use Rattle.docket.specs.declared.held.HeldCost.{HeldCost}
-use Rattle.docket.specs.declared.held.HeldCost.TheVariants as cost
 use Rattle.docket.specs.declared.held.HeldBound.{HeldBound}
 use Rattle.docket.specs.declared.held.HeldBound.TheVariants as bound
-use Rattle.docket.specs.Docket.{fresh_docket}
+use Rattle.docket.specs.Docket.{HeldCost, fresh_docket}
 use Rattle.docket.specs.Lodging.{lodge_of}
 use Rattle.docket.specs.Verdicts.{Costed, Verdict, schedules, trees}
 use Rattle.docket.specs.Texts.{Are}
@@ -91,17 +90,17 @@ module _ (texts : List (List ℕ)) (vs : List Verdict) (are : Are none texts vs)
   nothing_yet e = subst (λ (o : Option Instance). Holding o vs (after texts)) e holding
 
   -- no schedule is held exactly where none was accepted, no bound exactly where no tree was
-  pub no_cost_is : ((after texts).held.cost ≡ cost.Nothing) ↔ (schedules vs ≡ [])
+  pub no_cost_is : ((after texts).held.cost ≡ None) ↔ (schedules vs ≡ [])
   no_cost_is = go (given vs) holding proper
     where
-      by_cost : (P : Instance) (c : HeldCost) → CostHeld P (schedules vs) c (after texts).rows → (c ≡ cost.Nothing) ↔ (schedules vs ≡ [])
-      by_cost P cost.Nothing h = ((λ e. h.0), (λ e. refl))
-      by_cost P (cost.Number by) h = (
+      by_cost : (P : Instance) (c : HeldCost) → CostHeld P (schedules vs) c (after texts).rows → (c ≡ None) ↔ (schedules vs ≡ [])
+      by_cost P None h = ((λ e. h.0), (λ e. refl))
+      by_cost P (Some by) h = (
         (λ e. absurd (let z : ◌≡◌ {A = ℕ} 0 1 = cc in omega arith)),
         (λ e. absurd (not_empty h.first.before h.first.after h.best (sym e ∙ h.first.parts))),
       )
 
-      go : (o : Option Instance) → Holding o vs (after texts) → Proper o vs → ((after texts).held.cost ≡ cost.Nothing) ↔ (schedules vs ≡ [])
+      go : (o : Option Instance) → Holding o vs (after texts) → Proper o vs → ((after texts).held.cost ≡ None) ↔ (schedules vs ≡ [])
       go none h p = ((λ e. p.0), (λ e. ap (λ (d : Docket). d.held.cost) h))
       go (some P) h p = by_cost P (after texts).held.cost h.cost_held
 
@@ -124,7 +123,7 @@ module _ (texts : List (List ℕ)) (vs : List Verdict) (are : Are none texts vs)
     pub under : HoldsUnder P vs (after texts)
     under = subst (λ (o : Option Instance). Holding o vs (after texts)) known holding
 
-    module _ (by : CostBy) (e : (after texts).held.cost ≡ cost.Number by) where
+    module _ (by : CostBy) (e : (after texts).held.cost ≡ Some by) where
       pub its_schedule : HoldsSchedule P (schedules vs) by (after texts).rows
       its_schedule = subst (λ (c : HeldCost). CostHeld P (schedules vs) c (after texts).rows) e under.cost_held
 

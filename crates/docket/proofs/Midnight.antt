@@ -1,5 +1,6 @@
 -- Document 02, [3], after a list of texts: what refuses a unit line, p0 in the problem held, and the ramps of period 1 in schedules; and that a tree is the same
 -- whatever p0 is.
+use Rattle.std.specs.Prelude.{Ok}
 use mathlib.Core.Path.{◌≡◌, refl, sym, ap, subst, ◌∙◌}
 use mathlib.Core.Bool.{Bool, true, false, cond}
 use mathlib.Core.List.{List, [], ◌∷◌}
@@ -13,7 +14,7 @@ use lib.ListN.{length}
 use Rattle.model.specs.declared.generator.Generator.{Generator}
 use Rattle.model.specs.Instance.{Instance, Schedule, ◌at◌, Each}
 use Rattle.model.specs.Ranges.{All, InRange, Ordered, GoodUnit, WellFormed}
-use Rattle.model.specs.Rules.{on, FirstRamp}
+use Rattle.model.specs.Rules.{FirstRamp}
 use Rattle.model.specs.Breach.{Breach}
 use Rattle.model.specs.Broken.{Of, OffRamp, Broken, limits, demand, spare, updown, ramps, midnight, Lower}
 use Rattle.model.specs.Unread.{AlikeButMidnight}
@@ -169,7 +170,7 @@ module _ (P P' : Instance) (alike : AlikeButMidnight P P') where
   unfolding text_judged admit
   judged_same text k = rw k (go (ltb 1048576 (length text)))
     where
-      go : (c : Bool) → verdict_by (cond c (refuse_whole 11 0) admission.Tree) P text ≡ verdict_by (cond c (refuse_whole 11 0) admission.Tree) P' text
+      go : (c : Bool) → verdict_by (cond c (refuse_whole 11 0) (Ok admission.Tree)) P text ≡ verdict_by (cond c (refuse_whole 11 0) (Ok admission.Tree)) P' text
       go true = refl
       go false = ap by_tree (judged_unread P P' alike text)
 

@@ -1,5 +1,6 @@
 -- Demand 3 leaves nothing open of a report: the first of the best is one, so one list of lines is due, and there is room for them or there is not. So any
 -- way of reporting that meets it gives the same answer, the same docket and the same buffer after every list.
+use Rattle.std.specs.Prelude.{Result, Ok, Err}
 use mathlib.Core.Path.{◌≡◌, refl, sym, ap, subst, ◌∙◌}
 use mathlib.Core.List.{List}
 use mathlib.Core.Logic.{inl, inr}
@@ -8,8 +9,7 @@ use Prim.Native.Nat.{ℕ}
 use native.Mathlib.Omega.{arith}
 use Rattle.model.proofs.Lists.{held_least, held_highest}
 use Rattle.report.specs.Report.{report_lines}
-use Rattle.report.specs.declared.ReportAnswer.{ReportAnswer}
-use Rattle.report.specs.declared.ReportAnswer.TheVariants.{Refused, Written}
+use Rattle.refusal.specs.declared.Refusal.{Refusal}
 use Rattle.tree.specs.Acceptance.{Bounded}
 use Rattle.report.specs.StatedReports.{ReportStated, refused, its_length, report_stated}
 use Rattle.docket.specs.declared.Docket.{Docket}
@@ -53,14 +53,14 @@ module _ (vs : List Verdict) (l m : List ℕ) (R : ReportDue vs l) (S : ReportDu
 -- ---- one answer, one buffer
 
 -- an answer is known by what it is told as
-answer_of : ReportStated → ReportAnswer
-answer_of (refused n l u t) = Refused (record { number = n; line = l; unit = u; period = t })
-answer_of (its_length n) = Written n
+answer_of : ReportStated → Result ℕ Refusal
+answer_of (refused n l u t) = Err (record { number = n; line = l; unit = u; period = t })
+answer_of (its_length n) = Ok n
 
-answer_back : (a : ReportAnswer) → answer_of (report_stated a) ≡ a
+answer_back : (a : Result ℕ Refusal) → answer_of (report_stated a) ≡ a
 unfolding answer_of
-answer_back (Refused r) = refl
-answer_back (Written n) = refl
+answer_back (Err r) = refl
+answer_back (Ok n) = refl
 
 module _ (lines b : List ℕ) (k : ℕ) (a a' : ReportStated) (c c' : List ℕ) where
   one_outcome : WrittenOr43 lines b k a c → WrittenOr43 lines b k a' c' → (a ≡ a') × (c ≡ c')

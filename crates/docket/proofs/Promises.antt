@@ -1,5 +1,6 @@
 -- The page of promises: demands 1, 2 and 3, clause by clause, each proved in a line. The words used are defined in specs/, here and in the crates below;
 -- what the texts of a list are is `Is` and `Are` (specs/Texts.antt), by renderings, limits and rules alone.
+use Rattle.std.specs.Prelude.{None, Some}
 use mathlib.Core.Path.{◌≡◌}
 use mathlib.Core.Bool.{true, not}
 use mathlib.Core.List.{List, [], ◌∷◌, ◌++◌, Memᴰ}
@@ -46,7 +47,6 @@ use Rattle.docket.specs.declared.Docket.{Docket}
 use Rattle.docket.specs.declared.held.CostBy.{CostBy}
 use Rattle.docket.specs.declared.held.BoundBy.{BoundBy}
 use Rattle.docket.specs.declared.held.NeverBy.{NeverBy}
-use Rattle.docket.specs.declared.held.HeldCost.TheVariants as cost
 use Rattle.docket.specs.declared.held.HeldBound.TheVariants as bound
 use Rattle.docket.specs.Docket.{fresh_docket}
 use Rattle.docket.specs.Verdicts as verdict
@@ -159,7 +159,7 @@ module _ (texts : List (List ℕ)) (vs : List Verdict) (are : Are none texts vs)
   pub nothing_yet : given vs ≡ none → after texts ≡ fresh_docket
   nothing_yet = holdings.nothing_yet texts vs are
 
-  pub schedule_or_none : ((after texts).held.cost ≡ cost.Nothing) ↔ (schedules vs ≡ [])
+  pub schedule_or_none : ((after texts).held.cost ≡ None) ↔ (schedules vs ≡ [])
   schedule_or_none = holdings.no_cost_is texts vs are
 
   pub bound_or_none : ((after texts).held.bound ≡ bound.Nothing) ↔ (trees vs ≡ [])
@@ -206,7 +206,7 @@ module _ (texts : List (List ℕ)) (vs : List Verdict) (are : Are none texts vs)
     pub only_well_formed : (text : List ℕ) (x : AnswerValues) → Carries (answer texts text) x → schedule_lines.WellFormed P text ⊎ tree_lines.WellFormed P text
     only_well_formed = each.only_formed texts vs are P known
 
-    module _ (by : CostBy) (e : (after texts).held.cost ≡ cost.Number by) where
+    module _ (by : CostBy) (e : (after texts).held.cost ≡ Some by) where
       -- 3. Of the accepted schedules with the least cost the first is held, with its writer; it meets the rules, at the cost of (1)
       pub held_schedule : (s : Costed) × FirstLeast (λ x. x.cost) s (schedules vs) × (by.cost ≡ s.cost) × (by.writer ≡ s.writer)
           × (schedule_of (after texts).problem (after texts).rows ≡ s.rows) × Meets P s.rows × (s.cost ≡ model.cost P s.rows)
@@ -241,7 +241,7 @@ pub specimens_hold : All (Answered lodge_of) specimens
 specimens_hold = specimens_answered
 
 pub example_held : (after listed_texts).held
-    ≡ record { cost = cost.Number (record { cost = 1980; writer = 7 }); bound = bound.Number (record { value = pos 1980; writer = 3 }) }
+    ≡ record { cost = Some (record { cost = 1980; writer = 7 }); bound = bound.Number (record { value = pos 1980; writer = 3 }) }
 example_held = listing_held
 
 pub never_held : (after (too_little ∷ short_tree ∷ [])).held.bound ≡ bound.Never (record { writer = 9 })

@@ -1,4 +1,5 @@
 -- The docket that the verdicts of a list determine, and that it is sound: what it holds is a member of the list, and members are small.
+use Rattle.std.specs.Prelude.{None, Some}
 use mathlib.Core.Path.{◌≡◌, refl, sym, subst}
 use mathlib.Core.Bool.{Bool, true, ◌&&◌}
 use mathlib.Core.List.{List, flatten}
@@ -23,11 +24,9 @@ use Rattle.model.proofs.LeafSizes.{Fits}
 use Rattle.model.proofs.TreeSizes.{bound_fits}
 use Rattle.tree.specs.Acceptance.{Bounded}
 use Rattle.docket.specs.declared.Docket.{Docket}
-use Rattle.docket.specs.declared.held.HeldCost.{HeldCost}
-use Rattle.docket.specs.declared.held.HeldCost.TheVariants as cost
 use Rattle.docket.specs.declared.held.HeldBound.{HeldBound}
 use Rattle.docket.specs.declared.held.HeldBound.TheVariants as bound
-use Rattle.docket.specs.Docket.{fresh_docket, size_limit, small_cost, small_bound, small_number, sound}
+use Rattle.docket.specs.Docket.{HeldCost, fresh_docket, size_limit, small_cost, small_bound, small_number, sound}
 use Rattle.docket.specs.Verdicts.{Costed, Verdict, schedules, trees}
 use Rattle.docket.specs.Lodging.{bound_by}
 use Rattle.docket.proofs.BestSoFar.{first_mem}
@@ -49,8 +48,8 @@ abbrev pub highest : List Verdict → Option Bounded
 highest past = held_after by_bound none (trees past)
 
 abbrev pub cost_kept : Option Costed → HeldCost
-cost_kept none = cost.Nothing
-cost_kept (some s) = cost.Number (record { cost = s.cost; writer = s.writer })
+cost_kept none = None
+cost_kept (some s) = Some (record { cost = s.cost; writer = s.writer })
 
 abbrev pub rows_kept : Option Costed → List ℕ
 rows_kept none = replicate 1536 0

@@ -1,4 +1,5 @@
 -- How long a report is: every figure of a docket that lodging reaches has at most a minus and 20 digits.
+use Rattle.std.specs.Prelude.{None, Option, Some}
 use mathlib.Core.Path.{◌≡◌, ap}
 use mathlib.Core.Bool.{true}
 use mathlib.Core.List.{List}
@@ -13,8 +14,7 @@ use Rattle.writer.specs.Written.{figure, figure_of}
 use Rattle.writer.specs.declared.Figure.TheVariants.{Number}
 use Rattle.report.proofs.Lines.{report_least, report_most}
 use Rattle.docket.specs.declared.Docket.{Docket}
-use Rattle.docket.specs.declared.held.HeldCost.{HeldCost}
-use Rattle.docket.specs.declared.held.HeldCost.TheVariants as cost
+use Rattle.docket.specs.declared.held.CostBy.{CostBy}
 use Rattle.docket.specs.declared.held.HeldBound.{HeldBound}
 use Rattle.docket.specs.declared.held.HeldBound.TheVariants as bound
 use Rattle.docket.specs.Docket.{fresh_docket, size_limit, small_cost, small_bound, sound}
@@ -39,15 +39,15 @@ whole_most (negsuc n) h = omega (arith, width_below 19 (suc n) (omega arith))
 
 -- ---- the five of a docket
 
-cost_most : (h : HeldCost) → small_cost h ≡ true → length (figure (cost_shown h)) ≤ 21
+cost_most : (h : Option CostBy) → small_cost h ≡ true → length (figure (cost_shown h)) ≤ 21
 unfolding figure
-cost_most cost.Nothing e = omega arith
-cost_most (cost.Number n) e = let k = ltb-true n.cost size_limit e in number_most n.cost (omega arith)
+cost_most None e = omega arith
+cost_most (Some n) e = let k = ltb-true n.cost size_limit e in number_most n.cost (omega arith)
 
-cost_writer_most : (h : HeldCost) → CostWriter h → length (figure (cost_writer_shown h)) ≤ 21
+cost_writer_most : (h : Option CostBy) → CostWriter h → length (figure (cost_writer_shown h)) ≤ 21
 unfolding figure
-cost_writer_most cost.Nothing w = omega arith
-cost_writer_most (cost.Number n) w = number_most n.writer (omega (arith, w))
+cost_writer_most None w = omega arith
+cost_writer_most (Some n) w = number_most n.writer (omega (arith, w))
 
 bound_most : (h : HeldBound) → small_bound h ≡ true → length (figure (bound_shown h)) ≤ 21
 unfolding figure
@@ -61,12 +61,12 @@ bound_writer_most bound.Nothing w = omega arith
 bound_writer_most (bound.Number n) w = number_most n.writer (omega (arith, w))
 bound_writer_most (bound.Never n) w = number_most n.writer (omega (arith, w))
 
-gap_most : (c : HeldCost) (b : HeldBound) → small_cost c ≡ true → small_bound b ≡ true → length (figure (gap_shown c b)) ≤ 21
+gap_most : (c : Option CostBy) (b : HeldBound) → small_cost c ≡ true → small_bound b ≡ true → length (figure (gap_shown c b)) ≤ 21
 unfolding figure
-gap_most cost.Nothing b e f = omega arith
-gap_most (cost.Number c) bound.Nothing e f = omega arith
-gap_most (cost.Number c) (bound.Number b) e f = whole_most (pos c.cost -ℤ b.value) (gap_fits c.cost b.value (ltb-true c.cost size_limit e) f).sfits
-gap_most (cost.Number c) (bound.Never b) e f = omega arith
+gap_most None b e f = omega arith
+gap_most (Some c) bound.Nothing e f = omega arith
+gap_most (Some c) (bound.Number b) e f = whole_most (pos c.cost -ℤ b.value) (gap_fits c.cost b.value (ltb-true c.cost size_limit e) f).sfits
+gap_most (Some c) (bound.Never b) e f = omega arith
 
 -- ---- the report
 

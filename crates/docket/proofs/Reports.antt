@@ -1,4 +1,5 @@
 -- What a report shows: of a docket that lodging reaches, what it holds. And when 43 refuses it.
+use Rattle.std.specs.Prelude.{Result}
 use mathlib.Core.Path.{◌≡◌, refl, ap, ◌∙◌}
 use mathlib.Core.Bool.{true, false}
 use mathlib.Core.Logic.{◌↔◌, ◌⊎◌, inr}
@@ -7,7 +8,7 @@ use Prim.Native.Nat.{ℕ, ◌+◌, ◌≤◌, ◌<◌}
 use native.Mathlib.Omega.{arith}
 use lib.ListN.{length, drop, length-drop}
 use Rattle.report.specs.Report.{put_at, written_at, placed_at}
-use Rattle.report.specs.declared.ReportAnswer.{ReportAnswer}
+use Rattle.refusal.specs.declared.Refusal.{Refusal}
 use Rattle.report.specs.StatedReports.{report_stated, refused, its_length}
 use Rattle.report.proofs.Lines.{report_least}
 use Rattle.report.proofs.Places.{no_room, with_room, refused_exactly, length_exactly}
@@ -32,11 +33,11 @@ shown_reached texts = ap (λ (d : Docket). report_text d.held) (trusted_sound (d
 
 -- ---- the lines of the figures shown, written from the place k on
 
-pub reported : (d : Docket) (b : List ℕ) (k : ℕ) {l b₁ : List ℕ} {a : ReportAnswer} → l ≡ text_shown d → a ≡ written_at b k l → b₁ ≡ placed_at b k l
+pub reported : (d : Docket) (b : List ℕ) (k : ℕ) {l b₁ : List ℕ} {a : Result ℕ Refusal} → l ≡ text_shown d → a ≡ written_at b k l → b₁ ≡ placed_at b k l
     → (record { docket = d; answer = a } ≡ report_of d b k) × (b₁ ≡ buffer_of d b k)
 unfolding report_of buffer_of
 reported d b k e p q = (
-  ap (λ (x : ReportAnswer). record { docket = d; answer = x }) (p ∙ ap (written_at b k) e),
+  ap (λ (x : Result ℕ Refusal). record { docket = d; answer = x }) (p ∙ ap (written_at b k) e),
   q ∙ ap (placed_at b k) e,
 )
 

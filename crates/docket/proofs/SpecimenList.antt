@@ -1,4 +1,5 @@
 -- Document 01's marked specimens, lodged from a fresh docket: what each text is at its place decides the answer to it.
+use Rattle.std.specs.Prelude.{Some}
 use mathlib.Core.Path.{◌≡◌, refl, ap, ◌∙◌}
 use mathlib.Core.List.{List, [], ◌∷◌, map}
 use mathlib.Core.Option.{none, some}
@@ -11,7 +12,6 @@ use Rattle.model.specs.Figures.{tree_gives}
 use Rattle.problem.proofs.Examples.{example, example_formed}
 use Rattle.answer.specs.StatedAnswers.{no_values, its_cost, its_bound, held, stated}
 use Rattle.docket.specs.declared.Docket.{Docket}
-use Rattle.docket.specs.declared.held.HeldCost.TheVariants as cost
 use Rattle.docket.specs.declared.held.HeldBound.TheVariants as bound
 use Rattle.docket.specs.Docket.{fresh_docket}
 use Rattle.docket.specs.Verdicts.{Verdict, problem, tree, known_at_end}
@@ -102,7 +102,7 @@ pub listing_answers : map stated (answers_to lodge_of fresh_docket listed_texts)
 listing_answers = answers_by listed_are
 
 pub listing_held : (docket_after lodge_of fresh_docket listed_texts).held
-    ≡ record { cost = cost.Number (record { cost = 1980; writer = 7 }); bound = bound.Number (record { value = pos 1980; writer = 3 }) }
+    ≡ record { cost = Some (record { cost = 1980; writer = 7 }); bound = bound.Number (record { value = pos 1980; writer = 3 }) }
 listing_held =
     ap (λ (d : Docket). d.held) (lodges none [] (refl, refl) listed_texts).docket_is
     ∙ ap (λ (vs : List Verdict). (docket_of (known_at_end none vs) vs).held) (are_verdicts none listed_texts _ tt listed_are)

@@ -1,4 +1,5 @@
 -- The writers of what is held are in range: what is held is a member of a list of accepted texts, and their writers are.
+use Rattle.std.specs.Prelude.{None, Some}
 use mathlib.Core.Path.{refl, sym, subst}
 use mathlib.Core.List.{List, []}
 use mathlib.Core.Option.{Option, none, some}
@@ -11,11 +12,9 @@ use Rattle.model.proofs.Lists.{IsFirst, held_least, held_highest}
 use Rattle.tree.specs.Acceptance.{Bounded}
 use Rattle.docket.specs.declared.Docket.{Docket}
 use Rattle.docket.specs.declared.held.Held.{Held}
-use Rattle.docket.specs.declared.held.HeldCost.{HeldCost}
-use Rattle.docket.specs.declared.held.HeldCost.TheVariants as cost
 use Rattle.docket.specs.declared.held.HeldBound.{HeldBound}
 use Rattle.docket.specs.declared.held.HeldBound.TheVariants as bound
-use Rattle.docket.specs.Docket.{fresh_docket}
+use Rattle.docket.specs.Docket.{HeldCost, fresh_docket}
 use Rattle.docket.specs.Verdicts.{Costed, Verdict, schedules, trees, known_at_end}
 use Rattle.docket.specs.Lodging.{bound_by, lodge_of}
 use Rattle.docket.specs.Demand3.{docket_after}
@@ -26,8 +25,8 @@ use Rattle.docket.proofs.Reached.{by_cost, by_bound, least, highest, cost_kept, 
 use Rattle.docket.proofs.Lists.{lodges}
 
 abbrev pub CostWriter : HeldCost → Type 0
-CostWriter cost.Nothing = Unit {0}
-CostWriter (cost.Number n) = GoodWriter n.writer
+CostWriter None = Unit {0}
+CostWriter (Some n) = GoodWriter n.writer
 
 abbrev pub BoundWriter : HeldBound → Type 0
 BoundWriter bound.Nothing = Unit {0}

@@ -1,5 +1,5 @@
 -- Demand 3: what holds after every list of texts that is lodged from a fresh docket, and what every report then shows.
-use Rattle.std.specs.Prelude.{◌≡◌, Bool, true, false, ℕ, ltb, pos, ◌≤ℤ◌, replicate}
+use Rattle.std.specs.Prelude.{◌≡◌, Bool, true, false, ℕ, ltb, pos, ◌≤ℤ◌, replicate, None, Some}
 use mathlib.Core.List.{List, [], ◌∷◌, ◌++◌, map, flatten}
 use Rattle.std.proofs.Math.Option.{Option, none, some}
 use Rattle.model.specs.Instance.{Instance, Schedule}
@@ -16,12 +16,10 @@ use Rattle.docket.specs.declared.Docket.{Docket}
 use Rattle.docket.specs.declared.Lodged.{Lodged}
 use Rattle.docket.specs.declared.Reported.{Reported}
 use Rattle.docket.specs.declared.held.CostBy.{CostBy}
-use Rattle.docket.specs.declared.held.HeldCost.{HeldCost}
-use Rattle.docket.specs.declared.held.HeldCost.TheVariants as cost
 use Rattle.docket.specs.declared.held.HeldBound.{HeldBound}
 use Rattle.docket.specs.declared.held.HeldBound.TheVariants as bound
 use Rattle.answer.specs.declared.Answer.{Answer}
-use Rattle.docket.specs.Docket.{fresh_docket}
+use Rattle.docket.specs.Docket.{HeldCost, fresh_docket}
 use Rattle.answer.specs.StatedAnswers as answers
 use Rattle.answer.specs.StatedAnswers.{AnswerValues, no_values, its_cost, its_bound, Stated, stated}
 use Rattle.docket.specs.Verdicts.{Costed, Verdict, refused, problem, schedule, tree, schedules, trees, known_at_end}
@@ -89,8 +87,8 @@ pub record HoldsSchedule (P : Instance) (accepted : List Costed) (by : CostBy) (
 
 -- no schedule is held, and none was accepted; or one is
 abbrev pub CostHeld : Instance → List Costed → HeldCost → List ℕ → Type 0
-CostHeld P accepted cost.Nothing rows = (accepted ≡ []) × (rows ≡ replicate 1536 0)
-CostHeld P accepted (cost.Number by) rows = HoldsSchedule P accepted by rows
+CostHeld P accepted None rows = (accepted ≡ []) × (rows ≡ replicate 1536 0)
+CostHeld P accepted (Some by) rows = HoldsSchedule P accepted by rows
 
 -- the bound b of the writer w is held: of the accepted trees the first with the highest bound gave it
 pub record HoldsBound (accepted : List Bounded) (b : Bound) (w : ℕ) : Type 0 where

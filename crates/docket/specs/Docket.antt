@@ -1,17 +1,20 @@
 -- Document 01, The docket and its report: what a docket holds.
-use Rattle.std.specs.Prelude.{Bool, true, false, ◌&&◌, ℕ, ltb, ℤ, pos, negsuc, replicate}
+use Rattle.std.specs.Prelude.{Bool, true, false, ◌&&◌, ℕ, ltb, ℤ, pos, negsuc, replicate, None, Option, Some}
 use Rattle.std.specs.Int.Signed.{lt_z}
 use Rattle.model.specs.declared.arrays.Problem.{Problem}
 use Rattle.model.specs.Held.{blank_problem, valid_problem}
 use Rattle.docket.specs.declared.Docket.{Docket}
 use Rattle.docket.specs.declared.held.Held.{Held}
-use Rattle.docket.specs.declared.held.HeldCost.{HeldCost}
-use Rattle.docket.specs.declared.held.HeldCost.TheVariants as cost
+use Rattle.docket.specs.declared.held.CostBy.{CostBy}
 use Rattle.docket.specs.declared.held.HeldBound.{HeldBound}
 use Rattle.docket.specs.declared.held.HeldBound.TheVariants as bound
 
+-- a cost with its writer, or none
+abbrev pub HeldCost : Type 0
+HeldCost = Option CostBy
+
 abbrev pub nothing_held : Held
-nothing_held = record { cost = cost.Nothing; bound = bound.Nothing }
+nothing_held = record { cost = None; bound = bound.Nothing }
 
 -- a fresh docket holds nothing
 abbrev pub fresh_docket : Docket
@@ -27,18 +30,18 @@ size_limit = 2305843009213693952
 abbrev pub small_number : ℤ → Bool
 small_number z = lt_z (negsuc size_limit) z && lt_z z (pos size_limit)
 
-abbrev pub small_cost : HeldCost → Bool
-small_cost cost.Nothing = true
-small_cost (cost.Number n) = ltb n.cost size_limit
+abbrev pub small_cost : Option CostBy → Bool
+small_cost None = true
+small_cost (Some n) = ltb n.cost size_limit
 
 abbrev pub small_bound : HeldBound → Bool
 small_bound bound.Nothing = true
 small_bound (bound.Number n) = small_number n.value
 small_bound (bound.Never n) = true
 
-abbrev pub no_cost : HeldCost → Bool
-no_cost cost.Nothing = true
-no_cost (cost.Number n) = false
+abbrev pub no_cost : Option CostBy → Bool
+no_cost None = true
+no_cost (Some n) = false
 
 abbrev pub no_bound : HeldBound → Bool
 no_bound bound.Nothing = true

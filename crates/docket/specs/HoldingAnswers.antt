@@ -1,5 +1,5 @@
--- What the code of lodging follows: which texts need not be lodged, and what is done with the answers of the readers of problems, schedules and trees.
-use Rattle.std.specs.Prelude.{cond, List, ℕ}
+-- What the code of lodging follows: what is done with the answers of the readers of problems, schedules and trees.
+use Rattle.std.specs.Prelude.{cond, List, ℕ, Some}
 use Rattle.problem.specs.declared.ProblemAnswer.{ProblemAnswer}
 use Rattle.problem.specs.declared.ProblemAnswer.TheVariants as problem_answer
 use Rattle.model.specs.declared.arrays.Problem.{Problem}
@@ -11,20 +11,8 @@ use Rattle.tree.specs.declared.TreeRead.{TreeRead}
 use Rattle.tree.specs.declared.TreeRead.TheVariants as tree_answer
 use Rattle.docket.specs.declared.Docket.{Docket}
 use Rattle.docket.specs.declared.Lodged.{Lodged}
-use Rattle.docket.specs.declared.held.HeldCost.TheVariants as cost
-use Rattle.docket.specs.declared.admission.Admission.{Admission}
-use Rattle.docket.specs.declared.admission.Admission.TheVariants as admission
-use Rattle.docket.specs.declared.admission.Screened.{Screened}
-use Rattle.docket.specs.declared.admission.Screened.TheVariants as screened
 use Rattle.answer.specs.declared.Answer.TheVariants.{Refused, TextHeld, ScheduleHeld, SchedulePassed, TreeHeld, TreePassed}
 use Rattle.docket.specs.Lodging.{lodged, with_held, with_problem, is_less, is_higher, bound_by}
-
--- a text refused before its lines leaves a docket as it is; any other is lodged, whatever its kind
-abbrev pub screen : Admission → Screened
-screen (admission.Refused r) = screened.Refused r
-screen admission.Problem = screened.Admitted
-screen admission.Schedule = screened.Admitted
-screen admission.Tree = screened.Admitted
 
 -- a problem's text, read
 abbrev pub hold_problem : Docket → ProblemAnswer → Problem → Lodged
@@ -35,7 +23,7 @@ hold_problem was problem_answer.Accepted p = lodged (with_problem p) TextHeld
 abbrev pub hold_rows : Docket → Priced → List ℕ → Lodged
 hold_rows d s rows =
     cond (is_less s.cost d.held.cost)
-    (lodged (with_held d (record { cost = cost.Number (record { cost = s.cost; writer = s.writer }); bound = d.held.bound }) rows) (ScheduleHeld s.cost))
+    (lodged (with_held d (record { cost = Some (record { cost = s.cost; writer = s.writer }); bound = d.held.bound }) rows) (ScheduleHeld s.cost))
     (lodged d (SchedulePassed s.cost))
 
 abbrev pub hold_schedule : Docket → ScheduleAnswer → List ℕ → Lodged

@@ -1,13 +1,14 @@
 -- Document 01, Numbers that come from the docket, and The docket and its report: what lodging a text does.
-use Rattle.std.specs.Prelude.{Bool, true, false, cond, ℕ, ltb, length, replicate}
+use Rattle.std.specs.Prelude.{Bool, true, false, cond, ℕ, ltb, length, replicate, Err, None, Ok, Option, Result, Some}
 use mathlib.Core.List.{List, flatten}
 use Rattle.std.specs.Int.Signed.{lt_z}
 use Rattle.model.specs.declared.arrays.Problem.{Problem}
-use Rattle.model.specs.Instance.{Instance, Schedule}
+use Rattle.model.specs.Instance.{Instance}
 use Rattle.model.specs.Held as arrays
 use Rattle.model.specs.Held.{view, pad}
 use Rattle.model.specs.Figures.{Bound}
 use Rattle.std.specs.Prelude.{None as never, Some as number}
+use Rattle.refusal.specs.declared.Refusal.{Refusal}
 use Rattle.refusal.specs.Refusals.{refusal_of}
 use Rattle.text.specs.Lines.{line_at, kind_of}
 use Rattle.text.specs.Course.{Judged, refused_at, accepted}
@@ -20,8 +21,7 @@ use Rattle.tree.specs.Acceptance.{Bounded}
 use Rattle.docket.specs.declared.Docket.{Docket}
 use Rattle.docket.specs.declared.Lodged.{Lodged}
 use Rattle.docket.specs.declared.held.Held.{Held}
-use Rattle.docket.specs.declared.held.HeldCost.{HeldCost}
-use Rattle.docket.specs.declared.held.HeldCost.TheVariants as cost
+use Rattle.docket.specs.declared.held.CostBy.{CostBy}
 use Rattle.docket.specs.declared.held.HeldBound.{HeldBound}
 use Rattle.docket.specs.declared.held.HeldBound.TheVariants as bound
 use Rattle.docket.specs.declared.admission.Admission.{Admission}
@@ -33,20 +33,20 @@ use Rattle.docket.specs.Verdicts.{Costed, Verdict, refused, problem, schedule, t
 
 -- ---- what is asked before any line but the first: 11, the kind (12), 41 and 42, in that order
 
-abbrev pub refuse_whole : ℕ → ℕ → Admission
-refuse_whole n line = admission.Refused (refusal_of n line 0 0)
+abbrev pub refuse_whole : ℕ → ℕ → Result Admission Refusal
+refuse_whole n line = Err (refusal_of n line 0 0)
 
 -- by the first line, and by whether a problem is held
-abbrev pub admit_kind : Kind → Bool → Admission
+abbrev pub admit_kind : Kind → Bool → Result Admission Refusal
 admit_kind kind.Unknown known = refuse_whole 12 1
 admit_kind kind.Problem true = refuse_whole 41 0
-admit_kind kind.Problem false = admission.Problem
-admit_kind kind.Schedule true = admission.Schedule
+admit_kind kind.Problem false = Ok admission.Problem
+admit_kind kind.Schedule true = Ok admission.Schedule
 admit_kind kind.Schedule false = refuse_whole 42 0
-admit_kind kind.Tree true = admission.Tree
+admit_kind kind.Tree true = Ok admission.Tree
 admit_kind kind.Tree false = refuse_whole 42 0
 
-unfoldable pub admit : Bool → List ℕ → Admission
+unfoldable pub admit : Bool → List ℕ → Result Admission Refusal
 admit known text = cond (ltb 1048576 (length text)) (refuse_whole 11 0) (admit_kind (kind_of (line_at text 0)) known)
 
 -- ---- then line by line, as a problem, a schedule or a tree
@@ -64,11 +64,11 @@ by_tree (refused_at n l) = refused (refusal_of n l 0 0)
 by_tree (accepted F) = tree F
 
 -- P is the problem that is held, if one is
-abbrev pub verdict_by : Admission → Instance → List ℕ → Verdict
-verdict_by (admission.Refused r) P text = refused r
-verdict_by admission.Problem P text = by_problem (problem_judged text)
-verdict_by admission.Schedule P text = by_schedule (schedule_outcome P text)
-verdict_by admission.Tree P text = by_tree (trees.tree_judged P text)
+abbrev pub verdict_by : Result Admission Refusal → Instance → List ℕ → Verdict
+verdict_by (Err r) P text = refused r
+verdict_by (Ok admission.Problem) P text = by_problem (problem_judged text)
+verdict_by (Ok admission.Schedule) P text = by_schedule (schedule_outcome P text)
+verdict_by (Ok admission.Tree) P text = by_tree (trees.tree_judged P text)
 
 unfoldable pub text_judged : Bool → Instance → List ℕ → Verdict
 text_judged known P text = verdict_by (admit known text) P text
@@ -86,13 +86,13 @@ abbrev pub with_problem : Problem → Docket
 with_problem p = record { known = true; problem = p; held = nothing_held; rows = replicate 1536 0 }
 
 -- whether a schedule of cost c takes the held one's place, or the empty one
-abbrev pub is_less : ℕ → HeldCost → Bool
-is_less c cost.Nothing = true
-is_less c (cost.Number n) = ltb c n.cost
+abbrev pub is_less : ℕ → Option CostBy → Bool
+is_less c None = true
+is_less c (Some n) = ltb c n.cost
 
 abbrev pub with_schedule : Docket → Costed → Docket
 with_schedule d s =
-    with_held d (record { cost = cost.Number (record { cost = s.cost; writer = s.writer }); bound = d.held.bound })
+    with_held d (record { cost = Some (record { cost = s.cost; writer = s.writer }); bound = d.held.bound })
     (pad 0 1536 (flatten s.rows))
 
 -- whether the bound b takes the held one's place, or the empty one; no number is above never

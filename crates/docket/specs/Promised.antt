@@ -1,5 +1,5 @@
 -- The words of the page of promises: what stands after a list of texts, and what a text can be there.
-use Rattle.std.specs.Prelude.{◌≡◌, true, List, [], ◌∷◌, ◌++◌, ℕ, ◌<◌, T, length}
+use Rattle.std.specs.Prelude.{◌≡◌, true, List, [], ◌∷◌, ◌++◌, ℕ, ◌<◌, T, length, Some}
 use Rattle.std.proofs.Math.Option.{Option, none, some}
 use Rattle.model.specs.Instance.{Instance, Schedule}
 use Rattle.model.specs.Ranges.{WellFormed, GoodWriter, GoodRows}
@@ -16,7 +16,6 @@ use Rattle.answer.specs.AnswerLines.{answer_line}
 use Rattle.docket.specs.declared.Docket.{Docket}
 use Rattle.docket.specs.declared.held.CostBy.{CostBy}
 use Rattle.docket.specs.declared.held.BoundBy.{BoundBy}
-use Rattle.docket.specs.declared.held.HeldCost.TheVariants as cost
 use Rattle.docket.specs.declared.held.HeldBound.TheVariants as bound
 use Rattle.docket.specs.Docket.{size_limit, small_number}
 use Rattle.docket.specs.Verdicts.{Verdict, known_at_end}
@@ -68,7 +67,7 @@ Long d = (length d.problem.demand ≡ 48) × (length d.problem.spare ≡ 48) × 
 pub record KnownSound (d : Docket) : Type 0 where
   pub known : d.known ≡ true
   pub valid : Valid d.problem
-  pub cost_small : (by : CostBy) → d.held.cost ≡ cost.Number by → by.cost < size_limit
+  pub cost_small : (by : CostBy) → d.held.cost ≡ Some by → by.cost < size_limit
   pub bound_small : (by : BoundBy) → d.held.bound ≡ bound.Number by → T (small_number by.value)
 
 -- the problem under which it judges a text: its own where `KnownSound` holds, and else none

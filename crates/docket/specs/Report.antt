@@ -1,5 +1,5 @@
 -- Document 01, The docket and its report: what a report shows of a docket.
-use Rattle.std.specs.Prelude.{List, ℕ, pos, ◌-ℤ◌}
+use Rattle.std.specs.Prelude.{List, ℕ, pos, ◌-ℤ◌, None, Option, Some}
 use Rattle.report.specs.Report.{report_lines, written_at, placed_at}
 use Rattle.report.specs.declared.Figures.{Figures}
 use Rattle.writer.specs.Written.{figure_of}
@@ -8,21 +8,20 @@ use Rattle.writer.specs.declared.Figure.TheVariants.{Missing, Never, Number}
 use Rattle.docket.specs.declared.Docket.{Docket}
 use Rattle.docket.specs.declared.Reported.{Reported}
 use Rattle.docket.specs.declared.held.Held.{Held}
-use Rattle.docket.specs.declared.held.HeldCost.{HeldCost}
-use Rattle.docket.specs.declared.held.HeldCost.TheVariants as cost
+use Rattle.docket.specs.declared.held.CostBy.{CostBy}
 use Rattle.docket.specs.declared.held.HeldBound.{HeldBound}
 use Rattle.docket.specs.declared.held.HeldBound.TheVariants as bound
 use Rattle.docket.specs.Lodging.{trusted}
 
 -- ---- what is shown of a held cost and a held bound, none where it is missing
 
-abbrev pub cost_shown : HeldCost → Figure
-cost_shown cost.Nothing = Missing
-cost_shown (cost.Number n) = Number n.cost
+abbrev pub cost_shown : Option CostBy → Figure
+cost_shown None = Missing
+cost_shown (Some n) = Number n.cost
 
-abbrev pub cost_writer_shown : HeldCost → Figure
-cost_writer_shown cost.Nothing = Missing
-cost_writer_shown (cost.Number n) = Number n.writer
+abbrev pub cost_writer_shown : Option CostBy → Figure
+cost_writer_shown None = Missing
+cost_writer_shown (Some n) = Number n.writer
 
 abbrev pub bound_shown : HeldBound → Figure
 bound_shown bound.Nothing = Missing
@@ -35,11 +34,11 @@ bound_writer_shown (bound.Number n) = Number n.writer
 bound_writer_shown (bound.Never n) = Number n.writer
 
 -- the gap: what the cost is above the bound, where each is a number
-abbrev pub gap_shown : HeldCost → HeldBound → Figure
-gap_shown cost.Nothing b = Missing
-gap_shown (cost.Number c) bound.Nothing = Missing
-gap_shown (cost.Number c) (bound.Number b) = figure_of (pos c.cost -ℤ b.value)
-gap_shown (cost.Number c) (bound.Never b) = Missing
+abbrev pub gap_shown : Option CostBy → HeldBound → Figure
+gap_shown None b = Missing
+gap_shown (Some c) bound.Nothing = Missing
+gap_shown (Some c) (bound.Number b) = figure_of (pos c.cost -ℤ b.value)
+gap_shown (Some c) (bound.Never b) = Missing
 
 -- the figures of the lines, each named for its key
 abbrev pub figures_of : Held → Figures

@@ -5,28 +5,28 @@ ghost use Rattle.docket.specs.Docket.{small_number, small_cost, small_bound, siz
 ghost use Rattle.docket.specs.Lodging.{trusted};
 ghost use Rattle.docket.specs.Report.{cost_shown, cost_writer_shown, bound_shown, bound_writer_shown, gap_shown, figures_of};
 
-use crate::held::{Held, HeldBound, HeldCost};
+use crate::held::{CostBy, Held, HeldBound, NOTHING_HELD};
 use crate::{Docket, sound};
 use report::Figures;
 use writer::Figure;
 
 // The held cost.
-fn cost_figure(cost: HeldCost) -> Figure
+fn cost_figure(cost: Option<CostBy>) -> Figure
     ensures { result ≡ cost_shown cost }
 {
     match cost {
-        HeldCost::Nothing => Figure::Missing,
-        HeldCost::Number(n) => Figure::Number(n.cost),
+        None => Figure::Missing,
+        Some(n) => Figure::Number(n.cost),
     }
 }
 
 // The held cost's writer.
-fn cost_writer_figure(cost: HeldCost) -> Figure
+fn cost_writer_figure(cost: Option<CostBy>) -> Figure
     ensures { result ≡ cost_writer_shown cost }
 {
     match cost {
-        HeldCost::Nothing => Figure::Missing,
-        HeldCost::Number(n) => Figure::Number(n.writer),
+        None => Figure::Missing,
+        Some(n) => Figure::Number(n.writer),
     }
 }
 
@@ -36,7 +36,7 @@ fn bound_figure(bound: HeldBound) -> Figure
 {
     match bound {
         HeldBound::Nothing => Figure::Missing,
-        HeldBound::Number(n) => writer::figure_of(n.value),
+        HeldBound::Number(n) => Figure::from(n.value),
         HeldBound::Never(_) => Figure::Never,
     }
 }
@@ -57,22 +57,17 @@ fn difference_figure(cost: u64, value: i64) -> Figure
     requires { (cost < size_limit) × (small_number value ≡ true) }
     ensures { result ≡ figure_of (pos cost -ℤ value) }
 {
-    let gap = cost as i64 - value;
-    writer::figure_of(gap)
+    Figure::from(cost as i64 - value)
 }
 
 // Cost minus bound, where both are numbers.
-fn gap_figure(cost: HeldCost, bound: HeldBound) -> Figure
+fn gap_figure(cost: Option<CostBy>, bound: HeldBound) -> Figure
     requires { (small_cost cost ≡ true) × (small_bound bound ≡ true) }
     ensures { result ≡ gap_shown cost bound }
 {
-    match cost {
-        HeldCost::Nothing => Figure::Missing,
-        HeldCost::Number(c) => match bound {
-            HeldBound::Nothing => Figure::Missing,
-            HeldBound::Number(b) => difference_figure(c.cost, b.value),
-            HeldBound::Never(_) => Figure::Missing,
-        },
+    match (cost, bound) {
+        (Some(c), HeldBound::Number(b)) => difference_figure(c.cost, b.value),
+        _ => Figure::Missing,
     }
 }
 
@@ -81,14 +76,12 @@ fn figures_of(held: Held) -> Figures
     requires { (small_cost held.cost ≡ true) × (small_bound held.bound ≡ true) }
     ensures { result ≡ figures_of held }
 {
-    let cost = held.cost;
-    let bound = held.bound;
     Figures {
-        cost: cost_figure(cost),
-        costwriter: cost_writer_figure(cost),
-        bound: bound_figure(bound),
-        boundwriter: bound_writer_figure(bound),
-        gap: gap_figure(cost, bound),
+        cost: cost_figure(held.cost),
+        costwriter: cost_writer_figure(held.cost),
+        bound: bound_figure(held.bound),
+        boundwriter: bound_writer_figure(held.bound),
+        gap: gap_figure(held.cost, held.bound),
     }
 }
 
@@ -97,12 +90,7 @@ pub fn figures_shown(docket: Docket) -> Figures
     ensures { result ≡ figures_of (trusted docket).held }
 {
     if sound::is_sound(docket) {
-        let held = docket.held;
-        return figures_of(held);
+        return figures_of(docket.held);
     }
-    let nothing = Held {
-        cost: HeldCost::Nothing,
-        bound: HeldBound::Nothing,
-    };
-    figures_of(nothing)
+    figures_of(NOTHING_HELD)
 }

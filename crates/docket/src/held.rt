@@ -7,13 +7,6 @@ pub struct CostBy {
     pub writer: u64,
 }
 
-// None, or a number with its writer.
-#[derive(Clone, Copy)]
-pub enum HeldCost {
-    Nothing,
-    Number(CostBy),
-}
-
 // A held number and its writer.
 #[derive(Clone, Copy)]
 pub struct BoundBy {
@@ -35,9 +28,15 @@ pub enum HeldBound {
     Never(NeverBy),
 }
 
-// The held cost and the held bound.
+// The held cost, if one is, and the held bound.
 #[derive(Clone, Copy)]
 pub struct Held {
-    pub cost: HeldCost,
+    pub cost: Option<CostBy>,
     pub bound: HeldBound,
 }
+
+// What is held where nothing was accepted yet.
+pub(crate) const NOTHING_HELD: Held = Held {
+    cost: None,
+    bound: HeldBound::Nothing,
+};

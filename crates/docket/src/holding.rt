@@ -3,7 +3,7 @@ ghost use Rattle.std.specs.Prelude.{◌≡◌};
 ghost use Rattle.docket.specs.Lodging.{is_less, is_higher, bound_by};
 ghost use Rattle.docket.specs.HoldingAnswers.{hold_problem, hold_rows, hold_schedule, hold_figures, hold_tree};
 
-use crate::held::{BoundBy, CostBy, Held, HeldBound, HeldCost, NeverBy};
+use crate::held::{BoundBy, CostBy, HeldBound, NOTHING_HELD, NeverBy};
 use crate::{Docket, Lodged};
 use answer::Answer;
 use model::arrays::Problem;
@@ -13,13 +13,10 @@ use schedule::{Priced, ScheduleAnswer};
 use tree::TreeRead;
 
 // Whether no cost is held or this one is less.
-fn is_less(cost: u64, held: HeldCost) -> bool
+fn is_less(cost: u64, held: Option<CostBy>) -> bool
     ensures { result ≡ is_less cost held }
 {
-    match held {
-        HeldCost::Nothing => true,
-        HeldCost::Number(n) => cost < n.cost,
-    }
+    held.is_none_or(|n| cost < n.cost)
 }
 
 // Whether no bound is held or this one is higher, never being above every number.
@@ -55,22 +52,15 @@ pub fn hold_problem(was: Docket, answer: ProblemAnswer, problem: Problem) -> Lod
             docket: was,
             answer: Answer::Refused(refusal),
         },
-        ProblemAnswer::Accepted => {
-            let held = Held {
-                cost: HeldCost::Nothing,
-                bound: HeldBound::Nothing,
-            };
-            let docket = Docket {
+        ProblemAnswer::Accepted => Lodged {
+            docket: Docket {
                 known: true,
                 problem,
-                held,
+                held: NOTHING_HELD,
                 rows: [0; 1536],
-            };
-            Lodged {
-                docket,
-                answer: Answer::TextHeld,
-            }
-        }
+            },
+            answer: Answer::TextHeld,
+        },
     }
 }
 
@@ -78,20 +68,10 @@ pub fn hold_problem(was: Docket, answer: ProblemAnswer, problem: Problem) -> Lod
 fn hold_rows(d: Docket, priced: Priced, rows: [u16; 1536]) -> Lodged
     ensures { result ≡ hold_rows d priced rows }
 {
-    let held = d.held;
-    let old = held.cost;
-    let cost = priced.cost;
-    if is_less(cost, old) {
-        let bound = held.bound;
-        let best = Held {
-            cost: HeldCost::Number(CostBy {
-                cost,
-                writer: priced.writer,
-            }),
-            bound,
-        };
+    let Priced { cost, writer } = priced;
+    if is_less(cost, d.held.cost) {
         let mut docket = d;
-        docket.held = best;
+        docket.held.cost = Some(CostBy { cost, writer });
         docket.rows = rows;
         return Lodged {
             docket,
@@ -121,18 +101,9 @@ pub fn hold_schedule(d: Docket, answer: ScheduleAnswer, rows: [u16; 1536]) -> Lo
 fn hold_figures(d: Docket, writer: u64, figures: TreeFigures) -> Lodged
     ensures { result ≡ hold_figures d writer figures }
 {
-    let held = d.held;
-    let old = held.bound;
-    let bound = figures.bound;
-    if is_higher(bound, old) {
-        let cost = held.cost;
-        let highest = bound_by(bound, writer);
-        let best = Held {
-            cost,
-            bound: highest,
-        };
+    if is_higher(figures.bound, d.held.bound) {
         let mut docket = d;
-        docket.held = best;
+        docket.held.bound = bound_by(figures.bound, writer);
         return Lodged {
             docket,
             answer: Answer::TreeHeld(figures),

@@ -10,12 +10,12 @@ ghost use Rattle.docket.specs.Drafting.{runs_of};
 ghost use Rattle.docket.specs.Forcing.{forced_of};
 
 use crate::admission::Admission;
-use crate::held::{Held, HeldBound, HeldCost};
+use crate::held::{Held, NOTHING_HELD};
 use crate::taking::TakenAnswer;
 use answer::Answer;
 use forced::answering::{ForcedAnswer, answer_forced};
 use model::arrays::Problem;
-use report::ReportAnswer;
+use refusal::Refusal;
 use runs::drafting::{RunsAnswer, answer_runs};
 
 pub mod admission;
@@ -46,7 +46,7 @@ pub struct Lodged {
 #[derive(Clone, Copy)]
 pub struct Reported {
     pub docket: Docket,
-    pub answer: ReportAnswer,
+    pub answer: Result<usize, Refusal>,
 }
 
 impl Docket {
@@ -54,15 +54,10 @@ impl Docket {
     pub fn fresh() -> Docket
         ensures { result ≡ fresh_docket }
     {
-        let problem = Problem::blank();
-        let held = Held {
-            cost: HeldCost::Nothing,
-            bound: HeldBound::Nothing,
-        };
         Docket {
             known: false,
-            problem,
-            held,
+            problem: Problem::blank(),
+            held: NOTHING_HELD,
             rows: [0; 1536],
         }
     }
@@ -72,16 +67,14 @@ impl Docket {
     pub fn lodge(self, text: &[u8]) -> Lodged
         ensures { result ≡ lodge_of self text.now }
     {
-        let known = sound::knows(self);
-        let admission = admission::admit(known, text);
-        match admission {
-            Admission::Refused(refusal) => Lodged {
+        match admission::admit(sound::knows(self), text) {
+            Err(refusal) => Lodged {
                 docket: self,
                 answer: Answer::Refused(refusal),
             },
-            Admission::Problem => lodging::lodge_problem(self, text),
-            Admission::Schedule => lodging::lodge_schedule(self, text),
-            Admission::Tree => lodging::lodge_tree(self, text),
+            Ok(Admission::Problem) => lodging::lodge_problem(self, text),
+            Ok(Admission::Schedule) => lodging::lodge_schedule(self, text),
+            Ok(Admission::Tree) => lodging::lodge_tree(self, text),
         }
     }
 
@@ -91,11 +84,9 @@ impl Docket {
         ensures answer { result ≡ report_of self buffer.old at }
         ensures bytes { buffer.new ≡ buffer_of self buffer.old at }
     {
-        let figures = figures::figures_shown(self);
-        let answer = report::write_report(figures, buffer, at);
         Reported {
             docket: self,
-            answer,
+            answer: report::write_report(figures::figures_shown(self), buffer, at),
         }
     }
 

@@ -15,9 +15,7 @@ pub fn lodge_problem(docket: Docket, text: &[u8]) -> Lodged
     ensures { result ≡ hold_problem docket (problem_read text.now).answer (problem_read text.now).problem }
 {
     let read = problem::read_problem(text);
-    let answer = read.answer;
-    let problem = read.problem;
-    holding::hold_problem(docket, answer, problem)
+    holding::hold_problem(docket, read.answer, read.problem)
 }
 
 // The docket after a schedule's text, read under the problem that it knows, and the answer to it.
@@ -26,11 +24,8 @@ pub fn lodge_schedule(docket: Docket, text: &[u8]) -> Lodged
     requires schedule { IsSchedule text.now }
     ensures { result ≡ hold_schedule docket (schedule_read (view docket.problem) text.now).answer (schedule_read (view docket.problem) text.now).rows }
 {
-    let problem = docket.problem;
-    let read = schedule::read_schedule(problem, text);
-    let answer = read.answer;
-    let rows = read.rows;
-    holding::hold_schedule(docket, answer, rows)
+    let read = schedule::read_schedule(docket.problem, text);
+    holding::hold_schedule(docket, read.answer, read.rows)
 }
 
 // The docket after a tree's text, read under the problem that it knows, and the answer to it.
@@ -40,7 +35,5 @@ pub fn lodge_tree(docket: Docket, text: &[u8]) -> Lodged
     requires tree { IsTree text.now }
     ensures { result ≡ hold_tree docket (tree_read (view docket.problem) text.now) }
 {
-    let problem = docket.problem;
-    let read = tree::read_tree(problem, text);
-    holding::hold_tree(docket, read)
+    holding::hold_tree(docket, tree::read_tree(docket.problem, text))
 }

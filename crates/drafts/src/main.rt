@@ -55,7 +55,7 @@ fn print_answer(answer: RunsAnswer) {
         }
         RunsAnswer::Found(value) => {
             print(b"found ");
-            print_figure(writer::figure_of(value));
+            print_figure(Figure::from(value));
         }
     }
 }

@@ -67,7 +67,7 @@ fn print_tree(figures: TreeFigures) {
     let bound = figures.bound;
     match bound {
         None => print(b"never"),
-        Some(z) => print_figure(writer::figure_of(z)),
+        Some(z) => print_figure(Figure::from(z)),
     }
     print_value(figures.splits as u64);
     print_value(figures.leaves as u64);
@@ -126,7 +126,7 @@ fn print_bound(bound: HeldBound) {
     match bound {
         HeldBound::Nothing => print(b"none"),
         HeldBound::Number(n) => {
-            print_figure(writer::figure_of(n.value));
+            print_figure(Figure::from(n.value));
             print_value(n.writer);
         }
         HeldBound::Never(n) => {

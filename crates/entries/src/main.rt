@@ -40,7 +40,7 @@ fn print_values(values: &[i64]) {
     let mut i = 0;
     while i < values.len() {
         print(b" ");
-        print_figure(writer::figure_of(values[i]));
+        print_figure(Figure::from(values[i]));
         i += 1;
     }
 }

@@ -7,7 +7,7 @@ use Rattle.refusal.specs.Refusals.{refusal_of}
 use Rattle.writer.specs.Written.{figure}
 use Rattle.writer.specs.declared.Figure.TheVariants.{Missing, Never, Number, Minus}
 use Rattle.report.specs.Report.{report_lines, written_at, placed_at}
-use Rattle.report.specs.declared.ReportAnswer.TheVariants.{Refused, Written}
+use Rattle.std.specs.Prelude.{Ok, Err}
 
 -- document 01's example:
 --     kind=report
@@ -121,15 +121,15 @@ negative_bound = refl
 
 -- ---- two bytes in a buffer of four
 
-in_the_middle : (written_at (1 ∷ 2 ∷ 3 ∷ 4 ∷ []) 1 (8 ∷ 9 ∷ []) ≡ Written 2) × (placed_at (1 ∷ 2 ∷ 3 ∷ 4 ∷ []) 1 (8 ∷ 9 ∷ []) ≡ 1 ∷ 8 ∷ 9 ∷ 4 ∷ [])
+in_the_middle : (written_at (1 ∷ 2 ∷ 3 ∷ 4 ∷ []) 1 (8 ∷ 9 ∷ []) ≡ Ok 2) × (placed_at (1 ∷ 2 ∷ 3 ∷ 4 ∷ []) 1 (8 ∷ 9 ∷ []) ≡ 1 ∷ 8 ∷ 9 ∷ 4 ∷ [])
 unfolding written_at placed_at
 in_the_middle = (refl, refl)
 
-up_to_the_end : (written_at (1 ∷ 2 ∷ 3 ∷ 4 ∷ []) 2 (8 ∷ 9 ∷ []) ≡ Written 2) × (placed_at (1 ∷ 2 ∷ 3 ∷ 4 ∷ []) 2 (8 ∷ 9 ∷ []) ≡ 1 ∷ 2 ∷ 8 ∷ 9 ∷ [])
+up_to_the_end : (written_at (1 ∷ 2 ∷ 3 ∷ 4 ∷ []) 2 (8 ∷ 9 ∷ []) ≡ Ok 2) × (placed_at (1 ∷ 2 ∷ 3 ∷ 4 ∷ []) 2 (8 ∷ 9 ∷ []) ≡ 1 ∷ 2 ∷ 8 ∷ 9 ∷ [])
 unfolding written_at placed_at
 up_to_the_end = (refl, refl)
 
 -- one byte too few
-past_the_end : (written_at (1 ∷ 2 ∷ 3 ∷ 4 ∷ []) 3 (8 ∷ 9 ∷ []) ≡ Refused (refusal_of 43 0 0 0)) × (placed_at (1 ∷ 2 ∷ 3 ∷ 4 ∷ []) 3 (8 ∷ 9 ∷ []) ≡ 1 ∷ 2 ∷ 3 ∷ 4 ∷ [])
+past_the_end : (written_at (1 ∷ 2 ∷ 3 ∷ 4 ∷ []) 3 (8 ∷ 9 ∷ []) ≡ Err (refusal_of 43 0 0 0)) × (placed_at (1 ∷ 2 ∷ 3 ∷ 4 ∷ []) 3 (8 ∷ 9 ∷ []) ≡ 1 ∷ 2 ∷ 3 ∷ 4 ∷ [])
 unfolding written_at placed_at
 past_the_end = (refl, refl)

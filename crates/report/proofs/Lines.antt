@@ -2,7 +2,7 @@
 use Prim.Native.Nat.{ℕ, ◌+◌, ◌≤◌}
 use native.Mathlib.Omega.{arith}
 use mathlib.Core.Path.{◌≡◌, refl}
-use mathlib.Core.List.{List, [], ◌∷◌, flatten}
+use mathlib.Core.List.{List, [], ◌∷◌, ◌++◌, append_assoc, flatten}
 use lib.ListN.{length, length-append}
 use Rattle.writer.specs.Written.{figure, line}
 use Rattle.writer.proofs.Figures.{line_length}
@@ -51,3 +51,13 @@ pub report_most : (f : Figures) → length (figure f.cost) ≤ 21 → length (fi
     → length (figure f.boundwriter) ≤ 21 → length (figure f.gap) ≤ 21
     → length (report_lines f) ≤ 171
 report_most f a b c d e = omega (arith, report_length f)
+
+-- the lines of the figures
+abbrev pub figure_lines : Figures → List ℕ
+figure_lines f =
+    line cost_key f.cost ++ (line cost_writer_key f.costwriter ++ (line bound_key f.bound ++ (line bound_writer_key f.boundwriter ++ (line gap_key f.gap ++ []))))
+
+-- the first line, those of the figures, the last
+pub report_parts : (f : Figures) → report_lines f ≡ (kind_line ++ figure_lines f) ++ end_line
+unfolding report_lines flatten
+report_parts f = simp append_assoc

@@ -13,17 +13,17 @@ use Rattle.writer.specs.Written.{over}
 use Rattle.writer.proofs.Parts.{part_tail, put_tail}
 use Rattle.report.specs.Report.{put_at, written_at, placed_at}
 use Rattle.report.specs.StatedReports.{report_stated, refused, its_length}
-use Rattle.report.specs.declared.ReportAnswer.TheVariants.{Refused, Written}
+use Rattle.std.specs.Prelude.{Ok, Err}
 use Rattle.report.proofs.Stages.{refilled}
 
 module _ (b : List ℕ) (k : ℕ) (l : List ℕ) where
   -- 43, and nothing changes
-  pub no_room : length b < k + length l → (written_at b k l ≡ Refused (refusal_of 43 0 0 0)) × (placed_at b k l ≡ b)
+  pub no_room : length b < k + length l → (written_at b k l ≡ Err (refusal_of 43 0 0 0)) × (placed_at b k l ≡ b)
   unfolding written_at placed_at
   no_room h = (simp (lt-leb (k + length l) (length b) h), simp (lt-leb (k + length l) (length b) h))
 
   module _ (h : k + length l ≤ length b) where
-    pub with_room : (written_at b k l ≡ Written (length l)) × (placed_at b k l ≡ put_at b k l)
+    pub with_room : (written_at b k l ≡ Ok (length l)) × (placed_at b k l ≡ put_at b k l)
     unfolding written_at placed_at
     with_room = (simp (le-leb (k + length l) (length b) h), simp (le-leb (k + length l) (length b) h))
 

@@ -1,86 +1,88 @@
 -- Lines written one after another, each into the part of the buffer after the one before it.
-use Prim.Native.Nat.{ℕ, zero, suc, ◌+◌, ◌-◌, ◌≤◌, zero-le}
+use Prim.Native.Nat.{ℕ, ◌+◌, ◌-◌, ◌≤◌, ◌<◌}
+use native.Mathlib.Numerals.{add-one}
 use native.Mathlib.Omega.{arith}
 use mathlib.Core.Path.{◌≡◌, sym, ap, ◌∙◌}
-use mathlib.Core.List.{List, [], ◌∷◌, ◌++◌, append_assoc, append-nil, flatten, nil≢cons, head-eq_of_cons-eq}
-use lib.ListN.{length, take, drop, length-append}
+use mathlib.Core.List.{List, ◌++◌, append_assoc, append-nil}
+use lib.ListN.{length, take, drop, get_or, length-append, drop_of_length-le}
+use lib.Seq.{drop-cons}
 use borrow.Rule.Slice.PartMut.{put_mid}
-use Rattle.writer.specs.Written.{over}
-use Rattle.writer.proofs.Parts.{next, room, kept}
+use Rattle.std.proofs.Common.{Bor}
+use Rattle.writer.specs.Written.{over, line}
+use Rattle.writer.specs.declared.Figure.{Figure}
+use Rattle.writer.proofs.Parts.{next, room}
 use Rattle.report.specs.declared.Figures.{Figures}
-use Rattle.report.specs.Report.{seven_lines, report_lines}
-
--- ---- the first j lines, and the next one
-
-pub first_one_more : (ls : List (List ℕ)) (j : ℕ) (x : List ℕ) (rest : List (List ℕ)) → drop j ls ≡ x ∷ rest → flatten (take (suc j) ls) ≡ flatten (take j ls) ++ x
-unfolding flatten
-first_one_more [] zero x rest e = absurd (nil≢cons e)
-first_one_more [] (suc j) x rest e = absurd (nil≢cons e)
-first_one_more (l ∷ ls) zero x rest e = append-nil l ∙ head-eq_of_cons-eq e
-first_one_more (l ∷ ls) (suc j) x rest e =
-    ap (λ (r : List ℕ). l ++ r) (first_one_more ls j x rest e) ∙ sym (append_assoc l (flatten (take j ls)) x)
-
-pub first_within : (ls : List (List ℕ)) (j : ℕ) → length (flatten (take j ls)) ≤ length (flatten ls)
-unfolding flatten
-first_within ls zero = zero-le
-first_within [] (suc j) = zero-le
-first_within (l ∷ ls) (suc j) = omega (arith, length-append l (flatten (take j ls)), length-append l (flatten ls), first_within ls j)
-
--- ---- b₁ is b with the first j of the lines written at its front, and k is the place after them
-
-pub record Stage (b b₁ : List ℕ) (lines : List (List ℕ)) (j k : ℕ) : Type 0 where
-  pub written : b₁ ≡ over (flatten (take j lines)) b
-  pub many : k ≡ length (flatten (take j lines))
-  pub fits : length (flatten lines) ≤ length b
-
--- the first line was written
-pub first_stage : {b b₁ x : List ℕ} {rest : List (List ℕ)} {k : ℕ} → length (flatten (x ∷ rest)) ≤ length b → k ≡ length x → b₁ ≡ over x b → Stage b b₁ (x ∷ rest) 1 k
-unfolding flatten
-first_stage {b} {b₁} {x} {rest} {k} h m w = record {
-  written = w ∙ ap (λ (l : List ℕ). over l b) (sym (append-nil x));
-  many = m ∙ ap length (sym (append-nil x));
-  fits = h;
-}
+use Rattle.report.specs.Report.{kind_line, end_line, shown_lines, report_lines}
+use Rattle.report.proofs.Lines.{figure_lines, report_parts}
 
 -- b, whose part from k on came back as ys
 abbrev pub refilled : List ℕ → ℕ → List ℕ → List ℕ
 refilled b k ys = put_mid k (length b - k) b ys
 
-module _ {b b₁ : List ℕ} {lines : List (List ℕ)} {j k : ℕ} (s : Stage b b₁ lines j k) where
-  -- the place is within the buffer, which is as long as before
-  pub within : k ≤ length b
-  within = omega (arith, s.many, s.fits, first_within lines j)
+abbrev pub Shown : Type 0
+Shown = Bor (List ℕ) × Figure
 
-  pub as_long : length b₁ ≡ length b
-  as_long = kept b b₁ (flatten (take j lines)) k s.written s.many (omega (arith, s.fits, first_within lines j))
+-- i of the lines stand at the front of b, in k bytes, which is then b₁; with those to come they make the whole
+abbrev pub Passed : List Shown → ℕ → List ℕ → List ℕ → ℕ → Type 0
+Passed ps i b b₁ k = (done : List ℕ) × (k ≡ length done) × (b₁ ≡ over done b) × (done ++ shown_lines (drop i ps) ≡ shown_lines ps)
 
-  pub starts : k ≤ length b₁
-  starts = omega (arith, within, as_long)
+module _ (ps : List Shown) (i : ℕ) (b b₁ : List ℕ) (k : ℕ) (p : Passed ps i b b₁ k) where
+  module _ (d : Shown) (h : i < length ps) where
+    next_line : shown_lines (drop i ps) ≡ line (get_or ps i d).0.now (get_or ps i d).1 ++ shown_lines (drop (i + 1) ps)
+    next_line =
+        ap shown_lines (drop-cons ps i d h)
+        ∙ ap (λ (j : ℕ). line (get_or ps i d).0.now (get_or ps i d).1 ++ shown_lines (drop j ps)) (sym (add-one i))
 
-  module _ {x : List ℕ} {rest : List (List ℕ)} (e : drop j lines ≡ x ∷ rest) where
-    -- the next line has room in the part from k on
-    pub next_room : length x ≤ length (take (length b₁ - k) (drop k b₁))
-    next_room =
-        room b b₁ (flatten (take j lines)) k s.written s.many x
-        (omega (arith, s.fits, first_within lines (suc j), ap length (first_one_more lines j x rest e), length-append (flatten (take j lines)) x))
+    -- the next line has room in the part behind them
+    pub passed_room : length (shown_lines ps) ≤ length b → length (line (get_or ps i d).0.now (get_or ps i d).1) ≤ length (take (length b₁ - k) (drop k b₁))
+    passed_room fits =
+        let l = line (get_or ps i d).0.now (get_or ps i d).1 in
+        let rest = shown_lines (drop (i + 1) ps) in
+        room b b₁ p.0 k p.2 p.1 l
+        (omega (arith, fits, ap length p.3, ap length next_line, length-append p.0 (shown_lines (drop i ps)), length-append l rest))
 
-    -- it was written there, n bytes, and the part came back as ys
-    pub advance : {ys : List ℕ} {n : ℕ} → n ≡ length x → ys ≡ over x (take (length b₁ - k) (drop k b₁)) → Stage b (refilled b₁ k ys) lines (suc j) (k + n)
-    advance {ys} {n} m q =
-        let f = first_one_more lines j x rest e in
-        record {
-          written = next b b₁ (flatten (take j lines)) k s.written s.many x ys q ∙ ap (λ (l : List ℕ). over l b) (sym f);
-          many = omega (arith, m, s.many, ap length f, length-append (flatten (take j lines)) x);
-          fits = s.fits;
-        }
+    -- and is one of them when it is written there
+    pub passed_more : (n : ℕ) (ys : List ℕ) → n ≡ length (line (get_or ps i d).0.now (get_or ps i d).1)
+        → ys ≡ over (line (get_or ps i d).0.now (get_or ps i d).1) (take (length b₁ - k) (drop k b₁))
+        → Passed ps (i + 1) b (refilled b₁ k ys) (k + n)
+    passed_more n ys many written =
+        let l = line (get_or ps i d).0.now (get_or ps i d).1 in (
+          p.0 ++ l,
+          omega (arith, p.1, many, length-append p.0 l),
+          next b b₁ p.0 k p.2 p.1 l ys written,
+          append_assoc p.0 l (shown_lines (drop (i + 1) ps)) ∙ ap (λ (x : List ℕ). p.0 ++ x) (sym next_line) ∙ p.3,
+        )
 
--- ---- all seven lines of a report
+  -- the last line was written
+  pub passed_all : length ps ≤ i → (k ≡ length (shown_lines ps)) × (b₁ ≡ over (shown_lines ps) b)
+  passed_all h =
+      let e : p.0 ≡ shown_lines ps = sym (append-nil p.0) ∙ ap (λ (x : List Shown). p.0 ++ shown_lines x) (sym (drop_of_length-le ps {i = i} h)) ∙ p.3 in
+      (p.1 ∙ ap length e, p.2 ∙ ap (λ (x : List ℕ). over x b) e)
 
-module _ (f : Figures) where
-  pub lines_fit : (b : List ℕ) → length (report_lines f) ≤ length b → length (flatten (seven_lines f)) ≤ length b
-  unfolding report_lines
-  lines_fit b h = h
+-- ---- the first line, those of the figures, the last
 
-  pub all_written : {b b₁ : List ℕ} {k : ℕ} → Stage b b₁ (seven_lines f) 7 k → (k ≡ length (report_lines f)) × (b₁ ≡ over (report_lines f) b)
-  unfolding report_lines
-  all_written s = (s.many, s.written)
+module _ (f : Figures) (b b₁ : List ℕ) (k : ℕ) (fits : length (report_lines f) ≤ length b) (many : k ≡ length kind_line) (written : b₁ ≡ over kind_line b) where
+  lengths : length (report_lines f) ≡ length kind_line + length (figure_lines f) + length end_line
+  lengths = omega (arith, ap length (report_parts f), length-append (kind_line ++ figure_lines f) end_line, length-append kind_line (figure_lines f))
+
+  pub figures_room : length (figure_lines f) ≤ length (take (length b₁ - k) (drop k b₁))
+  figures_room = room b b₁ kind_line k written many (figure_lines f) (omega (arith, fits, lengths))
+
+  module _ (ys : List ℕ) (n : ℕ) (more : n ≡ length (figure_lines f)) (back : ys ≡ over (figure_lines f) (take (length b₁ - k) (drop k b₁))) where
+    front : refilled b₁ k ys ≡ over (kind_line ++ figure_lines f) b
+    front = next b b₁ kind_line k written many (figure_lines f) ys back
+
+    front_many : k + n ≡ length (kind_line ++ figure_lines f)
+    front_many = omega (arith, many, more, length-append kind_line (figure_lines f))
+
+    pub end_room : length end_line ≤ length (take (length (refilled b₁ k ys) - (k + n)) (drop (k + n) (refilled b₁ k ys)))
+    end_room = room b (refilled b₁ k ys) (kind_line ++ figure_lines f) (k + n) front front_many end_line (omega (arith, fits, lengths, length-append kind_line (figure_lines f)))
+
+    pub all_many : (m : ℕ) → m ≡ length end_line → k + n + m ≡ length (report_lines f)
+    all_many m last = omega (arith, many, more, last, lengths)
+
+    pub all_written : (zs : List ℕ) → zs ≡ over end_line (take (length (refilled b₁ k ys) - (k + n)) (drop (k + n) (refilled b₁ k ys)))
+        → refilled (refilled b₁ k ys) (k + n) zs ≡ over (report_lines f) b
+    all_written zs last =
+        next b (refilled b₁ k ys) (kind_line ++ figure_lines f) (k + n) front front_many end_line zs last
+        ∙ ap (λ (l : List ℕ). over l b) (sym (report_parts f))

@@ -1,11 +1,12 @@
 -- Document 01, The docket and its report: the seven lines of five figures, and what a lent buffer then holds.
-use Rattle.std.specs.Prelude.{Bool, cond, ℕ, ◌+◌, leb, length, take, drop}
+use Rattle.std.specs.Prelude.{Bool, cond, ℕ, ◌+◌, leb, length, take, drop, Result, Ok, Err}
+use Rattle.std.specs.Borrow.{Bor}
 use mathlib.Core.List.{List, [], ◌∷◌, ◌++◌, flatten}
+use Rattle.refusal.specs.declared.Refusal.{Refusal}
 use Rattle.refusal.specs.Refusals.{refusal_of}
 use Rattle.writer.specs.Written.{line}
+use Rattle.writer.specs.declared.Figure.{Figure}
 use Rattle.report.specs.declared.Figures.{Figures}
-use Rattle.report.specs.declared.ReportAnswer.{ReportAnswer}
-use Rattle.report.specs.declared.ReportAnswer.TheVariants.{Refused, Written}
 
 -- ---- the seven lines
 
@@ -37,6 +38,11 @@ gap_key = 103 ∷ 97 ∷ 112 ∷ 61 ∷ []
 abbrev pub end_line : List ℕ
 end_line = 101 ∷ 110 ∷ 100 ∷ 61 ∷ 114 ∷ 101 ∷ 112 ∷ 111 ∷ 114 ∷ 116 ∷ 10 ∷ []
 
+-- a line for each key, that a reference points to, and its figure
+abbrev pub shown_lines : List (Bor (List ℕ) × Figure) → List ℕ
+shown_lines [] = []
+shown_lines (p ∷ ps) = line p.0.now p.1 ++ shown_lines ps
+
 -- the lines in their order
 abbrev pub seven_lines : Figures → List (List ℕ)
 seven_lines f =
@@ -63,8 +69,8 @@ abbrev pub put_at : List ℕ → ℕ → List ℕ → List ℕ
 put_at b k l = take k b ++ (l ++ drop (k + length l) b)
 
 -- the length; or 43, where the place is beyond the end or too few bytes follow it
-unfoldable pub written_at : List ℕ → ℕ → List ℕ → ReportAnswer
-written_at b k l = cond (has_room b k l) (Written (length l)) (Refused (refusal_of 43 0 0 0))
+unfoldable pub written_at : List ℕ → ℕ → List ℕ → Result ℕ Refusal
+written_at b k l = cond (has_room b k l) (Ok (length l)) (Err (refusal_of 43 0 0 0))
 
 -- the buffer after it, which 43 leaves alone
 unfoldable pub placed_at : List ℕ → ℕ → List ℕ → List ℕ

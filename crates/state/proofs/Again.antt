@@ -1,7 +1,8 @@
 -- A docket kept in slices is had again from them, where its arrays are as long as the struct's and its bound is small.
+use Rattle.std.specs.Prelude.{None, Option, Some}
 use mathlib.Core.Path.{◌≡◌, refl, ap, ◌∙◌}
 use mathlib.Core.Bool.{Bool, true, false, not, cond}
-use Prim.Native.Nat.{ℕ, suc, ◌+◌}
+use Prim.Native.Nat.{ℕ, suc}
 use native.Mathlib.Omega.{arith}
 use lib.Dec.{eqb}
 use lib.IntN.{ℤ, pos, negsuc}
@@ -14,8 +15,7 @@ use Rattle.layout.specs.Numbers.{laid_out, problem_in}
 use Rattle.writer.specs.Written.{figure_of}
 use Rattle.layout.proofs.Again.{problem_again}
 use Rattle.docket.specs.declared.Docket.{Docket}
-use Rattle.docket.specs.declared.held.HeldCost.{HeldCost}
-use Rattle.docket.specs.declared.held.HeldCost.TheVariants as cost
+use Rattle.docket.specs.declared.held.CostBy.{CostBy}
 use Rattle.docket.specs.declared.held.HeldBound.{HeldBound}
 use Rattle.docket.specs.declared.held.HeldBound.TheVariants as bound
 use Rattle.docket.specs.Docket.{small_bound}
@@ -40,10 +40,10 @@ bound_again bound.Nothing l s = refl
 bound_again (bound.Number n) l s = number_again n.value n.writer l s
 bound_again (bound.Never n) l s = refl
 
-held_of : (c : HeldCost) (b : HeldBound) (l : List ℕ) → small_bound b ≡ true → (x y : ℕ)
+held_of : (c : Option CostBy) (b : HeldBound) (l : List ℕ) → small_bound b ≡ true → (x y : ℕ)
     → held_in (x ∷ y ∷ (cost_numbers c ++ (held_bound_numbers b ++ l))) ≡ record { cost = c; bound = b }
-held_of cost.Nothing b l s x y = ap (λ (h : HeldBound). record { cost = cost.Nothing; bound = h }) (bound_again b l s)
-held_of (cost.Number n) b l s x y = ap (λ (h : HeldBound). record { cost = cost.Number n; bound = h }) (bound_again b l s)
+held_of None b l s x y = ap (λ (h : HeldBound). record { cost = None; bound = h }) (bound_again b l s)
+held_of (Some n) b l s x y = ap (λ (h : HeldBound). record { cost = Some n; bound = h }) (bound_again b l s)
 
 -- ---- the whole
 

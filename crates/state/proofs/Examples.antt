@@ -1,4 +1,5 @@
 -- The mark, the front of a state and the outputs of a docket, by computation; and numbers that are no state's.
+use Rattle.std.specs.Prelude.{Some}
 use mathlib.Core.Path.{◌≡◌, refl}
 use mathlib.Core.Bool.{true, false}
 use mathlib.Core.List.{List, [], ◌∷◌, map}
@@ -12,7 +13,6 @@ use Rattle.model.specs.Held.{pad, held, valid_problem}
 use Rattle.layout.specs.Numbers.{laid_out, problem_in}
 use Rattle.writer.specs.Written.{figure_of}
 use Rattle.docket.specs.declared.Docket.{Docket}
-use Rattle.docket.specs.declared.held.HeldCost.TheVariants as cost
 use Rattle.docket.specs.declared.held.HeldBound.TheVariants as bound
 use Rattle.docket.specs.Docket.{sound, small_cost, small_bound}
 use Rattle.state.specs.Layout.{layout_mark, state_numbers, held_bound_numbers, docket_in, cost_in, bound_in}
@@ -34,7 +34,7 @@ abbrev docket : Docket
 docket = record {
   known = true;
   problem = held alone;
-  held = record { cost = cost.Number (record { cost = 1500; writer = 7 }); bound = bound.Number (record { value = negsuc 29; writer = 3 }) };
+  held = record { cost = Some (record { cost = 1500; writer = 7 }); bound = bound.Number (record { value = negsuc 29; writer = 3 }) };
   rows = pad 0 1536 (60 ∷ 70 ∷ []);
 }
 

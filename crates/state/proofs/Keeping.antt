@@ -1,7 +1,10 @@
 -- The four parts of a state's numbers, stored one after the other from the front, are the state's.
+use Rattle.std.specs.Prelude.{None, Option, Some}
 use mathlib.Core.Path.{◌≡◌, refl, ap, ◌∙◌}
+use mathlib.Core.Bool.{Bool, true, false, cond}
+use mir.Val.{bool_byte}
 use mathlib.Core.List.{List, [], ◌++◌}
-use Prim.Native.Nat.{ℕ, ◌+◌}
+use Prim.Native.Nat.{ℕ}
 use native.Mathlib.Omega.{arith}
 use lib.ListN.{length, length-append}
 use lib.Seq.{paste}
@@ -11,16 +14,15 @@ use Rattle.writer.specs.declared.Figure.{Figure}
 use Rattle.writer.specs.declared.Figure.TheVariants.{Missing, Never, Number, Minus}
 use Rattle.layout.proofs.Fronts.{front, front_more}
 use Rattle.docket.specs.declared.Docket.{Docket}
-use Rattle.docket.specs.declared.held.HeldCost.{HeldCost}
-use Rattle.docket.specs.declared.held.HeldCost.TheVariants as cost
+use Rattle.docket.specs.declared.held.CostBy.{CostBy}
 use Rattle.docket.specs.declared.held.HeldBound.{HeldBound}
 use Rattle.docket.specs.declared.held.HeldBound.TheVariants as bound
 use Rattle.state.specs.Layout.{head, cost_numbers, figure_numbers, held_bound_numbers, state_numbers}
 use Rattle.state.specs.Kept.{kept_numbers}
 
-pub cost_long : (h : HeldCost) → length (cost_numbers h) ≡ 3
-cost_long cost.Nothing = refl
-cost_long (cost.Number n) = refl
+pub cost_long : (h : Option CostBy) → length (cost_numbers h) ≡ 3
+cost_long None = refl
+cost_long (Some n) = refl
 
 value_long : (f : Figure) (w : ℕ) → length (figure_numbers f w) ≡ 3
 value_long Missing w = refl
@@ -54,3 +56,7 @@ module _ (d : Docket) where
       let fy : y ≡ front five v = ey ∙ ap (λ (l : List ℕ). paste x 2 l (length l)) ec ∙ front_more (head d) v x (cost_numbers d.held.cost) 2 fx refl in
       let fz : z ≡ front eight v = ez ∙ ap (λ (l : List ℕ). paste y 5 l (length l)) eb ∙ front_more five v y (held_bound_numbers d.held.bound) 5 fy five_long in
       eu ∙ ap (λ (l : List ℕ). paste z 8 l (length l)) ep ∙ front_more eight v z (laid_out d.problem) 8 fz eight_long
+
+pub known_byte : (b : Bool) → bool_byte b ≡ cond b 1 0
+known_byte true = refl
+known_byte false = refl

@@ -1,14 +1,16 @@
 -- Slices that hold a docket hold a sound one.
+use Rattle.std.specs.Prelude.{Option, Some, None}
+use native.Mathlib.Omega.{arith}
 use mathlib.Core.Path.{◌≡◌, refl, sym, ap, ◌∙◌}
 use mathlib.Core.Bool.{Bool, true, false, cond}
 use mathlib.Core.List.{List}
-use mathlib.Core.Logic.{◌↔◌}
+use mathlib.Core.Logic.{◌↔◌, ◌⊎◌, inl, inr}
 use Prim.Native.Nat.{ℕ}
 use lib.Dec.{eqb}
-use borrow.Author.Tests.{eqb-true, eq-eqb}
+use borrow.Author.Tests.{eqb-true, eq-eqb, ne_eqb}
 use Rattle.model.specs.Instance.{◌at◌}
 use Rattle.docket.specs.Docket.{sound}
-use Rattle.state.specs.declared.Opened.{Opened}
+use Rattle.docket.specs.declared.Docket.{Docket}
 use Rattle.state.specs.Layout.{layout_mark, docket_in}
 use Rattle.state.specs.Kept.{holds, opened}
 use Rattle.state.proofs.Room.{clash}
@@ -34,7 +36,40 @@ module _ (v w : List ℕ) where
   unfolding holds
   holds_is = ((λ e. (holds_mark e, holds_sound e)), (λ h. rw (eq-eqb (v at 0) layout_mark h.0, h.1) refl))
 
+  not_marked : (v at 0 ≡ layout_mark → ⊥) → holds v w ≡ false
+  unfolding holds
+  not_marked n = rw (ne_eqb (v at 0) layout_mark n) refl
+
+  not_sound : sound (docket_in v w) ≡ false → holds v w ≡ false
+  unfolding holds
+  not_sound e = go (eqb (v at 0) layout_mark)
+    where
+      go : (t : Bool) → cond t (sound (docket_in v w)) false ≡ false
+      go true = e
+      go false = refl
+
+  -- a docket is opened, or none
+  module _ (d : Docket) (e : d ≡ docket_in v w) where
+    pub opened_some : v at 0 ≡ layout_mark → sound d ≡ true → Some d ≡ opened v w
+    opened_some m s =
+        ap Some e ∙ sym (ap (λ (t : Bool). cond t (Some (docket_in v w)) None) (holds_is.1 (m, ap sound (sym e) ∙ s)))
+
+    pub opened_none : (v at 0 ≡ layout_mark → ⊥) ⊎ (sound d ≡ false) → None ≡ opened v w
+    opened_none (inl n) = sym (ap (λ (t : Bool). cond t (Some (docket_in v w)) None) (not_marked n))
+    opened_none (inr n) = sym (ap (λ (t : Bool). cond t (Some (docket_in v w)) None) (not_sound (ap sound (sym e) ∙ n)))
+
   -- a docket that was opened
-  pub held_sound : (x : Opened) → x ≡ opened v w → x.is ≡ true → sound x.docket ≡ true
-  held_sound x e i =
-      ap (λ (y : Opened). sound y.docket) e ∙ holds_sound (ap (λ (y : Opened). y.is) (sym e) ∙ i)
+  pub opened_is : (x : Option Docket) (d : Docket) → x ≡ opened v w → x ≡ Some d → (holds v w ≡ true) × (d ≡ docket_in v w)
+  opened_is x d e k = go (holds v w) refl (sym k ∙ e)
+    where
+      go : (t : Bool) → holds v w ≡ t → Some d ≡ cond t (Some (docket_in v w)) None → (holds v w ≡ true) × (d ≡ docket_in v w)
+      go true h s = (h, cc)
+      go false h s = let z : ◌≡◌ {A = ℕ} 0 1 = cc in absurd (omega arith)
+
+  -- and where none was
+  pub not_opened : (x : Option Docket) → x ≡ opened v w → x ≡ None → holds v w ≡ false
+  not_opened x e k = go (holds v w) refl (sym k ∙ e)
+    where
+      go : (t : Bool) → holds v w ≡ t → None ≡ cond t (Some (docket_in v w)) None → holds v w ≡ false
+      go true h s = let z : ◌≡◌ {A = ℕ} 0 1 = cc in absurd (omega arith)
+      go false h s = h

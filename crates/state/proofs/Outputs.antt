@@ -1,4 +1,5 @@
 -- A sound docket's schedule has at most 1,536 outputs; and those of a docket that texts lead to are the rows of the schedule that is held.
+use Rattle.std.specs.Prelude.{None, Option, Some}
 use mathlib.Core.Path.{◌≡◌, refl, ap, ◌∙◌}
 use mathlib.Core.Bool.{Bool, true, false}
 use mathlib.Core.List.{List, [], flatten}
@@ -20,8 +21,6 @@ use Rattle.judge.proofs.Rows.{joined_long}
 use Rattle.docket.specs.declared.Docket.{Docket}
 use Rattle.docket.specs.declared.held.Held.{Held}
 use Rattle.docket.specs.declared.held.CostBy.{CostBy}
-use Rattle.docket.specs.declared.held.HeldCost.{HeldCost}
-use Rattle.docket.specs.declared.held.HeldCost.TheVariants as cost
 use Rattle.docket.specs.Docket.{no_bound, sound, sound_by}
 use Rattle.docket.specs.Verdicts.{Costed, Verdict, schedules}
 use Rattle.docket.specs.Texts.{Are}
@@ -40,10 +39,10 @@ product_few units periods h k = let a : units * periods ≤ 32 * periods = mul-l
 valid_few : (p : Problem) → valid_problem p ≡ true → p.units * p.periods ≤ 1536
 valid_few p e = let n = valid_sizes p e in product_few p.units p.periods n.1 n.0
 
-few_by : (known : Bool) (p : Problem) (h : Held) (c : HeldCost) → h.cost ≡ c → sound_by known p h ≡ true → count_under c p.units p.periods ≤ 1536
-few_by known p h cost.Nothing k e = omega arith
-few_by true p h (cost.Number n) k e = valid_few p (and_true (valid_problem p) _ e).0
-few_by false p h (cost.Number n) k e = clash (and_true false (no_bound h.bound) (rw k at e)).0
+few_by : (known : Bool) (p : Problem) (h : Held) (c : Option CostBy) → h.cost ≡ c → sound_by known p h ≡ true → count_under c p.units p.periods ≤ 1536
+few_by known p h None k e = omega arith
+few_by true p h (Some n) k e = valid_few p (and_true (valid_problem p) _ e).0
+few_by false p h (Some n) k e = clash (and_true false (no_bound h.bound) (rw k at e)).0
 
 pub outputs_few : (d : Docket) → sound d ≡ true → outputs_count d ≤ 1536
 unfolding sound
@@ -55,11 +54,11 @@ outputs_long d e long = length-take-le (outputs_count d) d.rows (omega (arith, o
 
 -- ---- which
 
-pub no_outputs : (d : Docket) → d.held.cost ≡ cost.Nothing → outputs_of d ≡ []
+pub no_outputs : (d : Docket) → d.held.cost ≡ None → outputs_of d ≡ []
 unfolding outputs_of
 no_outputs d e = rw e refl
 
-module _ (P : Instance) (accepted : List Costed) (by : CostBy) (d : Docket) (held : d.problem ≡ arrays.held P) (costs : d.held.cost ≡ cost.Number by)
+module _ (P : Instance) (accepted : List Costed) (by : CostBy) (d : Docket) (held : d.problem ≡ arrays.held P) (costs : d.held.cost ≡ Some by)
     (h : HoldsSchedule P accepted by d.rows) where
   pub outputs_held : outputs_of d ≡ flatten h.best.rows
   unfolding outputs_of arrays.held
@@ -70,7 +69,7 @@ module _ (P : Instance) (accepted : List Costed) (by : CostBy) (d : Docket) (hel
 
 -- the outputs held after texts: those of the first accepted schedule with the least cost
 module _ (texts : List (List ℕ)) (vs : List Verdict) (are : Are none texts vs) (P : Instance) (known : given vs ≡ some P) (by : CostBy)
-    (e : (after texts).held.cost ≡ cost.Number by) where
+    (e : (after texts).held.cost ≡ Some by) where
   pub outputs_after : (s : Costed) × FirstLeast (λ x. x.cost) s (schedules vs) × (outputs_of (after texts) ≡ flatten s.rows)
   outputs_after =
       let h = holdings.its_schedule texts vs are P known by e in

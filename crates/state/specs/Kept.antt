@@ -1,17 +1,15 @@
 -- Slices that hold a docket, what lodging a text makes of them, and the outputs of the schedule that they hold.
-use Rattle.std.specs.Prelude.{◌≡◌, Bool, true, false, cond, List, ℕ, ◌*◌, eqb, ltb, leb, length, take}
+use Rattle.std.specs.Prelude.{◌≡◌, Bool, true, false, cond, List, ℕ, ◌*◌, eqb, ltb, leb, length, take, None, Option, Some}
 use Rattle.model.specs.Instance.{◌at◌}
 use Rattle.writer.specs.Written.{over}
 use Rattle.answer.specs.declared.Answer.{Answer}
 use Rattle.answer.specs.declared.Answer.TheVariants as answer
 use Rattle.docket.specs.declared.Docket.{Docket}
 use Rattle.docket.specs.declared.Lodged.{Lodged}
-use Rattle.docket.specs.declared.held.HeldCost.{HeldCost}
-use Rattle.docket.specs.declared.held.HeldCost.TheVariants as cost
+use Rattle.docket.specs.declared.held.CostBy.{CostBy}
 use Rattle.docket.specs.Docket.{sound}
 use Rattle.docket.specs.Lodging.{lodge_of}
 use Rattle.state.specs.Layout.{layout_mark, state_numbers, docket_in}
-use Rattle.state.specs.declared.Opened.{Opened}
 
 -- ---- slices that hold a docket
 
@@ -23,8 +21,8 @@ long v w = cond (ltb (length v) 618) false (leb 1536 (length w))
 unfoldable pub holds : List ℕ → List ℕ → Bool
 holds v w = cond (eqb (v at 0) layout_mark) (sound (docket_in v w)) false
 
-abbrev pub opened : List ℕ → List ℕ → Opened
-opened v w = record { is = holds v w; docket = docket_in v w }
+abbrev pub opened : List ℕ → List ℕ → Option Docket
+opened v w = cond (holds v w) (Some (docket_in v w)) None
 
 -- ---- a docket kept in slices: at their front
 
@@ -52,9 +50,9 @@ lodged_rows l w = cond (is_held l.answer) (kept_rows l.docket w) w
 
 -- ---- the outputs of the held schedule, unit u's from u times T on; none where none is held
 
-abbrev pub count_under : HeldCost → ℕ → ℕ → ℕ
-count_under cost.Nothing units periods = 0
-count_under (cost.Number n) units periods = units * periods
+abbrev pub count_under : Option CostBy → ℕ → ℕ → ℕ
+count_under None units periods = 0
+count_under (Some n) units periods = units * periods
 
 abbrev pub outputs_count : Docket → ℕ
 outputs_count d = count_under d.held.cost d.problem.units d.problem.periods

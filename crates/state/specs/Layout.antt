@@ -1,6 +1,6 @@
 -- A docket as two lists of numbers. The first has 618: a mark, whether a problem is known, three for the held cost, three for the held bound,
 -- and the 610 of the problem. The second has the 1,536 outputs of the held schedule. What a slice holds after them is its owner's.
-use Rattle.std.specs.Prelude.{not, cond, List, [], ◌∷◌, ◌++◌, ℕ, eqb, ltb, ℤ, pos, ◌-ℤ◌, take, drop}
+use Rattle.std.specs.Prelude.{not, cond, List, [], ◌∷◌, ◌++◌, ℕ, eqb, ltb, ℤ, pos, ◌-ℤ◌, take, drop, None, Option, Some}
 use Rattle.model.specs.Instance.{◌at◌}
 use Rattle.layout.specs.Numbers.{laid_out, problem_in}
 use Rattle.writer.specs.Written.{figure_of}
@@ -8,8 +8,7 @@ use Rattle.writer.specs.declared.Figure.{Figure}
 use Rattle.writer.specs.declared.Figure.TheVariants.{Missing, Never, Number, Minus}
 use Rattle.docket.specs.declared.Docket.{Docket}
 use Rattle.docket.specs.declared.held.Held.{Held}
-use Rattle.docket.specs.declared.held.HeldCost.{HeldCost}
-use Rattle.docket.specs.declared.held.HeldCost.TheVariants as cost
+use Rattle.docket.specs.declared.held.CostBy.{CostBy}
 use Rattle.docket.specs.declared.held.HeldBound.{HeldBound}
 use Rattle.docket.specs.declared.held.HeldBound.TheVariants as bound
 
@@ -26,9 +25,9 @@ layout_mark = 19227448860562434
 -- ---- a docket's numbers
 
 -- 0 for none, or 1, and the cost with its writer
-abbrev pub cost_numbers : HeldCost → List ℕ
-cost_numbers cost.Nothing = 0 ∷ 0 ∷ 0 ∷ []
-cost_numbers (cost.Number n) = 1 ∷ n.cost ∷ n.writer ∷ []
+abbrev pub cost_numbers : Option CostBy → List ℕ
+cost_numbers None = 0 ∷ 0 ∷ 0 ∷ []
+cost_numbers (Some n) = 1 ∷ n.cost ∷ n.writer ∷ []
 
 -- 0 for none, 1 and the number, 2 and what follows its minus, or 3 for never, with the writer
 abbrev pub figure_numbers : Figure → ℕ → List ℕ
@@ -54,9 +53,9 @@ state_numbers d = ((head d ++ cost_numbers d.held.cost) ++ held_bound_numbers d.
 abbrev pub size_room : ℕ
 size_room = 4611686018427387904
 
-abbrev pub cost_in : ℕ → ℕ → ℕ → HeldCost
+abbrev pub cost_in : ℕ → ℕ → ℕ → Option CostBy
 cost_in tag c w =
-    cond (eqb tag 0) cost.Nothing (cond (eqb tag 1) (cost.Number (record { cost = c; writer = w })) (cost.Number (record { cost = size_room; writer = w })))
+    cond (eqb tag 0) None (cond (eqb tag 1) (Some (record { cost = c; writer = w })) (Some (record { cost = size_room; writer = w })))
 
 abbrev pub value_in : ℕ → ℕ → ℤ
 value_in tag n = cond (ltb n size_room) (cond (eqb tag 1) (pos n) (cond (eqb tag 2) (pos 0 -ℤ pos n) (pos size_room))) (pos size_room)

@@ -2,7 +2,7 @@
 ghost use Rattle.std.specs.Prelude.{◌≡◌};
 ghost use Rattle.state.specs.Layout.{cost_numbers, figure_numbers, held_bound_numbers, cost_in, value_in, bound_in};
 
-use docket::held::{BoundBy, CostBy, HeldBound, HeldCost, NeverBy};
+use docket::held::{BoundBy, CostBy, HeldBound, NeverBy};
 use writer::Figure;
 
 // Read for what is no figure of a docket: 2^62, which none of a sound docket reaches.
@@ -11,12 +11,12 @@ const SIZE_ROOM: u64 = 4_611_686_018_427_387_904;
 const TOO_LARGE: i64 = 4_611_686_018_427_387_904;
 
 // The three numbers of a held cost.
-pub fn cost_numbers(cost: HeldCost) -> [u64; 3]
+pub fn cost_numbers(cost: Option<CostBy>) -> [u64; 3]
     ensures { result ≡ cost_numbers cost }
 {
     match cost {
-        HeldCost::Nothing => [0, 0, 0],
-        HeldCost::Number(n) => [1, n.cost, n.writer],
+        None => [0, 0, 0],
+        Some(n) => [1, n.cost, n.writer],
     }
 }
 
@@ -38,55 +38,46 @@ pub fn bound_numbers(bound: HeldBound) -> [u64; 3]
 {
     match bound {
         HeldBound::Nothing => [0, 0, 0],
-        HeldBound::Number(n) => {
-            let shown = writer::figure_of(n.value);
-            value_numbers(shown, n.writer)
-        }
+        HeldBound::Number(n) => value_numbers(Figure::from(n.value), n.writer),
         HeldBound::Never(n) => [3, 0, n.writer],
     }
 }
 
 // The held cost of three numbers.
-pub fn cost_in(tag: u64, cost: u64, writer: u64) -> HeldCost
+pub fn cost_in(tag: u64, cost: u64, writer: u64) -> Option<CostBy>
     ensures { result ≡ cost_in tag cost writer }
 {
-    if tag == 0 {
-        return HeldCost::Nothing;
+    match tag {
+        0 => None,
+        1 => Some(CostBy { cost, writer }),
+        _ => Some(CostBy {
+            cost: SIZE_ROOM,
+            writer,
+        }),
     }
-    if tag == 1 {
-        return HeldCost::Number(CostBy { cost, writer });
-    }
-    HeldCost::Number(CostBy {
-        cost: SIZE_ROOM,
-        writer,
-    })
 }
 
 // The held number of two numbers.
 fn value_in(tag: u64, size: u64) -> i64
     ensures { result ≡ value_in tag size }
 {
-    if size < SIZE_ROOM {
-        if tag == 1 {
-            return size as i64;
-        }
-        if tag == 2 {
-            return 0 - (size as i64);
-        }
+    match tag {
+        1 if size < SIZE_ROOM => size as i64,
+        2 if size < SIZE_ROOM => -(size as i64),
+        _ => TOO_LARGE,
     }
-    TOO_LARGE
 }
 
 // The held bound of three numbers.
 pub fn bound_in(tag: u64, size: u64, writer: u64) -> HeldBound
     ensures { result ≡ bound_in tag size writer }
 {
-    if tag == 0 {
-        return HeldBound::Nothing;
+    match tag {
+        0 => HeldBound::Nothing,
+        3 => HeldBound::Never(NeverBy { writer }),
+        _ => HeldBound::Number(BoundBy {
+            value: value_in(tag, size),
+            writer,
+        }),
     }
-    if tag == 3 {
-        return HeldBound::Never(NeverBy { writer });
-    }
-    let value = value_in(tag, size);
-    HeldBound::Number(BoundBy { value, writer })
 }

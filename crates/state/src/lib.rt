@@ -1,14 +1,14 @@
 // A docket in two lent slices: 618 numbers, and the 1,536 outputs of its held schedule.
 #![tactic(auto)]
 
-ghost use Rattle.std.specs.Prelude.{◌≡◌, true, cond, ◌≤◌, length};
+ghost use Rattle.std.specs.Prelude.{◌≡◌, true, ◌≤◌, length};
 ghost use Rattle.writer.specs.Written.{over};
 ghost use Rattle.docket.specs.Docket.{sound};
 ghost use Rattle.state.specs.Layout.{docket_in};
 ghost use Rattle.state.specs.Kept.{long, opened, kept_numbers, kept_rows, is_held, lodged_numbers, lodged_rows, outputs_count, outputs_of};
 
 use answer::Answer;
-use docket::held::{Held, HeldCost};
+use docket::held::Held;
 use docket::{Docket, Lodged, sound};
 
 mod held;
@@ -16,21 +16,11 @@ mod held;
 // The first number of every state: that it is a docket's, and how it lies.
 const MARK: u64 = 19_227_448_860_562_434;
 
-// The docket of a state's numbers, and whether they hold one.
-#[derive(Clone, Copy)]
-pub struct Opened {
-    pub is: bool,
-    pub docket: Docket,
-}
-
 // Whether the slices have room for a state.
 pub fn is_long(numbers: &[u64], rows: &[u16]) -> bool
     ensures { result ≡ long numbers.now rows.now }
 {
-    if numbers.len() < 618 {
-        return false;
-    }
-    1536 <= rows.len()
+    618 <= numbers.len() && 1536 <= rows.len()
 }
 
 // The docket of a state's numbers, sound or not.
@@ -39,41 +29,28 @@ fn docket_in(numbers: &[u64], rows: &[u16]) -> Docket
     requires in_bounds_2 { 1536 ≤ length rows.now }
     ensures { result ≡ docket_in numbers.now rows.now }
 {
-    let problem = layout::reading::problem_in(&numbers[8..]);
-    let cost = held::cost_in(numbers[2], numbers[3], numbers[4]);
-    let bound = held::bound_in(numbers[5], numbers[6], numbers[7]);
-    let held = Held { cost, bound };
-    let kept = layout::copies::rows_in(rows);
     Docket {
         known: numbers[1] != 0,
-        problem,
-        held,
-        rows: kept,
+        problem: layout::reading::problem_in(&numbers[8..]),
+        held: Held {
+            cost: held::cost_in(numbers[2], numbers[3], numbers[4]),
+            bound: held::bound_in(numbers[5], numbers[6], numbers[7]),
+        },
+        rows: layout::copies::rows_in(rows),
     }
 }
 
-// The docket of a state's numbers, and whether they have the mark and it is sound.
-pub fn opened_in(numbers: &[u64], rows: &[u16]) -> Opened
+// The docket of a state's numbers, where they have the mark and it is sound.
+pub fn opened_in(numbers: &[u64], rows: &[u16]) -> Option<Docket>
     requires in_bounds { 618 ≤ length numbers.now }
     requires in_bounds_2 { 1536 ≤ length rows.now }
     ensures { result ≡ opened numbers.now rows.now }
 {
     let docket = docket_in(numbers, rows);
-    if numbers[0] == MARK {
-        let is = sound::is_sound(docket);
-        return Opened { is, docket };
+    if numbers[0] == MARK && sound::is_sound(docket) {
+        return Some(docket);
     }
-    Opened { is: false, docket }
-}
-
-// 1 for known, 0 for not.
-fn known_number(known: bool) -> u64
-    ensures { result ≡ cond known 1 0 }
-{
-    if known {
-        return 1;
-    }
-    0
+    None
 }
 
 // The slices hold the docket.
@@ -83,34 +60,21 @@ pub fn keep(docket: Docket, numbers: &mut [u64], rows: &mut [u16])
     ensures numbers_after { numbers.new ≡ kept_numbers docket numbers.old }
     ensures rows_after { rows.new ≡ kept_rows docket rows.old }
 {
-    let held = docket.held;
-    let held_cost = held.cost;
-    let held_bound = held.bound;
-    let problem = docket.problem;
-    let kept = docket.rows;
-    let head = [MARK, known_number(docket.known)];
-    let cost = held::cost_numbers(held_cost);
-    let bound = held::bound_numbers(held_bound);
-    let laid = layout::lay_out(problem);
-    layout::copies::store(numbers, 0, &head);
-    layout::copies::store(numbers, 2, &cost);
-    layout::copies::store(numbers, 5, &bound);
-    layout::copies::store(numbers, 8, &laid);
-    layout::copies::store_rows(rows, &kept);
+    layout::copies::store(numbers, 0, &[MARK, u64::from(docket.known)]);
+    layout::copies::store(numbers, 2, &held::cost_numbers(docket.held.cost));
+    layout::copies::store(numbers, 5, &held::bound_numbers(docket.held.bound));
+    layout::copies::store(numbers, 8, &layout::lay_out(docket.problem));
+    layout::copies::store_rows(rows, &docket.rows);
 }
 
 // Whether the answer says that the text is held.
 fn is_held(answer: Answer) -> bool
     ensures { result ≡ is_held answer }
 {
-    match answer {
-        Answer::Refused(_) => false,
-        Answer::TextHeld => true,
-        Answer::ScheduleHeld(_) => true,
-        Answer::SchedulePassed(_) => false,
-        Answer::TreeHeld(_) => true,
-        Answer::TreePassed(_) => false,
-    }
+    matches!(
+        answer,
+        Answer::TextHeld | Answer::ScheduleHeld(_) | Answer::TreeHeld(_)
+    )
 }
 
 // The slices hold the docket after a text that is held; after any other they are as they were.
@@ -120,10 +84,8 @@ pub fn keep_held(lodged: Lodged, numbers: &mut [u64], rows: &mut [u16])
     ensures numbers_after { numbers.new ≡ lodged_numbers lodged numbers.old }
     ensures rows_after { rows.new ≡ lodged_rows lodged rows.old }
 {
-    let answer = lodged.answer;
-    if is_held(answer) {
-        let docket = lodged.docket;
-        keep(docket, numbers, rows);
+    if is_held(lodged.answer) {
+        keep(lodged.docket, numbers, rows);
     }
 }
 
@@ -132,12 +94,9 @@ fn count_outputs(docket: Docket) -> usize
     requires { sound docket ≡ true }
     ensures { result ≡ outputs_count docket }
 {
-    let held = docket.held;
-    let cost = held.cost;
-    let problem = docket.problem;
-    match cost {
-        HeldCost::Nothing => 0,
-        HeldCost::Number(_) => problem.units * problem.periods,
+    match docket.held.cost {
+        None => 0,
+        Some(_) => docket.problem.units * docket.problem.periods,
     }
 }
 
@@ -149,7 +108,6 @@ pub fn copy_outputs(docket: Docket, outputs: &mut [u16]) -> usize
     ensures outputs_after { outputs.new ≡ over (outputs_of docket) outputs.old }
 {
     let n = count_outputs(docket);
-    let kept = docket.rows;
-    layout::copies::store_rows(outputs, &kept[0..n]);
+    layout::copies::store_rows(outputs, &docket.rows[..n]);
     n
 }

@@ -6,7 +6,7 @@ use mathlib.Core.Path.{◌≡◌, refl, sym, ap, ◌∙◌}
 use mathlib.Core.List.{List, [], ◌∷◌, ◌++◌, append_assoc, append-nil}
 use lib.ListN.{length, take, drop, get_or, set, length-append, length-drop, drop_of_length-le}
 use borrow.Rule.Slice.PartMut.{put_mid}
-use lib.Seq.{take_at, drop_at, drop-drop, take-length, take_all, drop-cons, set_at}
+use lib.Seq.{take_at, drop_at, drop-drop, take_all, drop-cons, set_at}
 use Rattle.writer.specs.Written.{over}
 
 -- ---- writing on, into the part of the buffer after what is written
@@ -55,9 +55,6 @@ module _ (b b₁ done : List ℕ) (k : ℕ) (written : b₁ ≡ over done b) (ma
       ∙ set_at done (get_or b (length done) 0) (drop (suc (length done)) b) v k (sym many)
       ∙ ap (λ (n : ℕ). done ++ (v ∷ drop n b)) (sym (length-append done (v ∷ []) ∙ add-one (length done)))
       ∙ sym (append_assoc done (v ∷ []) (drop (length (done ++ (v ∷ []))) b))
-
-pub copied : (key b b₁ : List ℕ) → b₁ ≡ take (length key) key ++ drop (length key) b → b₁ ≡ over key b
-copied key b b₁ e = e ∙ ap (λ (l : List ℕ). l ++ drop (length key) b) (take-length key)
 
 -- ---- one byte, and then bytes in the part after it
 

@@ -14,18 +14,25 @@ pub enum Figure {
     Minus(u64),
 }
 
+// The figure that shows a whole number.
+impl From<i64> for Figure {
+    ghost from_gives = { λ z f. f ≡ figure_of z };
+
+    fn from(z: i64) -> Figure {
+        let size = z.unsigned_abs();
+        if z < 0 {
+            return Figure::Minus(size);
+        }
+        Figure::Number(size)
+    }
+}
+
 // How many digits n has.
 fn width(n: u64) -> usize
     ensures value { result ≡ length (digits n) }
     ensures upper_bound { result ≤ 20 }
 {
-    let mut w: usize = 1;
-    let mut m = n;
-    while 9 < m {
-        m = m / 10;
-        w += 1;
-    }
-    w
+    n.max(1).ilog10() as usize + 1
 }
 
 // How many bytes were written: the bytes given, at the front of buf.
@@ -34,8 +41,8 @@ pub fn write_bytes(buf: &mut [u8], bytes: &[u8]) -> usize
     ensures value { result ≡ length bytes.now }
     ensures buf_after { buf.new ≡ over bytes.now buf.old }
 {
-    for i in 0..bytes.len() {
-        buf[i] = bytes[i];
+    for (i, byte) in bytes.iter().enumerate() {
+        buf[i] = *byte;
     }
     bytes.len()
 }
@@ -47,29 +54,16 @@ fn write_number(buf: &mut [u8], n: u64) -> usize
     ensures buf_after { buf.new ≡ over (digits n) buf.old }
 {
     let w = width(n);
-    let mut i = w;
     let mut m = n;
-    while 0 < i {
-        i -= 1;
-        buf[i] = (48 + m % 10) as u8;
-        m = m / 10;
+    for i in (0..w).rev() {
+        buf[i] = b'0' + (m % 10) as u8;
+        m /= 10;
     }
     w
 }
 
-// The figure that shows z.
-pub fn figure_of(z: i64) -> Figure
-    ensures { result ≡ figure_of z }
-{
-    if z < 0 {
-        let up = z + 1;
-        let n = (0 - up) as u64;
-        return Figure::Minus(n + 1);
-    }
-    Figure::Number(z as u64)
-}
-
 // How many bytes f has.
+#[tactic(auto, unfolding(crate::specs::Written::figure))]
 pub fn figure_width(f: Figure) -> usize
     ensures value { result ≡ length (figure f) }
     ensures upper_bound { result ≤ 21 }
@@ -78,14 +72,12 @@ pub fn figure_width(f: Figure) -> usize
         Figure::Missing => 4,
         Figure::Never => 5,
         Figure::Number(n) => width(n),
-        Figure::Minus(n) => {
-            let w = width(n);
-            w + 1
-        }
+        Figure::Minus(n) => 1 + width(n),
     }
 }
 
 // How many bytes were written: f, at the front of buf.
+#[tactic(auto, unfolding(crate::specs::Written::figure))]
 pub fn write_figure(buf: &mut [u8], f: Figure) -> usize
     requires { length (figure f) ≤ length buf.old }
     ensures value { result ≡ length (figure f) }
@@ -96,9 +88,8 @@ pub fn write_figure(buf: &mut [u8], f: Figure) -> usize
         Figure::Never => write_bytes(buf, b"never"),
         Figure::Number(n) => write_number(buf, n),
         Figure::Minus(n) => {
-            buf[0] = 45;
-            let w = write_number(&mut buf[1..], n);
-            w + 1
+            buf[0] = b'-';
+            1 + write_number(&mut buf[1..], n)
         }
     }
 }
@@ -111,7 +102,6 @@ pub fn write_line(buf: &mut [u8], key: &[u8], f: Figure) -> usize
 {
     let k = write_bytes(buf, key);
     let w = write_figure(&mut buf[k..], f);
-    let e = k + w;
-    buf[e] = 10;
-    e + 1
+    buf[k + w] = b'\n';
+    k + w + 1
 }

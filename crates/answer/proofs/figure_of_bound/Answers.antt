@@ -10,4 +10,4 @@ use Rattle.answer.proofs.figure_of_bound.Goals as goal
 pub returns-in-Some : goal.returns-in-Some
 returns-in-Some c =
     let z : to_z w64 (of_z w64 c.in-Some.z) ≡ c.in-Some.z = search rules in
-    c.figure_of.ensures ∙ ap figure_of z ∙ number_shown _ c.in-Some.z c.in-Some.is
+    c.from.ensures ∙ ap figure_of z ∙ number_shown _ c.in-Some.z c.in-Some.is

@@ -1,6 +1,6 @@
 -- `copy_outputs` meets its contract.
 use mathlib.Core.Path.{◌≡◌, ap, ◌∙◌}
-use Prim.Native.Nat.{ℕ, ◌-◌, ◌≤◌}
+use Prim.Native.Nat.{ℕ, ◌≤◌}
 use native.Mathlib.Omega.{arith}
 use lib.ListN.{length, take}
 use lib.Seq.{length-take-le}
@@ -21,16 +21,16 @@ module _ (c : lts.After-count_outputs tie.the-claims reads.Pre reads.Post tie.ha
   rows_long : length c.args.docket.rows ≡ 1536
   rows_long = search rules
 
-pub slice_bounds-store_rows-end : goal.slice_bounds-store_rows-end
-slice_bounds-store_rows-end c = omega (arith, few c.before.before, rows_long c.before.before)
+pub shared_ref_as_front-store_rows : goal.shared_ref_as_front-store_rows
+shared_ref_as_front-store_rows c = omega (arith, few c.before.before, rows_long c.before.before)
 
 pub store_rows-requires : goal.store_rows-requires
 store_rows-requires c =
-    let n = length-take-le (c.count_outputs-n.result - 0) c.args.docket.rows (omega (arith, few c.before.before.before, rows_long c.before.before.before)) in
+    let n = length-take-le (c.count_outputs-n.result) c.args.docket.rows (omega (arith, few c.before.before.before, rows_long c.before.before.before)) in
     omega (arith, n, few c.before.before.before, c.requires.in_bounds)
 
 pub returns : goal.returns
 unfolding outputs_of
 returns c =
-    let e : c.count_outputs-n.result - 0 ≡ outputs_count c.args.docket = omega (arith, c.count_outputs-n.ensures) in
+    let e : c.count_outputs-n.result ≡ outputs_count c.args.docket = omega (arith, c.count_outputs-n.ensures) in
     record { value = c.count_outputs-n.ensures; outputs_after = c.store_rows.ensures ∙ ap (λ (n : ℕ). over (take n c.args.docket.rows) c.args.outputs.now) e }

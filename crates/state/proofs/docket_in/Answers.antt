@@ -6,7 +6,6 @@ use lib.ListN.{length, drop, length-drop}
 use lib.Seq.{take_all}
 use Rattle.layout.specs.Numbers.{problem_in}
 use Rattle.state.specs.Layout.{docket_in}
-use borrow.Author.Rules.{rules}
 use Rattle.state.proofs.docket_in.Goals as goal
 
 pub returns : goal.returns
@@ -14,8 +13,8 @@ unfolding docket_in
 returns c =
     let v = c.args.numbers.now in
     rw (
-      c.rows_in-kept.ensures,
-      c.bound_in-bound.ensures,
-      c.cost_in-cost.ensures,
-      c.problem_in-problem.ensures ∙ ap problem_in (take_all (length v - 8) (drop 8 v) (omega (arith, length-drop 8 v))),
+      c.rows_in.ensures,
+      c.bound_in.ensures,
+      c.cost_in.ensures,
+      c.problem_in.ensures ∙ ap problem_in (take_all (length v - 8) (drop 8 v) (omega (arith, length-drop 8 v))),
     ) refl

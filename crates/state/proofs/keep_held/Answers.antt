@@ -1,7 +1,6 @@
 -- `keep_held` meets its contract.
 use mathlib.Core.Path.{refl, sym, ◌∙◌}
 use Rattle.state.specs.Kept.{lodged_numbers, lodged_rows}
-use borrow.Author.Rules.{rules}
 use Rattle.state.proofs.keep_held.Goals as goal
 
 pub returns-then-is_held : goal.returns-then-is_held

@@ -1,22 +1,10 @@
-use borrow.Author.Rules.{rules}
 use native.Mathlib.Omega.{arith}
-use Prim.Native.Nat.{ℕ, ◌+◌, ◌-◌, ◌%◌, ◌≤◌}
-use mathlib.Core.Path.{◌≡◌, refl, sym, ap, ◌∙◌}
-use mathlib.Core.List.{List, [], ◌∷◌, ◌++◌, append-nil}
-use lib.ListN.{length, take, drop, set, length-set, take-append-drop}
-use Rattle.decimal.proofs.Digits.{fixed}
+use Prim.Native.Nat.{ℕ, ◌+◌, ◌-◌, ◌%◌}
+use mathlib.Core.Path.{ap, ◌∙◌}
+use mathlib.Core.List.{List, ◌∷◌, ◌++◌}
+use lib.ListN.{drop, set, length-set}
 use Rattle.writer.proofs.LastDigit.{set_step, fixed_step, number_done}
 use Rattle.writer.proofs.write_number.Goals as goal
-
-pub loop-i-init : goal.loop-i-init
-loop-i-init c =
-    let b = c.args.buf.now in
-    ([], sym (append-nil _), sym (take-append-drop c.width-w.result b), omega arith, refl)
-
-pub bounds-buf-i : goal.bounds-buf-i
-bounds-buf-i c =
-    let v = c.loop-i.invariant in
-    omega (arith, v.3, v.4, c.width-w.ensures.value, c.requires)
 
 pub loop-i-preserved : goal.loop-i-preserved
 loop-i-preserved c =
@@ -31,9 +19,6 @@ loop-i-preserved c =
       omega (arith, v.3),
       length-set l.buf (l.i - 1) d ∙ v.4,
     )
-
-pub shape_of-buf : goal.shape_of-buf
-shape_of-buf c = c.loop-i.invariant.4
 
 pub returns : goal.returns
 returns c =

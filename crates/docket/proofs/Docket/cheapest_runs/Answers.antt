@@ -2,7 +2,7 @@
 use mathlib.Core.Path.{◌≡◌, sym, ap, ◌∙◌}
 use mathlib.Core.Bool.{true}
 use borrow.Author.Rules.{rules}
-use lib.ListN.{length, length-map}
+use lib.ListN.{length}
 use Rattle.model.proofs.Valid.{valid_is}
 use Rattle.runs.specs.Drafts.{Drafted}
 use Rattle.docket.specs.Lodging.{trusted}

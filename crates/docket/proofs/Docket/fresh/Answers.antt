@@ -1,6 +1,5 @@
 -- A fresh docket holds a blank problem, nothing, and rows of zeros.
-use borrow.Author.Rules.{rules}
 use Rattle.docket.proofs.Docket.fresh.Goals as goal
 
 pub returns : goal.returns
-returns c = simp c.blank-problem.ensures
+returns c = simp c.blank.ensures

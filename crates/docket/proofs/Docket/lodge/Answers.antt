@@ -1,7 +1,8 @@
 -- `lodge` meets its contract: each case of the admission, whose text is of its kind, and whose problem is valid where one is known.
+use Rattle.std.specs.Prelude.{Ok}
 use mathlib.Core.Path.{◌≡◌, sym, ap, ◌∙◌}
 use mathlib.Core.Bool.{Bool, true}
-use lib.ListN.{length, length-map}
+use lib.ListN.{length}
 use Rattle.model.specs.Held.{Valid}
 use Rattle.model.proofs.Valid.{valid_is}
 use Rattle.docket.specs.Lodging.{admit, trusted}
@@ -24,32 +25,32 @@ valid : (c : lts.Start tie.the-claims reads.Pre reads.Post tie.handed_clauses) �
 valid c k = (valid_is c.args.self.problem (loads c).0 (loads c).1 (many c)).0 (knows_valid c.args.self k)
 
 -- the admission, by what is known
-known_by : (c : lts.After-admit tie.the-claims reads.Pre reads.Post tie.handed_clauses) → let a = c.args in admit (trusted a.self).known a.text.now ≡ c.admit-admission.result
+known_by : (c : lts.After-admit tie.the-claims reads.Pre reads.Post tie.handed_clauses) → let a = c.args in admit (trusted a.self).known a.text.now ≡ c.admit.result
 known_by c =
-    ap (λ (b : Bool). admit b c.args.text.now) (sym c.knows-known.ensures)
-    ∙ sym c.admit-admission.ensures
+    ap (λ (b : Bool). admit b c.args.text.now) (sym c.knows.ensures)
+    ∙ sym c.admit.ensures
 
 pub lodge_problem-requires : goal.lodge_problem-requires
-lodge_problem-requires c = (admitted_problem _ _ (known_by c.before.before ∙ c.in-Problem.is)).kind_is
+lodge_problem-requires c = (admitted_problem _ _ (known_by c.before.before ∙ c.in-Ok-Problem.is ∙ ap Ok c.in-Ok-Problem.field-0-is)).kind_is
 
 pub lodge_schedule-requires : goal.lodge_schedule-requires
 lodge_schedule-requires c =
-    let m = admitted_schedule _ _ (known_by c.before.before ∙ c.in-Schedule.is) in
+    let m = admitted_schedule _ _ (known_by c.before.before ∙ c.in-Ok-Schedule.is ∙ ap Ok c.in-Ok-Schedule.field-0-is) in
     record { valid = valid c.before.before.before.before.before m.known_is; schedule = m.kind_is }
 
 pub lodge_tree-requires : goal.lodge_tree-requires
 lodge_tree-requires c =
-    let m = admitted_tree _ _ (known_by c.before.before ∙ c.in-Tree.is) in
+    let m = admitted_tree _ _ (known_by c.before.before ∙ c.in-Ok-Tree.is ∙ ap Ok c.in-Ok-Tree.field-0-is) in
     record { valid = valid c.before.before.before.before.before m.known_is; text_len_bound = m.is_short; tree = m.kind_is }
 
-pub returns-in-Refused : goal.returns-in-Refused
-returns-in-Refused c = sym (refused_lodged _ _ _ (known_by c.before.before ∙ c.in-Refused.is))
+pub returns-in-Err : goal.returns-in-Err
+returns-in-Err c = sym (refused_lodged _ _ _ (known_by c.before.before ∙ c.in-Err.is))
 
-pub returns-in-Problem : goal.returns-in-Problem
-returns-in-Problem c = c.lodge_problem.ensures ∙ sym (problem_lodged _ _ (known_by c.before.before.before ∙ c.in-Problem.is))
+pub returns-in-Ok-Problem : goal.returns-in-Ok-Problem
+returns-in-Ok-Problem c = c.lodge_problem.ensures ∙ sym (problem_lodged _ _ (known_by c.before.before.before ∙ c.in-Ok-Problem.is ∙ ap Ok c.in-Ok-Problem.field-0-is))
 
-pub returns-in-Schedule : goal.returns-in-Schedule
-returns-in-Schedule c = c.lodge_schedule.ensures ∙ sym (schedule_lodged _ _ (known_by c.before.before.before ∙ c.in-Schedule.is))
+pub returns-in-Ok-Schedule : goal.returns-in-Ok-Schedule
+returns-in-Ok-Schedule c = c.lodge_schedule.ensures ∙ sym (schedule_lodged _ _ (known_by c.before.before.before ∙ c.in-Ok-Schedule.is ∙ ap Ok c.in-Ok-Schedule.field-0-is))
 
-pub returns-in-Tree : goal.returns-in-Tree
-returns-in-Tree c = c.lodge_tree.ensures ∙ sym (tree_lodged _ _ (known_by c.before.before.before ∙ c.in-Tree.is))
+pub returns-in-Ok-Tree : goal.returns-in-Ok-Tree
+returns-in-Ok-Tree c = c.lodge_tree.ensures ∙ sym (tree_lodged _ _ (known_by c.before.before.before ∙ c.in-Ok-Tree.is ∙ ap Ok c.in-Ok-Tree.field-0-is))

@@ -23,8 +23,8 @@ module _ (c : lts.Start tie.the-claims reads.Pre reads.Post) where
   fits : SFits w64 (to_z w64 c.args.cost -ℤ to_z w64 (of_z w64 c.args.value))
   fits = rw difference (gap_fits c.args.cost c.args.value c.requires.0 c.requires.1)
 
-pub overflow_sub-gap : goal.overflow_sub-gap
-overflow_sub-gap c = fits c
+pub overflow_sub-cost : goal.overflow_sub-cost
+overflow_sub-cost c = fits c
 
 pub returns : goal.returns
-returns c = c.figure_of.ensures ∙ ap figure_of (to_z-of_z (fits c.before) ∙ difference c.before)
+returns c = c.from.ensures ∙ ap figure_of (to_z-of_z (fits c.before) ∙ difference c.before)

@@ -1,6 +1,5 @@
 -- `figures_shown` meets its contract: of what a sound docket holds, which is small, and else of nothing.
 use mathlib.Core.Path.{sym, ap, ◌∙◌}
-use borrow.Author.Rules.{rules}
 use Rattle.docket.specs.declared.Docket.{Docket}
 use Rattle.docket.specs.Report.{figures_of}
 use Rattle.docket.proofs.Differences.{sound_small}

@@ -1,17 +1,16 @@
 -- `is_sound` meets its contract: with a problem known or none.
-use mathlib.Core.Path.{sym, ◌∙◌}
 use Rattle.docket.specs.Docket.{sound}
-use borrow.Author.Rules.{rules}
+use Rattle.docket.proofs.Differences.{no_cost_is}
 use Rattle.docket.proofs.sound.is_sound.Goals as goal
 
 pub returns-then-docket : goal.returns-then-docket
 unfolding sound
 returns-then-docket c = simp (c.is_sound_under.ensures, c.if-docket.true)
 
-pub returns-then-is_no_cost : goal.returns-then-is_no_cost
+pub returns-then-is_none : goal.returns-then-is_none
 unfolding sound
-returns-then-is_no_cost c = simp (c.is_no_bound.ensures, c.if-docket.false, sym c.is_no_cost.ensures ∙ c.if-is_no_cost.true)
+returns-then-is_none c = simp (c.is_no_bound.ensures, c.if-docket.false, no_cost_is c.args.docket.held.cost, c.if-is_none.ensures)
 
-pub returns : goal.returns
+pub returns-else-is_none : goal.returns-else-is_none
 unfolding sound
-returns c = simp (c.if-docket.false, sym c.is_no_cost.ensures ∙ c.if-is_no_cost.false)
+returns-else-is_none c = simp (c.if-is_none.false, c.if-docket.false, no_cost_is c.args.docket.held.cost, c.if-is_none.ensures)

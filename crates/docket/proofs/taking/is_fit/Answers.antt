@@ -2,7 +2,6 @@
 use mathlib.Core.Path.{◌∙◌}
 use native.Mathlib.Nat.{mul-le-mul}
 use native.Mathlib.Omega.{arith}
-use borrow.Author.Rules.{rules}
 use Rattle.docket.proofs.Questions.{too_early, too_late, too_many, wrong_length, right_length}
 use Rattle.docket.proofs.taking.is_fit.Goals as goal
 
