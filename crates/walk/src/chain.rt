@@ -6,14 +6,11 @@ ghost use Rattle.walk.specs.Limits.{GoodCost, GoodValue};
 ghost use Rattle.walk.specs.GoingBack.{Rewritten};
 
 // A coded value with k added.
-fn plus_value(k: u64, v: u64) -> u64
+pub fn plus_value(k: u64, v: u64) -> u64
     requires { GoodCost k × GoodValue v }
     ensures { result ≡ plus k v }
 {
-    if v == 0 {
-        return 0;
-    }
-    k + v
+    if v == 0 { 0 } else { k + v }
 }
 
 // The lesser of a value that is there and a coded value with k added.
@@ -24,24 +21,14 @@ fn lesser_plus(early: u64, k: u64, v: u64) -> u64
     if v == 0 {
         return early;
     }
-    let kept = k + v;
-    if kept < early {
-        return kept;
-    }
-    early
+    early.min(k + v)
 }
 
 // The place of the first state that may be left after need periods, where the last one is at end.
 pub fn first_early(need: usize, end: usize) -> usize
     ensures { result ≡ min (need - 1) end }
 {
-    if end < need {
-        return end;
-    }
-    if need == 0 {
-        return 0;
-    }
-    need - 1
+    need.saturating_sub(1).min(end)
 }
 
 // Gives the states from `from` to `to` the value v.
@@ -49,11 +36,7 @@ pub fn fill_states(states: &mut [u64], from: usize, to: usize, v: u64)
     requires { (from ≤ to) × (to ≤ length states.old) }
     ensures { Rewritten states.old states.new from to (λ k. v) }
 {
-    let mut i = from;
-    while i < to {
-        states[i] = v;
-        i += 1;
-    }
+    states[from..to].fill(v);
 }
 
 // Gives the states from `from` to `to` the next state's value with the cost of keeping the status.
@@ -62,10 +45,8 @@ pub fn keep_states(states: &mut [u64], from: usize, to: usize, cost: u64)
     requires good_cost { GoodCost cost × ((k : ℕ) → from ≤ k → GoodValue (states.old at k)) }
     ensures { Rewritten states.old states.new from to (λ k. plus cost (states.old at (k + 1))) }
 {
-    let mut i = from;
-    while i < to {
+    for i in from..to {
         states[i] = plus_value(cost, states[i + 1]);
-        i += 1;
     }
 }
 
@@ -75,10 +56,8 @@ fn lower_states(states: &mut [u64], from: usize, to: usize, early: u64, cost: u6
     requires good_cost { GoodCost cost × ((k : ℕ) → from ≤ k → GoodValue (states.old at k)) }
     ensures { Rewritten states.old states.new from to (λ k. lesser early (plus cost (states.old at (k + 1)))) }
 {
-    let mut i = from;
-    while i < to {
+    for i in from..to {
         states[i] = lesser_plus(early, cost, states[i + 1]);
-        i += 1;
     }
 }
 
@@ -90,7 +69,7 @@ pub fn leave_or_keep_states(states: &mut [u64], from: usize, to: usize, early: u
 {
     if early == 0 {
         keep_states(states, from, to, cost);
-        return;
+    } else {
+        lower_states(states, from, to, early, cost);
     }
-    lower_states(states, from, to, early, cost);
 }

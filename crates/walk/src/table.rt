@@ -8,7 +8,7 @@ ghost use Rattle.walk.specs.Marks.{mark_of};
 ghost use Rattle.walk.specs.Limits.{GoodCost, GoodValue};
 ghost use Rattle.walk.specs.GoingBack.{Back, Backed, Rising, is_open};
 
-use crate::chain::{fill_states, first_early, keep_states, leave_or_keep_states};
+use crate::chain::{fill_states, first_early, keep_states, leave_or_keep_states, plus_value};
 use crate::valued::free_back;
 use model::generator::Generator;
 
@@ -17,13 +17,7 @@ pub fn kept_value(allowed: bool, k: u64, v: u64) -> u64
     requires { GoodValue k × GoodValue v }
     ensures { result ≡ kept allowed k v }
 {
-    if allowed {
-        if v == 0 {
-            return 0;
-        }
-        return k + v;
-    }
-    0
+    if allowed && v != 0 { k + v } else { 0 }
 }
 
 // The lesser of two coded values.
@@ -36,10 +30,7 @@ pub fn lesser_value(x: u64, y: u64) -> u64
     if y == 0 {
         return x;
     }
-    if x <= y {
-        return x;
-    }
-    y
+    x.min(y)
 }
 
 // Takes the values of one status, allowed in the period, back over it; states from the place begin on may be left.
@@ -51,8 +42,7 @@ fn keep_back(states: &mut [u64], end: usize, begin: usize, early: u64, last: u64
     let final_state = states[end];
     keep_states(states, 0, begin, cost);
     leave_or_keep_states(states, begin, end, early, cost);
-    let keeping = kept_value(true, cost, final_state);
-    states[end] = lesser_value(last, keeping);
+    states[end] = lesser_value(last, plus_value(cost, final_state));
 }
 
 // The same where the status is not allowed: it can only be left.
@@ -71,17 +61,16 @@ fn chain_back(states: &mut [u64], need: usize, early: u64, last: u64, allowed: b
     requires good_cost { GoodCost cost }
     ensures { Chained states.old states.new need early last allowed cost }
 {
-    let n = states.len();
-    if n == 0 {
+    if states.is_empty() {
         return;
     }
-    let end = n - 1;
+    let end = states.len() - 1;
     let begin = first_early(need, end);
     if allowed {
         keep_back(states, end, begin, early, last, cost);
-        return;
+    } else {
+        leave_back(states, end, begin, early, last);
     }
-    leave_back(states, end, begin, early, last);
 }
 
 // Takes the values on back over a period, of which only the last may be left, for leaving.
@@ -91,15 +80,14 @@ fn on_back(states: &mut [u64], leaving: u64, allowed: bool, cost: u64)
     ensures { (need : ℕ) → length states.old ≤ need → Chained states.old states.new need leaving leaving allowed cost }
 {
     let end = states.len() - 1;
-    let final_state = states[end];
     if allowed {
+        let final_state = states[end];
         keep_states(states, 0, end, cost);
-        let keeping = kept_value(true, cost, final_state);
-        states[end] = lesser_value(leaving, keeping);
-        return;
+        states[end] = lesser_value(leaving, plus_value(cost, final_state));
+    } else {
+        fill_states(states, 0, end, 0);
+        states[end] = leaving;
     }
-    fill_states(states, 0, end, 0);
-    states[end] = leaving;
 }
 
 // Takes the values of all states back over a period that costs on or off by its status, mark being what is fixed in it.
@@ -110,32 +98,20 @@ fn marked_back(g: Generator, mark: u8, on: u64, off: u64, ons: &mut [u64], offs:
     requires by_index { ((k : ℕ) → GoodValue (ons.old at k)) × ((k : ℕ) → GoodValue (offs.old at k)) }
     ensures { Back g (mark_of mark) on off ons.old offs.old ons.new offs.new }
 {
-    let down = g.TD;
-    let stop = g.Dc;
-    let hot = g.Hsc;
-    let cold = g.Csc;
     let may_on = mark != 1;
     let may_off = mark != 2;
-    let first_on = ons[0];
-    let first_off = offs[0];
-    let leaving = kept_value(may_off, stop + off, first_off);
-    let starting = kept_value(may_on, hot + on, first_on);
-    let starting_cold = kept_value(may_on, cold + on, first_on);
+    let leaving = kept_value(may_off, g.Dc + off, offs[0]);
+    let starting = kept_value(may_on, g.Hsc + on, ons[0]);
+    let starting_cold = kept_value(may_on, g.Csc + on, ons[0]);
     on_back(ons, leaving, may_on, on);
-    chain_back(offs, down, starting, starting_cold, may_off, off);
+    chain_back(offs, g.TD, starting, starting_cold, may_off, off);
 }
 
 // Whether nothing is fixed in a period and both values are there.
 fn is_open(mark: u8, x: u64, y: u64) -> bool
     ensures { result ≡ is_open mark x y }
 {
-    if mark != 0 {
-        return false;
-    }
-    if x == 0 {
-        return false;
-    }
-    y != 0
+    mark == 0 && x != 0 && y != 0
 }
 
 // The same; where the first state of a status has a value all of them have, and if nothing is fixed either none is tested for.
@@ -149,7 +125,7 @@ pub fn step_back(g: Generator, mark: u8, on: u64, off: u64, ons: &mut [u64], off
 {
     if is_open(mark, ons[0], offs[0]) {
         free_back(g, on, off, ons, offs);
-        return;
+    } else {
+        marked_back(g, mark, on, off, ons, offs);
     }
-    marked_back(g, mark, on, off, ons, offs);
 }

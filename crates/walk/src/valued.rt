@@ -10,26 +10,14 @@ ghost use Rattle.walk.specs.GoingBack.{Rewritten, Back, Valued};
 use crate::chain::first_early;
 use model::generator::Generator;
 
-// The smaller of two values that are there.
-fn smaller_value(x: u64, y: u64) -> u64
-    ensures { result ≡ min x y }
-{
-    if x < y {
-        return x;
-    }
-    y
-}
-
 // Gives the states up to `to` the next state's value and the cost of keeping the status.
 fn keep_valued(states: &mut [u64], to: usize, cost: u64)
     requires to_in_bounds { to < length states.old }
     requires good_cost { GoodCost cost × ((k : ℕ) → GoodValue (states.old at k)) }
     ensures { Rewritten states.old states.new 0 to (λ k. cost + states.old at (k + 1)) }
 {
-    let mut i = 0;
-    while i < to {
+    for i in 0..to {
         states[i] = cost + states[i + 1];
-        i += 1;
     }
 }
 
@@ -39,10 +27,8 @@ fn lower_valued(states: &mut [u64], from: usize, to: usize, early: u64, cost: u6
     requires good_cost { GoodCost cost × ((k : ℕ) → from ≤ k → GoodValue (states.old at k)) }
     ensures { Rewritten states.old states.new from to (λ k. min early (cost + states.old at (k + 1))) }
 {
-    let mut i = from;
-    while i < to {
-        states[i] = smaller_value(early, cost + states[i + 1]);
-        i += 1;
+    for i in from..to {
+        states[i] = early.min(cost + states[i + 1]);
     }
 }
 
@@ -56,7 +42,7 @@ fn on_valued(states: &mut [u64], leaving: u64, cost: u64)
     let end = states.len() - 1;
     let keeping = cost + states[end];
     keep_valued(states, end, cost);
-    states[end] = smaller_value(leaving, keeping);
+    states[end] = leaving.min(keeping);
 }
 
 // Takes the values of a status back over a period, of which those after need periods may be left.
@@ -71,7 +57,7 @@ fn chain_valued(states: &mut [u64], need: usize, early: u64, last: u64, cost: u6
     let keeping = cost + states[end];
     keep_valued(states, begin, cost);
     lower_valued(states, begin, end, early, cost);
-    states[end] = smaller_value(last, keeping);
+    states[end] = last.min(keeping);
 }
 
 // Takes the values of all states back over a period that costs on or off by its status.
@@ -83,15 +69,9 @@ pub fn free_back(g: Generator, on: u64, off: u64, ons: &mut [u64], offs: &mut [u
     requires valued { Valued ons.old × Valued offs.old }
     ensures { (m : Mark) → allows m true ≡ true → allows m false ≡ true → Back g m on off ons.old offs.old ons.new offs.new }
 {
-    let down = g.TD;
-    let stop = g.Dc;
-    let hot = g.Hsc;
-    let cold = g.Csc;
-    let first_on = ons[0];
-    let first_off = offs[0];
-    let leaving = stop + off + first_off;
-    let starting = hot + on + first_on;
-    let starting_cold = cold + on + first_on;
+    let leaving = g.Dc + off + offs[0];
+    let starting = g.Hsc + on + ons[0];
+    let starting_cold = g.Csc + on + ons[0];
     on_valued(ons, leaving, on);
-    chain_valued(offs, down, starting, starting_cold, off);
+    chain_valued(offs, g.TD, starting, starting_cold, off);
 }

@@ -10,14 +10,8 @@ pub returns-then-v-eq0 : goal.returns-then-v-eq0
 unfolding plus
 returns-then-v-eq0 c = rw (c.if-v-eq0.true, lesser_none)
 
-pub returns-then-kept-early : goal.returns-then-kept-early
-returns-then-kept-early c =
-    let a = c.args in
-    let there : 0 < a.v = omega arith in
-    rw (plus_some a.k a.v there, lesser_some a.early (a.k + a.v) c.requires.0 (omega arith)) (omega arith)
-
 pub returns : goal.returns
 returns c =
     let a = c.args in
     let there : 0 < a.v = omega arith in
-    rw (plus_some a.k a.v there, lesser_some a.early (a.k + a.v) c.requires.0 (omega arith)) (omega arith)
+    rw (plus_some a.k a.v there, lesser_some a.early (a.k + a.v) c.requires.0 (omega arith)) c.min.ensures

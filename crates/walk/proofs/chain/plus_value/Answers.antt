@@ -10,5 +10,5 @@ pub returns-then-v-eq0 : goal.returns-then-v-eq0
 unfolding plus
 returns-then-v-eq0 c = rw c.if-v-eq0.true
 
-pub returns : goal.returns
-returns c = sym (plus_some _ _ (omega arith))
+pub returns-else-v-eq0 : goal.returns-else-v-eq0
+returns-else-v-eq0 c = sym (plus_some _ _ (omega arith))

@@ -12,8 +12,8 @@ pub keep_states-requires : goal.keep_states-requires
 keep_states-requires c =
     record { from_le_to = omega arith; good_cost = (c.requires.good_cost, λ k h. c.requires.in_bounds.1 k) }
 
-pub kept_value-keeping-requires : goal.kept_value-keeping-requires
-kept_value-keeping-requires c =
+pub plus_value-requires : goal.plus_value-requires
+plus_value-requires c =
     (omega (arith, c.requires.good_cost), c.requires.in_bounds.1 _)
 
 pub returns-then-allowed : goal.returns-then-allowed
@@ -22,10 +22,10 @@ returns-then-allowed c need h =
     rw c.if-allowed.true
     (backed_chained _ _ need _ a.leaving a.leaving true a.cost (omega arith) (omega arith)
     (backed_is _ _ _ _ _ a.leaving a.leaving true a.cost _ (omega arith) (omega arith) c.keep_states.ensures (written_none _ _ _)
-    (c.lesser_value.ensures ∙ ap (lesser a.leaving) c.kept_value-keeping.ensures)))
+    (c.lesser_value.ensures ∙ ap (lesser a.leaving) c.plus_value.ensures)))
 
-pub returns : goal.returns
-returns c need h =
+pub returns-else-allowed : goal.returns-else-allowed
+returns-else-allowed c need h =
     let a = c.args in
     rw c.if-allowed.false
     (backed_chained _ _ need _ a.leaving a.leaving false a.cost (omega arith) (omega arith)

@@ -19,7 +19,7 @@ returns c =
     let a = c.args in
     backed_chained _ _ a.need _ a.early a.last _ a.cost (omega arith) (omega arith)
     (valued_is _ c.requires.valued.0 _ _ a.early a.last a.cost (omega arith) (omega arith) c.requires.valued.1.0 c.requires.valued.1.1 _ _ _
-    c.keep_valued.ensures c.lower_valued.ensures c.smaller_value.ensures)
+    c.keep_valued.ensures c.lower_valued.ensures c.min.ensures)
 
 pub shape_of-states : goal.shape_of-states
 shape_of-states c = (returns c).same

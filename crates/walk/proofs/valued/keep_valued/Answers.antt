@@ -7,30 +7,30 @@ use Rattle.walk.proofs.Chains.{written_none, written_more}
 use Rattle.walk.proofs.valued.keep_valued.Goals as goal
 
 pub loop-i-init : goal.loop-i-init
-loop-i-init c = (omega arith, written_none _ _ _)
+loop-i-init c = written_none _ _ _
 
 pub bounds-states-i : goal.bounds-states-i
-bounds-states-i c = omega (arith, c.loop-i.invariant.1.same)
+bounds-states-i c = omega (arith, c.loop-i.invariant.same)
 
 pub overflow_add-states-in-loop-i : goal.overflow_add-states-in-loop-i
 overflow_add-states-in-loop-i c =
     let i = c.loop-i.i in
-    rw (c.loop-i.invariant.1.above (i + 1) (omega arith)) (omega (arith, c.requires.good_cost.0, c.requires.good_cost.1 (i + 1)))
+    rw (c.loop-i.invariant.above (i + 1) (omega arith)) (omega (arith, c.requires.good_cost.0, c.requires.good_cost.1 (i + 1)))
 
 pub bounds-states-i-in-loop-i : goal.bounds-states-i-in-loop-i
-bounds-states-i-in-loop-i c = omega (arith, c.loop-i.invariant.1.same)
+bounds-states-i-in-loop-i c = omega (arith, c.loop-i.invariant.same)
 
 pub loop-i-preserved : goal.loop-i-preserved
 loop-i-preserved c =
     let a = c.args in
     let inv = c.loop-i.invariant in
     let i = c.loop-i.i in
-    (omega arith, written_more _ _ _ i _ _ (omega arith) (omega arith) inv.1 (ap (λ (y : ℕ). a.cost + y) (inv.1.above (i + 1) (omega arith))))
+    written_more _ _ _ i _ _ (omega arith) (omega arith) inv (ap (λ (y : ℕ). a.cost + y) (inv.above (i + 1) (omega arith)))
 
 pub shape_of-states : goal.shape_of-states
-shape_of-states c = c.loop-i.invariant.1.same
+shape_of-states c = c.loop-i.invariant.same
 
 pub returns : goal.returns
 returns c =
     let e : c.loop-i.i ≡ c.args.to = omega arith in
-    rw e at c.loop-i.invariant.1
+    rw e at c.loop-i.invariant

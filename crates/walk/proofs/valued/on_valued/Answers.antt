@@ -15,4 +15,4 @@ returns c need h =
     let a = c.args in
     backed_chained _ _ need _ a.leaving a.leaving _ a.cost (omega arith) (omega arith)
     (valued_is _ c.requires.valued.0 _ _ a.leaving a.leaving a.cost (omega arith) (omega arith) c.requires.valued.1 c.requires.valued.1 _ _ _
-    c.keep_valued.ensures (written_none _ _ _) c.smaller_value.ensures)
+    c.keep_valued.ensures (written_none _ _ _) c.min.ensures)
