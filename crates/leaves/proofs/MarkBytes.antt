@@ -1,11 +1,12 @@
 -- What one unit adds by the byte of its status, and how many units add something.
 use mathlib.Core.Path.{◌≡◌, refl, ap, ◌∙◌}
-use mathlib.Core.Bool.{Bool, true, false, cond, not}
+use mathlib.Core.Bool.{Bool, true, false, cond}
 use mathlib.Core.List.{List, [], ◌∷◌}
 use Prim.Native.Nat.{ℕ, zero, suc, ◌+◌, ◌-◌, ◌*◌, ◌/◌, ◌%◌, ◌≤◌, ◌<◌}
 use native.Mathlib.Omega.{arith}
+use borrow.Author.Tests.{eqb-true, eqb-false}
+use lib.Bits.{differ, bit_xor, xor_step, xor_zero_r}
 use lib.Dec.{eqb}
-use mir.Val.{bool_byte}
 use lib.ListN.{length}
 use Rattle.model.specs.declared.generator.Generator.{Generator}
 use Rattle.model.specs.Above.{Mark, free, fixed, Marks, rest}
@@ -13,15 +14,30 @@ use Rattle.model.specs.Largest.{total}
 use Rattle.model.specs.Leaf.{unless_off, usable}
 use Rattle.walk.specs.Marks.{mark_of}
 
--- 0 only for the byte that fixes off
-pub not_off_is : (x : ℕ) → bool_byte (not (eqb x 1)) ≡ length (unless_off (mark_of x) 0 [])
+-- the lowest binary digit turned over
+differ_one : (d : ℕ) → d < 2 → differ d 1 ≡ 1 - d
+differ_one zero h = refl
+differ_one (suc zero) h = refl
+differ_one (suc (suc d)) h = absurd (omega arith)
+
+xor_one : (x : ℕ) → bit_xor x 1 ≡ x / 2 * 2 + (1 - x % 2)
+xor_one x = xor_step x 1 ∙ ap (λ (k : ℕ). k * 2 + differ (x % 2) 1) (xor_zero_r (x / 2)) ∙ ap (λ (k : ℕ). x / 2 * 2 + k) (differ_one (x % 2) (omega arith))
+
+pub xor_one_most : (x : ℕ) → x ≤ 255 → bit_xor x 1 ≤ 255
+xor_one_most x h = omega (arith, xor_one x)
+
+-- the quotient by 256 is 1, and 0 only where the byte fixes off
+pub not_off_quotient : (x : ℕ) → x ≤ 255 → (bit_xor x 1 + 255) / 256 ≡ length (unless_off (mark_of x) 0 [])
 unfolding mark_of
-not_off_is x = go (eqb x 1) (eqb x 2)
+not_off_quotient x h = one (eqb x 1) refl
   where
-    go : (b c : Bool) → bool_byte (not b) ≡ length (unless_off (cond b (fixed false) (cond c (fixed true) free)) 0 [])
-    go true c = refl
-    go false true = refl
-    go false false = refl
+    two : (b : Bool) → 1 ≡ length (unless_off (cond b (fixed true) free) 0 [])
+    two true = refl
+    two false = refl
+
+    one : (b : Bool) → eqb x 1 ≡ b → (bit_xor x 1 + 255) / 256 ≡ length (unless_off (cond b (fixed false) (cond (eqb x 2) (fixed true) free)) 0 [])
+    one true e = omega (arith, xor_one x, eqb-true x 1 e)
+    one false e = omega (arith, h, xor_one x, eqb-false x 1 e, two (eqb x 2))
 
 -- so often it adds its pU
 pub unless_off_times : (m : Mark) (v : ℕ) → v * length (unless_off m 0 []) ≡ total (unless_off m v [])
