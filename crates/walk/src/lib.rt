@@ -13,7 +13,6 @@ ghost use Rattle.walk.specs.GoingBack.{by_status, costs_of, Tables};
 
 mod chain;
 pub mod table;
-mod valued;
 
 use crate::table::{kept_value, lesser_value, step_back};
 use model::generator::Generator;

@@ -9,4 +9,4 @@ use Rattle.walk.proofs.Chains.{written_none, written_more}
 use Rattle.walk.proofs.chain.keep_states.Given as goal
 
 abbrev pub invariant-loop-i : goal.invariant-loop-i
-invariant-loop-i l = Rewritten l.initial.states l.states l.from l.i (λ k. plus l.cost (l.initial.states at (k + 1)))
+invariant-loop-i g l = Rewritten l.initial.states l.states l.from l.i (λ k. plus l.cost (l.initial.states at (k + 1)))

@@ -8,15 +8,16 @@ use Rattle.walk.proofs.Chains.{written_none, written_more}
 use Rattle.walk.proofs.chain.lower_states.Goals as goal
 
 pub loop-i-init : goal.loop-i-init
-loop-i-init c = written_none _ _ _
+loop-i-init g c = written_none _ _ _
 
 pub lesser_plus-requires : goal.lesser_plus-requires
-lesser_plus-requires c =
+lesser_plus-requires g c =
     let i = c.loop-i.i in
-    (c.requires.from_le_to.2, (c.requires.good_cost.0, rw (c.loop-i.invariant.above (i + 1) (omega arith)) (c.requires.good_cost.1 (i + 1) (omega arith))))
+    let next = c.loop-i.invariant.above (i + 1) (omega arith) in
+    record { good = (c.requires.from_le_to.2, (c.requires.good_cost.0, rw next (c.requires.good_cost.1 (i + 1) (omega arith)))); valued = λ e. rw next (c.requires.valued e (i + 1) (omega arith) (omega arith)) }
 
 pub loop-i-preserved : goal.loop-i-preserved
-loop-i-preserved c =
+loop-i-preserved g c =
     let a = c.args in
     let inv = c.loop-i.invariant in
     let i = c.loop-i.i in
@@ -24,9 +25,9 @@ loop-i-preserved c =
     written_more _ _ _ i _ _ (omega arith) (omega arith) inv here
 
 pub shape_of-states : goal.shape_of-states
-shape_of-states c = c.loop-i.invariant.same
+shape_of-states g c = c.loop-i.invariant.same
 
 pub returns : goal.returns
-returns c =
+returns g c =
     let e : c.loop-i.i ≡ c.args.to = omega arith in
     rw e at c.loop-i.invariant

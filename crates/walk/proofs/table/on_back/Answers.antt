@@ -9,15 +9,15 @@ use borrow.Author.Rules.{rules}
 use Rattle.walk.proofs.table.on_back.Goals as goal
 
 pub keep_states-requires : goal.keep_states-requires
-keep_states-requires c =
-    record { from_le_to = omega arith; good_cost = (c.requires.good_cost, λ k h. c.requires.in_bounds.1 k) }
+keep_states-requires g c =
+    record { from_le_to = omega arith; good_cost = (c.requires.good_cost, λ k h. c.requires.in_bounds.1 k); valued = λ e k h i. c.requires.valued e k (omega arith) }
 
 pub plus_value-requires : goal.plus_value-requires
-plus_value-requires c =
-    (omega (arith, c.requires.good_cost), c.requires.in_bounds.1 _)
+plus_value-requires g c =
+    record { good = (c.requires.good_cost, c.requires.in_bounds.1 _); valued = λ e. c.requires.valued e _ (omega arith) }
 
 pub returns-then-allowed : goal.returns-then-allowed
-returns-then-allowed c need h =
+returns-then-allowed g c need h =
     let a = c.args in
     rw c.if-allowed.true
     (backed_chained _ _ need _ a.leaving a.leaving true a.cost (omega arith) (omega arith)
@@ -25,7 +25,7 @@ returns-then-allowed c need h =
     (c.lesser_value.ensures ∙ ap (lesser a.leaving) c.plus_value.ensures)))
 
 pub returns-else-allowed : goal.returns-else-allowed
-returns-else-allowed c need h =
+returns-else-allowed g c need h =
     let a = c.args in
     rw c.if-allowed.false
     (backed_chained _ _ need _ a.leaving a.leaving false a.cost (omega arith) (omega arith)
