@@ -23,7 +23,7 @@ fn lesser_plus<const VALUED: bool>(early: u64, k: u64, v: u64) -> u64
     if !VALUED && v == 0 {
         early
     } else {
-        early.min(k + v)
+        (k + v).min(early)
     }
 }
 

@@ -16,4 +16,4 @@ returns-else-not-this g c =
       | else-not-this-via-then-not-this+else-v-eq0 w ↦ omega arith
       | else-not-this-via-else-not-this w ↦ c.requires.valued (search rules)
     ] in
-    rw (plus_some a.k a.v there, lesser_some a.early (a.k + a.v) c.requires.good.0 (omega arith)) c.min.ensures
+    rw (plus_some a.k a.v there, lesser_some a.early (a.k + a.v) c.requires.good.0 (omega arith)) (omega (arith, c.min.ensures))
