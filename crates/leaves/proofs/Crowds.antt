@@ -7,7 +7,7 @@ use mathlib.Core.Option.{Option, none, some}
 use Prim.Native.Nat.{ℕ, zero, suc, ◌+◌, ◌≤◌, ◌<◌}
 use native.Mathlib.Omega.{arith}
 use borrow.Author.Tests.{eqb-true, lt-ltb, ltb-true}
-use lib.Dec.{eqb, ltb, leb}
+use lib.Dec.{eqb, ltb}
 use mir.Val.{bool_byte}
 use lib.ListN.{length, take, length-take}
 use Rattle.model.specs.declared.generator.Generator.{Generator}
@@ -63,15 +63,6 @@ fixed_on_is x = go (eqb x 1) refl (eqb x 2) refl
     go true e false h = refl
     go false e true h = refl
     go false e false h = refl
-
--- an upper count's byte: none where it is 0, else above is what is not below the byte
-pub above_most_none : (n x : ℕ) → x ≡ 0 → false ≡ above_most n (most_of x)
-above_most_none n zero e = refl
-above_most_none n (suc K) e = absurd (omega arith)
-
-pub above_most_some : (n x : ℕ) → (x ≡ 0 → ⊥) → leb x n ≡ above_most n (most_of x)
-above_most_some n zero h = absurd (h refl)
-above_most_some n (suc K) h = refl
 
 -- ---- one unit more
 

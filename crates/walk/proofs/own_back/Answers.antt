@@ -8,7 +8,6 @@ use Rattle.walk.specs.Marks.{mark_of}
 use Rattle.walk.specs.GoingBack.{by_status}
 use Rattle.walk.proofs.StatusMarks.{allows_on, allows_off}
 use Rattle.walk.proofs.Walks.{on_held, on_free, off_held, off_hot, off_cold}
-use borrow.Author.Rules.{rules}
 use Rattle.walk.proofs.own_back.Goals as goal
 
 pub returns-then-k-g : goal.returns-then-k-g

@@ -4,7 +4,6 @@ use Prim.Native.Nat.{ℕ, ◌-◌, min}
 use native.Mathlib.Omega.{arith}
 use lib.ListN.{length}
 use Rattle.walk.proofs.WholeTables.{tables_read}
-use borrow.Author.Rules.{rules}
 use Rattle.walk.proofs.walk_all.Goals as goal
 
 pub returns-then-g : goal.returns-then-g

@@ -2,13 +2,12 @@ use mathlib.Core.Path.{◌≡◌, sym, ◌∙◌, ap}
 use mathlib.Core.Bool.{true, false}
 use Prim.Native.Nat.{suc, ◌+◌, ◌-◌, ◌≤◌, ◌<◌, min}
 use native.Mathlib.Omega.{arith}
-use borrow.Author.Rules.{rules}
 use lib.ListN.{length}
 use lib.Seq.{length-take-le}
 use Rattle.model.specs.Walk.{cap}
 use Rattle.model.specs.Table.{values}
 use Rattle.walk.specs.Marks.{marks_of}
-use Rattle.walk.specs.GoingBack.{costs_of, Known}
+use Rattle.walk.specs.GoingBack.{costs_of}
 use Rattle.model.proofs.LeafSizes.{all_at}
 use Rattle.model.proofs.WalkPeriods.{values_end}
 use Rattle.walk.proofs.Rising.{front_rising}

@@ -1,4 +1,4 @@
-use Rattle.std.proofs.Common.{rules, arith, ◌≡◌, ◌∙◌, ◌<◌, ℕ, length, below_more, get_or-set_same, get_or-set_other}
+use Rattle.std.proofs.Common.{arith, ◌∙◌, ◌<◌, length, below_more, get_or-set_same, get_or-set_other}
 use Rattle.least.proofs.StepCosts.{on_is, off_is}
 use Rattle.least.proofs.ramp.fill_ramp_costs.Goals as goal
 

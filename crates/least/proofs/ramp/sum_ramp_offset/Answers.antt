@@ -1,6 +1,6 @@
-use Rattle.std.proofs.Common.{rules, arith, ◌≡◌, ◌∙◌, ◌+◌, ap, length, suc, ℕ, add-one}
-use Rattle.model.specs.Instance.{◌at◌, sum as sum_of}
-use Rattle.model.specs.RampCosts.{added, ramp_offset}
+use Rattle.std.proofs.Common.{arith, ◌≡◌, ◌∙◌, ◌+◌, ap, length, suc, ℕ, add-one}
+use Rattle.model.specs.Instance.{sum as sum_of}
+use Rattle.model.specs.RampCosts.{ramp_offset}
 use Rattle.model.proofs.PeriodSums.{sum_more}
 use Rattle.least.proofs.StepCosts.{added_is, part_ramp_offset_fits}
 use Rattle.least.proofs.ramp.sum_ramp_offset.Invariants.{added-in}

@@ -1,5 +1,5 @@
 -- `fill_costs` meets its contract. The loop's invariant: the periods passed have their costs.
-use Rattle.std.proofs.Common.{◌≡◌, ℕ, ◌<◌, true, false, length}
+use Rattle.std.proofs.Common.{◌≡◌, ℕ, ◌<◌, true, false}
 use Rattle.model.specs.Instance.{◌at◌}
 use Rattle.model.specs.Prices.{worth}
 use Rattle.least.proofs.unit.fill_costs.Given as goal

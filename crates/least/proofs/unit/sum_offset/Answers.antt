@@ -1,14 +1,11 @@
 -- `sum_offset` meets its contract: the pair of a turn is the next period's, and there are as many turns as periods.
-use Rattle.std.proofs.Common.{rules, arith, ◌≡◌, ◌∙◌, sym, ap, ◌+◌, ◌*◌, ◌<◌, ℕ, suc, length, length-append, get_or, min, List, [], ◌∷◌, ◌++◌}
+use Rattle.std.proofs.Common.{rules, arith, ◌≡◌, ◌∙◌, ap, ◌+◌, ◌*◌, ℕ, suc, length, length-append, List, [], ◌∷◌, ◌++◌}
 use Rattle.std.proofs.lemmas.Slice.Zip.{zip_turn, zip_end}
 use Rattle.model.specs.Instance.{◌at◌, sum as sum_of}
 use Rattle.model.specs.Prices.{offset}
 use Rattle.model.proofs.PeriodSums.{sum_more}
 use Rattle.least.proofs.Costs.{part_offset_fits}
 use Rattle.least.proofs.unit.sum_offset.Goals as goal
-use Rattle.least.proofs.unit.sum_offset.Tie as tie
-use Rattle.least.proofs.unit.sum_offset.Reads as reads
-use Rattle.least.proofs.unit.sum_offset.Lts as lts
 
 -- a turn more
 more : (q s : List ℕ) (high sum x y t : ℕ) → sum ≡ sum_of t (λ i. (q at i + s at i) * high) → x ≡ q at t → y ≡ s at t

@@ -1,5 +1,5 @@
 -- `is_crowd` meets its contract: the two counts and the two bytes that it compares are the definition's.
-use Rattle.std.proofs.Common.{rules, sym, ◌∙◌, ◌*◌, ◌≤◌, length}
+use Rattle.std.proofs.Common.{sym, ◌∙◌}
 use Rattle.layout.specs.Numbers.{instance_in}
 use Rattle.walk.proofs.AboveMarks.{statuses_inside}
 use Rattle.leaves.proofs.Crowds.{crowd_over, crowd_under}

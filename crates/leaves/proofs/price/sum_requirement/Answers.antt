@@ -1,4 +1,4 @@
-use Rattle.std.proofs.Common.{rules, arith, ◌≡◌, ◌∙◌, ap, ap₂, ◌+◌, ◌*◌, ◌<◌, ℕ, suc, add-one}
+use Rattle.std.proofs.Common.{arith, ◌≡◌, ◌∙◌, ap, ap₂, ◌+◌, ◌*◌, ◌<◌, ℕ, suc, add-one}
 use Rattle.model.specs.Instance.{◌at◌, sum as sum_of}
 use Rattle.model.proofs.PeriodSums.{sum_more}
 use Rattle.layout.specs.Numbers.{instance_in}

@@ -1,6 +1,5 @@
-use Rattle.std.proofs.Common.{rules, arith, ◌≡◌, ◌∙◌, sym, ap, ap₂, ◌+◌, ◌*◌, ◌<◌, ◌≤◌, ℕ, suc, add-one, length, get_or, List, []}
+use Rattle.std.proofs.Common.{arith, ◌≡◌, ◌∙◌, sym, ap, ap₂, ◌+◌, ◌*◌, ◌<◌, ◌≤◌, ℕ, suc, add-one, length, List, []}
 use Rattle.model.specs.Instance.{Instance, ◌at◌}
-use Rattle.model.specs.Held.{blank_generator}
 use Rattle.model.specs.Above.{Mark}
 use Rattle.model.specs.Largest.{total}
 use Rattle.model.specs.Leaf.{unless_off}

@@ -1,5 +1,5 @@
-use Rattle.std.proofs.Common.{rules, arith, ◌≡◌, ◌∙◌, ap, ap₂, refl, ◌+◌, ◌*◌, ◌<◌, ◌≤◌, ℕ, suc, add-one, length, get_or, take, List, []}
-use Rattle.model.specs.Instance.{Instance, ◌at◌}
+use Rattle.std.proofs.Common.{arith, ◌≡◌, ◌∙◌, ap, ap₂, refl, ◌+◌, ◌*◌, ◌<◌, ◌≤◌, ℕ, suc, add-one, length, get_or, List, []}
+use Rattle.model.specs.Instance.{◌at◌}
 use Rattle.model.specs.Above.{Mark}
 use Rattle.model.specs.Largest.{total}
 use Rattle.model.specs.Leaf.{unless_off}

@@ -1,5 +1,4 @@
 -- `leave_or_keep_states` meets its contract: of leaving where there is no leaving and keeping, the lesser is keeping.
-use Rattle.std.proofs.Common.{rules}
 use Rattle.model.specs.Walk.{lesser}
 use Rattle.walk.proofs.chain.leave_or_keep_states.Goals as goal
 

@@ -1,5 +1,5 @@
 -- `lesser_plus` meets its contract: each way through it is one case of the definition.
-use Rattle.std.proofs.Common.{rules, arith, sym, ◌<◌, ◌+◌}
+use Rattle.std.proofs.Common.{rules, arith, ◌<◌, ◌+◌}
 use Rattle.model.specs.Walk.{plus}
 use Rattle.model.proofs.Coded.{plus_some, lesser_none, lesser_some}
 use Rattle.walk.proofs.chain.lesser_plus.Goals as goal

@@ -1,9 +1,7 @@
 use mathlib.Core.Path.{◌≡◌, ◌∙◌, ap}
-use Prim.Native.Nat.{ℕ, ◌+◌, ◌-◌, ◌≤◌}
+use Prim.Native.Nat.{ℕ, ◌+◌}
 use native.Mathlib.Omega.{arith}
-use Rattle.model.specs.Instance.{◌at◌}
 use Rattle.model.specs.Walk.{plus, lesser}
-use Rattle.walk.specs.GoingBack.{Rewritten}
 use Rattle.walk.proofs.Chains.{written_none, written_more}
 use Rattle.walk.proofs.chain.lower_states.Goals as goal
 

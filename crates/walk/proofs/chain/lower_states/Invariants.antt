@@ -1,11 +1,8 @@
 -- `lower_states` meets its contract. The loop's invariant: the states from the first to this one are written, and no other.
-use mathlib.Core.Path.{◌≡◌, ◌∙◌, ap}
-use Prim.Native.Nat.{ℕ, ◌+◌, ◌-◌, ◌≤◌}
-use native.Mathlib.Omega.{arith}
+use Prim.Native.Nat.{◌+◌}
 use Rattle.model.specs.Instance.{◌at◌}
 use Rattle.model.specs.Walk.{plus, lesser}
 use Rattle.walk.specs.GoingBack.{Rewritten}
-use Rattle.walk.proofs.Chains.{written_none, written_more}
 use Rattle.walk.proofs.chain.lower_states.Given as goal
 
 abbrev pub invariant-loop-i : goal.invariant-loop-i

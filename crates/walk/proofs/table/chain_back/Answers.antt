@@ -1,5 +1,5 @@
 -- `chain_back` meets its contract: the states that cannot be left, those that can, and the last are the states one period back.
-use Rattle.std.proofs.Common.{arith, rules, sym, ◌<◌, length}
+use Rattle.std.proofs.Common.{arith, sym, ◌<◌, length}
 use borrow.Author.Tests.{eqb-false}
 use Rattle.walk.proofs.Chains.{backed_chained}
 use Rattle.walk.proofs.table.chain_back.Goals as goal

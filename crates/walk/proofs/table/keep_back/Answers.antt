@@ -4,7 +4,6 @@ use mathlib.Core.Bool.{true}
 use native.Mathlib.Omega.{arith}
 use Rattle.model.specs.Walk.{lesser}
 use Rattle.walk.proofs.Chains.{backed_is}
-use borrow.Author.Rules.{rules}
 use Rattle.walk.proofs.table.keep_back.Goals as goal
 
 pub keep_states-requires : goal.keep_states-requires

@@ -1,5 +1,5 @@
 -- `kept_value` meets its contract: each way through it is one case of the definition.
-use Rattle.std.proofs.Common.{sym, arith, rules}
+use Rattle.std.proofs.Common.{sym, arith}
 use Rattle.model.specs.Walk.{plus}
 use Rattle.model.proofs.Coded.{plus_some}
 use Rattle.walk.proofs.table.kept_value.Goals as goal

@@ -3,7 +3,6 @@ use Rattle.std.proofs.Common.{◌≡◌, ◌<◌, ◌+◌, arith}
 use borrow.Author.Tests.{ne_eqb}
 use Rattle.model.specs.Instance.{◌at◌}
 use Rattle.model.proofs.Coded.{plus_some}
-use borrow.Author.Rules.{rules}
 use Rattle.walk.proofs.StatusMarks.{allows_on, allows_off}
 use Rattle.walk.proofs.table.marked_back.Goals as goal
 

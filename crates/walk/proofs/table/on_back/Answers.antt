@@ -5,7 +5,6 @@ use native.Mathlib.Omega.{arith}
 use Rattle.model.specs.Walk.{lesser}
 use Rattle.model.proofs.Coded.{lesser_none}
 use Rattle.walk.proofs.Chains.{written_none, backed_is, backed_chained}
-use borrow.Author.Rules.{rules}
 use Rattle.walk.proofs.table.on_back.Goals as goal
 
 pub keep_states-requires : goal.keep_states-requires

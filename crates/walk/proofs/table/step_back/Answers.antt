@@ -1,5 +1,5 @@
 -- `step_back` meets its contract: where the first state of a status has a value every state has.
-use Rattle.std.proofs.Common.{sym, ◌∙◌, rules}
+use Rattle.std.proofs.Common.{sym, ◌∙◌}
 use Rattle.model.specs.Instance.{◌at◌}
 use Rattle.walk.proofs.Rising.{open_is}
 use Rattle.walk.proofs.table.step_back.Goals as goal
