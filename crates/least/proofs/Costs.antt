@@ -2,7 +2,7 @@
 use mathlib.Core.Path.{◌≡◌, refl, sym}
 use mathlib.Core.Bool.{Bool, true, false}
 use mathlib.Core.List.{List, [], ◌∷◌, ◌++◌}
-use Prim.Native.Nat.{ℕ, suc, ◌+◌, ◌*◌, ◌-◌, ◌≤◌, ◌<◌}
+use Prim.Native.Nat.{ℕ, suc, ◌+◌, ◌*◌, ◌≤◌, ◌<◌}
 use native.Mathlib.Omega.{arith}
 use lib.ListN.{length, take, length-append}
 use lib.Seq.{take_at}
@@ -14,11 +14,11 @@ use Rattle.model.specs.Walk.{walk}
 use Rattle.model.specs.Prices.{worth, price_walk, offset}
 use Rattle.model.proofs.PeriodSums.{sum_part}
 use Rattle.model.proofs.LeafSizes.{all_at}
-use Rattle.model.proofs.WalkSizes.{worth_fits, added_fits, price_walk_fits, offset_fits}
+use Rattle.model.proofs.WalkSizes.{worth_fits, price_walk_fits, offset_fits}
 use Rattle.model.proofs.WalkPeriods.{walk_ext}
 use Rattle.walk.specs.Limits.{GoodCosts}
 use Rattle.walk.specs.GoingBack.{costs_of}
-use Rattle.least.specs.Limits.{GoodPrices, GoodSlopes}
+use Rattle.least.specs.Limits.{GoodPrices}
 use Rattle.least.specs.Priced.{Priced, Costed}
 
 -- a list whose every entry is in range
@@ -79,14 +79,6 @@ module _ (n : ℕ) (q s : List ℕ) (P : GoodPrices n q s) where
   reserve_in t = all_at 1000000000 s P.s_in t
 
   module _ (g : Generator) (good : GoodUnit g) where
-    -- b against the price
-    pub slopes_in : (t : ℕ) → GoodSlopes g.b (q at t)
-    slopes_in t = record { x_in = omega (arith, good.in_range.b_in); y_in = omega (arith, price_in t) }
-
-    -- what is added in a period
-    pub period_added_fits : (t : ℕ) → (q at t + s at t) * g.pU ≤ 20_000_000_000_000
-    period_added_fits t = added_fits g good (q at t) (s at t) (price_in t) (reserve_in t)
-
     -- the walk and what was added to it
     pub price_value_fits : (m : ℕ → Mark) → price_walk n (λ t. q at t) (λ t. s at t) g m ≤ 1_000_000_000_000_000
     price_value_fits m = price_walk_fits g good n P.periods_in.1 (λ t. q at t) (λ t. s at t) (λ t l. price_in t) (λ t l. reserve_in t) m

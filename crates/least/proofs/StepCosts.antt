@@ -4,10 +4,8 @@ use mathlib.Core.Path.{◌≡◌, refl}
 use mathlib.Core.Bool.{Bool}
 use mathlib.Core.List.{List}
 use Prim.Native.Nat.{ℕ, zero, suc, pred, ◌+◌, ◌*◌, ◌≤◌, ◌<◌}
-use native.Mathlib.Nat.{mul-le-mul}
 use native.Mathlib.Numerals.{add-one}
 use native.Mathlib.Omega.{arith}
-use lib.ListN.{length}
 use Rattle.model.specs.declared.generator.Generator.{Generator}
 use Rattle.model.specs.Instance.{◌at◌, sum}
 use Rattle.model.specs.Ranges.{GoodUnit, GoodPrice}
@@ -48,36 +46,7 @@ pub after_is : (n : ℕ) (l : List ℕ) → GoodSteps n l → (t : ℕ) → t < 
 after_is zero l S t h = absurd (omega arith)
 after_is (suc n) l S t h = rw (add-one t) (after_at n (steps l) S.last t (omega arith))
 
--- ---- pU, UR and DR, each at its price
-
-pub record LimitsFit (g : Generator) (price up down : ℕ) : Type 0 where
-  pub high : price * g.pU ≤ 40_000_000_000_000
-  pub rise : up * g.UR ≤ 10_000_000_000_000
-  pub fall : down * g.DR ≤ 10_000_000_000_000
-
-pub limits_fit : (g : Generator) → GoodUnit g → (price up down : ℕ) → price ≤ 4_000_000_000 → GoodPrice up → GoodPrice down → LimitsFit g price up down
-limits_fit g good price up down h i j =
-    record {
-      high = omega (arith, mul-le-mul h good.in_range.pU_in.1);
-      rise = omega (arith, mul-le-mul i.1 good.in_range.UR_in.1);
-      fall = omega (arith, mul-le-mul j.1 good.in_range.DR_in.1);
-    }
-
 -- ---- one period
-
--- the lists hold period t and the step that begins with it, and the numbers that the code reads there are in range
-pub record Readable (q s up down : List ℕ) (t : ℕ) : Type 0 where
-  pub few : t < 48
-  pub q_holds : t < length q
-  pub s_holds : t < length s
-  pub up_holds : t + 1 < length up
-  pub down_holds : t + 1 < length down
-  pub q_in : GoodPrice (q at t)
-  pub s_in : GoodPrice (s at t)
-  pub up_in : GoodPrice (up at t)
-  pub up_next : GoodPrice (up at (t + 1))
-  pub down_in : GoodPrice (down at t)
-  pub down_next : GoodPrice (down at (t + 1))
 
 module _ (n : ℕ) (q s up down : List ℕ) (P : GoodPrices n q s) (U : GoodSteps n up) (D : GoodSteps n down) where
   abbrev Q : ℕ → ℕ
@@ -85,22 +54,6 @@ module _ (n : ℕ) (q s up down : List ℕ) (P : GoodPrices n q s) (U : GoodStep
 
   abbrev S : ℕ → ℕ
   S t = s at t
-
-  pub period_readable : (t : ℕ) → t < n → Readable q s up down t
-  period_readable t h =
-      record {
-        few = omega (arith, P.periods_in);
-        q_holds = omega (arith, P.q_long);
-        s_holds = omega (arith, P.s_long);
-        up_holds = omega (arith, U.long);
-        down_holds = omega (arith, D.long);
-        q_in = price_in n q s P t;
-        s_in = reserve_in n q s P t;
-        up_in = step_in n up U t;
-        up_next = step_in n up U (t + 1);
-        down_in = step_in n down D t;
-        down_next = step_in n down D (t + 1);
-      }
 
   module _ (g : Generator) where
     pub on_is : (t : ℕ) → t < n → (v : ℕ)

@@ -12,19 +12,13 @@ pub fn best_output(g: Generator, x: u64, y: u64) -> u64
     requires good_slopes { GoodSlopes x y }
     ensures { result ≡ best_at g x y }
 {
-    let c = g.c;
-    let low = g.pL;
-    let high = g.pU;
-    if y <= x + c * (2 * low + 1) {
-        return low;
+    if y <= x + g.c * (2 * g.pL + 1) {
+        return g.pL;
     }
-    if c == 0 {
-        return high;
+    if g.c == 0 || x + 2 * g.c * g.pU < y + g.c {
+        return g.pU;
     }
-    if x + 2 * c * high < y + c {
-        return high;
-    }
-    (y - x - c + (2 * c - 1)) / (2 * c)
+    (y - x - g.c + (2 * g.c - 1)) / (2 * g.c)
 }
 
 // What a period on at the output p costs.
@@ -34,10 +28,7 @@ pub fn on_value(g: Generator, x: u64, y: u64, p: u64) -> u64
     requires p_le_p_u { p ≤ g.pU }
     ensures { result ≡ on_value g x y p }
 {
-    let a = g.a;
-    let c = g.c;
-    let high = g.pU;
-    a + x * p + c * p * p + y * (high - p)
+    g.a + x * p + g.c * p * p + y * (g.pU - p)
 }
 
 // What a period on costs at the best output.

@@ -18,10 +18,7 @@ fn limits_value(g: Generator, price: u64, up: u64, down: u64) -> u64
     requires price_bound { (price ≤ 4_000_000_000) × GoodPrice up × GoodPrice down }
     ensures { result ≡ price * g.pU + up * g.UR + down * g.DR }
 {
-    let high = g.pU;
-    let rise = g.UR;
-    let fall = g.DR;
-    price * high + up * rise + down * fall
+    price * g.pU + up * g.UR + down * g.DR
 }
 
 // Writes what each period costs on and off, with what is added to it.
@@ -40,15 +37,11 @@ fn fill_ramp_costs(
     requires on_len { (length on.old ≡ length q.now) × (length off.old ≡ length q.now) }
     ensures { Costed (length q.now) (ramp_worth (pred (length q.now)) g (λ t. q.now at t) (λ t. s.now at t) (λ t. up.now at suc t) (λ t. down.now at suc t)) on.new off.new }
 {
-    let b = g.b;
-    let n = q.len();
-    let mut t = 0;
-    while t < n {
+    for t in 0..q.len() {
         let rise = up[t + 1];
         let fall = down[t + 1];
-        on[t] = least_on(g, b + (up[t] + fall), q[t] + rise + down[t]);
+        on[t] = least_on(g, g.b + (up[t] + fall), q[t] + rise + down[t]);
         off[t] = limits_value(g, q[t] + s[t], rise, fall);
-        t += 1;
     }
 }
 
@@ -73,13 +66,10 @@ fn sum_ramp_offset(g: Generator, q: &[u64], s: &[u64], up: &[u64], down: &[u64])
     requires good_steps { GoodSteps (length q.now) up.now × GoodSteps (length q.now) down.now }
     ensures { result ≡ ramp_offset (length q.now) (λ t. q.now at t) (λ t. s.now at t) (λ t. up.now at suc t) (λ t. down.now at suc t) g }
 {
-    let n = q.len();
     let mut sum = 0;
-    let mut t = 0;
-    while t < n {
+    for t in 0..q.len() {
         let rise = up[t + 1];
         sum += limits_value(g, q[t] + rise + down[t] + s[t], rise, down[t + 1]);
-        t += 1;
     }
     sum
 }

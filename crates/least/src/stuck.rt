@@ -15,9 +15,8 @@ fn is_stuck(g: Generator, fixed: &[u8]) -> bool
     requires between { Between 1 (length fixed.now) 48 }
     ensures { result ≡ is_stuck (length fixed.now) g (marks_of fixed.now) }
 {
-    let n = fixed.len();
     let costs = [0u64; 48];
-    let free = &costs[..n];
+    let free = &costs[..fixed.len()];
     walk_value(g, free, free, fixed) == 0
 }
 
@@ -29,8 +28,7 @@ pub fn is_unit_stuck(numbers: &[u64], u: usize, above: &[u8]) -> bool
     ensures { result ≡ stuck_at (instance_in numbers.now).periods (instance_in numbers.now).units (above_of (instance_in numbers.now) above.now).marks u }
 {
     let n = periods_in(numbers);
-    let g = generator_at(numbers, u);
     let begin = u * n;
     let end = begin + n;
-    is_stuck(g, &above[begin..end])
+    is_stuck(generator_at(numbers, u), &above[begin..end])
 }

@@ -19,14 +19,9 @@ pub fn fill_costs(g: Generator, q: &[u64], s: &[u64], on: &mut [u64], off: &mut 
     requires on_len { (length on.old ≡ length q.now) × (length off.old ≡ length q.now) }
     ensures { Priced g q.now s.now on.new off.new }
 {
-    let b = g.b;
-    let high = g.pU;
-    let n = q.len();
-    let mut t = 0;
-    while t < n {
-        on[t] = least_on(g, b, q[t]);
-        off[t] = (q[t] + s[t]) * high;
-        t += 1;
+    for t in 0..q.len() {
+        on[t] = least_on(g, g.b, q[t]);
+        off[t] = (q[t] + s[t]) * g.pU;
     }
 }
 
@@ -49,13 +44,9 @@ pub fn sum_offset(g: Generator, q: &[u64], s: &[u64]) -> u64
     requires good_prices { GoodPrices (length q.now) q.now s.now }
     ensures { result ≡ offset (length q.now) (λ t. q.now at t) (λ t. s.now at t) g }
 {
-    let high = g.pU;
-    let n = q.len();
     let mut sum = 0;
-    let mut t = 0;
-    while t < n {
-        sum += (q[t] + s[t]) * high;
-        t += 1;
+    for (q, s) in q.iter().zip(s) {
+        sum += (*q + *s) * g.pU;
     }
     sum
 }

@@ -1,13 +1,14 @@
 -- Crowd: what its test says (document 02, [1]), and how many units are fixed on and how many not fixed off, unit by unit, with their sizes.
-use mathlib.Core.Path.{◌≡◌, refl, ◌∙◌, ap, ap₂}
+use mathlib.Core.Path.{◌≡◌, refl, sym, ◌∙◌, ap, ap₂}
 use mathlib.Core.Bool.{Bool, true, false, cond, ◌||◌}
 use mathlib.Core.List.{List, [], ◌∷◌}
 use mathlib.Core.Logic.{◌↔◌, ◌⊎◌, inl, inr}
 use mathlib.Core.Option.{Option, none, some}
 use Prim.Native.Nat.{ℕ, zero, suc, ◌+◌, ◌≤◌, ◌<◌}
 use native.Mathlib.Omega.{arith}
-use borrow.Author.Tests.{eq-eqb, ne_eqb, lt-ltb, ltb-true}
-use lib.Dec.{eqb, ltb, leb}
+use borrow.Author.Tests.{eqb-true, lt-ltb, ltb-true}
+use lib.Dec.{eqb, ltb}
+use mir.Val.{bool_byte}
 use lib.ListN.{length, take, length-take}
 use Rattle.model.specs.declared.generator.Generator.{Generator}
 use Rattle.model.specs.Instance.{Instance, ◌at◌}
@@ -52,27 +53,16 @@ crowd_is P A t = ((λ e. there (either over under e)), (λ h. back h))
 
 -- ---- one byte
 
--- 1 only where it fixes on
-pub fixed_on_two : (x : ℕ) → x ≡ 2 → 1 ≡ if_fixed_on (mark_of x)
+-- 1 only for the byte that fixes on
+pub fixed_on_is : (x : ℕ) → bool_byte (eqb x 2) ≡ if_fixed_on (mark_of x)
 unfolding mark_of
-fixed_on_two x e = rw (ne_eqb x 1 (λ i. omega arith), eq-eqb x 2 e) refl
-
-pub fixed_on_other : (x : ℕ) → (x ≡ 2 → ⊥) → 0 ≡ if_fixed_on (mark_of x)
-unfolding mark_of
-fixed_on_other x h = rw (ne_eqb x 2 h) (go (eqb x 1))
+fixed_on_is x = go (eqb x 1) refl (eqb x 2) refl
   where
-    go : (b : Bool) → 0 ≡ if_fixed_on (cond b (fixed false) free)
-    go true = refl
-    go false = refl
-
--- an upper count's byte: none where it is 0, else above is what is not below the byte
-pub above_most_none : (n x : ℕ) → x ≡ 0 → false ≡ above_most n (most_of x)
-above_most_none n zero e = refl
-above_most_none n (suc K) e = absurd (omega arith)
-
-pub above_most_some : (n x : ℕ) → (x ≡ 0 → ⊥) → leb x n ≡ above_most n (most_of x)
-above_most_some n zero h = absurd (h refl)
-above_most_some n (suc K) h = refl
+    go : (b : Bool) → eqb x 1 ≡ b → (c : Bool) → eqb x 2 ≡ c → bool_byte c ≡ if_fixed_on (cond b (fixed false) (cond c (fixed true) free))
+    go true e true h = absurd (omega (arith, eqb-true x 1 e, eqb-true x 2 h))
+    go true e false h = refl
+    go false e true h = refl
+    go false e false h = refl
 
 -- ---- one unit more
 
@@ -131,11 +121,10 @@ module _ (P : Instance) (bytes : List ℕ) (t : ℕ) (l : t < P.periods) where
     over_is : above_most n (most_of (bytes at (upper_begin + t))) ≡ above_most (fixed_on P.units (above_of P bytes).marks t) ((above_of P bytes).most t)
     over_is = ap₂ above_most e (most_here P.periods bytes t l)
 
-    -- n units are fixed on, above the upper count
-    pub crowd_over : true ≡ above_most n (most_of (bytes at (upper_begin + t))) → true ≡ crowd_at P (above_of P bytes) t
-    crowd_over h = ap (λ (b : Bool). b || under) (h ∙ over_is)
+    -- n units are fixed on, and k not fixed off
+    pub crowd_over : (b : Bool) → b ≡ true → b ≡ above_most n (most_of (bytes at (upper_begin + t))) → b ≡ crowd_at P (above_of P bytes) t
+    crowd_over b e h = e ∙ ap (λ (b : Bool). b || under) (sym e ∙ h ∙ over_is)
 
-    -- they are not; k units are not fixed off
     pub crowd_under : false ≡ above_most n (most_of (bytes at (upper_begin + t))) → (k : ℕ) → k ≡ not_off P.units (above_of P bytes).marks t
-        → ltb k (bytes at (lower_begin + t)) ≡ crowd_at P (above_of P bytes) t
-    crowd_under h k j = ap₂ ltb j (least_here P.periods bytes t l) ∙ ap (λ (b : Bool). b || under) (h ∙ over_is)
+        → (j : ℕ) → j ≡ bytes at (lower_begin + t) → ltb k j ≡ crowd_at P (above_of P bytes) t
+    crowd_under h k e j i = ap₂ ltb e (i ∙ least_here P.periods bytes t l) ∙ ap (λ (b : Bool). b || under) (h ∙ over_is)

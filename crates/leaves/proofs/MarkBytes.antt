@@ -23,9 +23,6 @@ differ_one (suc (suc d)) h = absurd (omega arith)
 xor_one : (x : ℕ) → bit_xor x 1 ≡ x / 2 * 2 + (1 - x % 2)
 xor_one x = xor_step x 1 ∙ ap (λ (k : ℕ). k * 2 + differ (x % 2) 1) (xor_zero_r (x / 2)) ∙ ap (λ (k : ℕ). x / 2 * 2 + k) (differ_one (x % 2) (omega arith))
 
-pub xor_one_most : (x : ℕ) → x ≤ 255 → bit_xor x 1 ≤ 255
-xor_one_most x h = omega (arith, xor_one x)
-
 -- the quotient by 256 is 1, and 0 only where the byte fixes off
 pub not_off_quotient : (x : ℕ) → x ≤ 255 → (bit_xor x 1 + 255) / 256 ≡ length (unless_off (mark_of x) 0 [])
 unfolding mark_of

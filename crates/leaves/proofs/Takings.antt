@@ -3,7 +3,6 @@
 use mathlib.Core.Path.{◌≡◌, refl, sym, ◌∙◌, ap, ap₂, subst}
 use mathlib.Core.Bool.{Bool, true, false, cond}
 use mathlib.Core.List.{List, [], ◌∷◌, map}
-use mathlib.Core.Logic.{◌⊎◌, inl, inr}
 use Prim.Native.Nat.{ℕ, zero, suc, ◌+◌, ◌≤◌, ◌<◌, min}
 --
 use native.Mathlib.Omega.{arith}
@@ -25,11 +24,6 @@ use Rattle.leaves.specs.LeafLeasts.{taken_from}
 abbrev pub may : Mark → Bool
 may free = true
 may (fixed b) = b
-
--- what follows either way
-pub either : {A B C : Type 0} → (A → C) → (B → C) → A ⊎ B → C
-either f g (inl a) = f a
-either f g (inr b) = g b
 
 -- ---- the sum of the first numbers
 
@@ -106,9 +100,6 @@ module _ (p : ℕ → Bool) (f : ℕ → ℕ) (c : List ℕ) (K d : ℕ) where
     pub sum : s ≡ total (take k all_taken)
     pub fewer : (j : ℕ) → j < k → total (take j all_taken) < d
 
-  pub passed_none : Passed 0 0 0
-  passed_none = record { within = omega arith; many = refl; room = omega arith; sum = refl; fewer = λ j h. absurd (omega arith) }
-
   counted : {i k k' s s' : ℕ} → k ≡ k' → s ≡ s' → Passed i k s → Passed i k' s'
   counted {i} {k} {k'} {s} {s'} e e' = subst (λ (j : ℕ). Passed i k s → Passed i j s') e (subst (λ (z : ℕ). Passed i k s → Passed i k z) e' (λ P. P))
 
@@ -164,14 +155,11 @@ module _ (p : ℕ → Bool) (f : ℕ → ℕ) (c : List ℕ) (K d : ℕ) where
         ended (record { fewer = P.fewer; enough = λ h. omega (arith, h, all, P.sum); all = λ h. e }) (ap (λ (x : ℕ). ltb x d) all)
 
     -- they reach d
-    passed_enough : d ≤ s → record { short = ltb s d; units = k } ≡ taken_from (values p f c K) d
+    pub passed_enough : d ≤ s → record { short = ltb s d; units = k } ≡ taken_from (values p f c K) d
     passed_enough h =
         let most : s ≤ total all_taken = omega (arith, P.sum, take_total k all_taken) in
         ended (record { fewer = P.fewer; enough = λ j. omega (arith, h, P.sum); all = λ j. absurd (omega (arith, j, h, most)) })
         (le-ltb s d h ∙ sym (le-ltb (total all_taken) d (omega arith)))
-
-    pub passed_reached : d ≤ s → record { short = false; units = k } ≡ taken_from (values p f c K) d
-    passed_reached h = ap (λ (b : Bool). record { short = b; units = k }) (sym (le-ltb s d h)) ∙ passed_enough h
 
     -- K are taken
     pub passed_most : K ≤ k → record { short = ltb s d; units = k } ≡ taken_from (values p f c K) d

@@ -13,10 +13,7 @@ use layout::{periods_in, units_in};
 fn fixed_on_of(mark: u8) -> usize
     ensures { result ≡ if_fixed_on (mark_of mark) }
 {
-    if mark == 2 {
-        return 1;
-    }
-    0
+    usize::from(mark == 2)
 }
 
 // How many units are fixed on in period t.
@@ -27,14 +24,9 @@ fn count_fixed_on(numbers: &[u64], t: usize, above: &[u8]) -> usize
     ensures { result ≡ fixed_on (instance_in numbers.now).units (above_of (instance_in numbers.now) above.now).marks t }
 {
     let n = periods_in(numbers);
-    let units = units_in(numbers);
     let mut count = 0;
-    let mut begin = 0;
-    let mut u = 0;
-    while u < units {
-        count += fixed_on_of(above[begin + t]);
-        begin += n;
-        u += 1;
+    for u in 0..units_in(numbers) {
+        count += fixed_on_of(above[u * n + t]);
     }
     count
 }
@@ -47,14 +39,9 @@ fn count_not_off(numbers: &[u64], t: usize, above: &[u8]) -> usize
     ensures { result ≡ not_off (instance_in numbers.now).units (above_of (instance_in numbers.now) above.now).marks t }
 {
     let n = periods_in(numbers);
-    let units = units_in(numbers);
     let mut count = 0;
-    let mut begin = 0;
-    let mut u = 0;
-    while u < units {
-        count += not_off_of(above[begin + t]);
-        begin += n;
-        u += 1;
+    for u in 0..units_in(numbers) {
+        count += not_off_of(above[u * n + t]);
     }
     count
 }
@@ -63,10 +50,7 @@ fn count_not_off(numbers: &[u64], t: usize, above: &[u8]) -> usize
 fn is_above(units: usize, upper: u8) -> bool
     ensures { result ≡ above_most units (most_of upper) }
 {
-    if upper == 0 {
-        return false;
-    }
-    upper as usize <= units
+    upper != 0 && usize::from(upper) <= units
 }
 
 // Whether the upper count of period t is below the number of units fixed on, or its lower count above that of the units not fixed off.
@@ -76,8 +60,6 @@ pub fn is_crowd(numbers: &[u64], t: usize, above: &[u8]) -> bool
     requires above_len { length above.now ≡ above_length }
     ensures { result ≡ crowd_at (instance_in numbers.now) (above_of (instance_in numbers.now) above.now) t }
 {
-    if is_above(count_fixed_on(numbers, t, above), above[UPPER + t]) {
-        return true;
-    }
-    count_not_off(numbers, t, above) < above[LOWER + t] as usize
+    is_above(count_fixed_on(numbers, t, above), above[UPPER + t])
+        || count_not_off(numbers, t, above) < usize::from(above[LOWER + t])
 }

@@ -5,11 +5,12 @@ ghost use Rattle.model.specs.Leaf.{unless_off};
 ghost use Rattle.model.specs.Ranges.{every};
 ghost use Rattle.walk.specs.Marks.{is_status, mark_of};
 
-// 1 for a unit that is not fixed off. No branch hangs on the byte, since the next one cannot be foretold.
+// 1 for a unit that is not fixed off. No branch hangs on the byte, since the next one cannot be foretold: of `usize::from(mark != 1)` the
+// compiler makes one, and `short` takes a tenth more steps.
 pub fn not_off_of(mark: u8) -> usize
     ensures { result ≡ length (unless_off (mark_of mark) 0 []) }
 {
-    ((mark ^ 1) as usize + 255) / 256
+    (usize::from(mark ^ 1) + 255) / 256
 }
 
 // pU, but 0 for a unit that is fixed off.
@@ -23,12 +24,5 @@ pub fn usable_of(mark: u8, high: u64) -> u64
 pub fn are_statuses(fixed: &[u8]) -> bool
     ensures { result ≡ every is_status fixed.now }
 {
-    let mut i = 0;
-    while i < fixed.len() {
-        if 2 < fixed[i] {
-            return false;
-        }
-        i += 1;
-    }
-    true
+    fixed.iter().all(|mark| *mark <= 2)
 }

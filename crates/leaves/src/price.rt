@@ -54,12 +54,9 @@ pub(crate) fn sum_requirement(numbers: &[u64], q: &[u64], s: &[u64]) -> u64
     requires good_prices { GoodPrices (instance_in numbers.now).periods q.now s.now }
     ensures { result ≡ requirement (instance_in numbers.now) (λ t. q.now at t) (λ t. s.now at t) }
 {
-    let n = periods_in(numbers);
     let mut sum = 0;
-    let mut t = 0;
-    while t < n {
+    for t in 0..periods_in(numbers) {
         sum += required(q[t], s[t], demand_at(numbers, t), spare_at(numbers, t));
-        t += 1;
     }
     sum
 }

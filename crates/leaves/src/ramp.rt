@@ -31,10 +31,9 @@ fn unit_answer(
     ensures { result ≡ ramp_least_of (instance_in numbers.now).periods (λ t. q.now at t) (λ t. s.now at t) (λ t. up.now at suc t) (λ t. down.now at suc t) (get_or (instance_in numbers.now).units u blank_generator) ((above_of (instance_in numbers.now) above.now).marks u) }
 {
     let n = periods_in(numbers);
-    let g = generator_at(numbers, u);
     let begin = u * n;
     let end = begin + n;
-    ramp_least(g, q, s, up, down, &above[begin..end])
+    ramp_least(generator_at(numbers, u), q, s, up, down, &above[begin..end])
 }
 
 // What the units passed answer, and unit u. It is asked only where none of them is stuck.

@@ -27,23 +27,15 @@ fn take_by_number(numbers: &[u64], t: usize, above: &[u8], need: u64) -> Taken
     ensures { result ≡ taken_from (usable (instance_in numbers.now).units (above_of (instance_in numbers.now) above.now).marks t) need }
 {
     let n = periods_in(numbers);
-    let units = units_in(numbers);
     let mut sum = 0;
     let mut taken = 0;
-    let mut begin = 0;
-    let mut u = 0;
-    while u < units {
-        if sum >= need {
-            return Taken {
-                short: false,
-                units: taken,
-            };
+    for u in 0..units_in(numbers) {
+        if need <= sum {
+            break;
         }
-        let mark = above[begin + t];
+        let mark = above[u * n + t];
         sum += usable_of(mark, pU_at(numbers, u));
         taken += not_off_of(mark);
-        begin += n;
-        u += 1;
     }
     Taken {
         short: sum < need,
@@ -59,21 +51,15 @@ fn take_largest(numbers: &[u64], t: usize, above: &[u8], need: u64, most: usize)
     requires need_bound { need ≤ 640_000 }
     ensures { result ≡ taken_from (take most (falling (usable (instance_in numbers.now).units (above_of (instance_in numbers.now) above.now).marks t))) need }
 {
-    let units = units_in(numbers);
     let mut sum = 0;
     let mut taken = 0;
-    let mut i = 0;
-    while taken < most && i < units {
-        if need <= sum {
-            return Taken {
-                short: false,
-                units: taken,
-            };
+    for i in 0..units_in(numbers) {
+        if taken == most || need <= sum {
+            break;
         }
         let mark = above[place_at(numbers, i) + t];
         sum += usable_of(mark, size_at(numbers, i));
         taken += not_off_of(mark);
-        i += 1;
     }
     Taken {
         short: sum < need,
@@ -94,5 +80,5 @@ pub fn sum_until(numbers: &[u64], t: usize, above: &[u8]) -> Taken
     if upper == 0 {
         return take_by_number(numbers, t, above, need);
     }
-    take_largest(numbers, t, above, need, (upper - 1) as usize)
+    take_largest(numbers, t, above, need, usize::from(upper - 1))
 }

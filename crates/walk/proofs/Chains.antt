@@ -1,5 +1,5 @@
 -- A run of entries written one after the other; and the three runs that a status's states fall into, one period back.
-use mathlib.Core.Path.{◌≡◌, refl, sym, ◌∙◌, ap}
+use mathlib.Core.Path.{◌≡◌, refl, ◌∙◌, ap}
 use mathlib.Core.Bool.{Bool, true, false, not, cond}
 use mathlib.Core.List.{List}
 use Prim.Native.Nat.{ℕ, ◌+◌, ◌-◌, ◌≤◌, ◌<◌, min}
@@ -9,9 +9,8 @@ use borrow.Author.Tests.{eq-eqb, ne_eqb}
 use lib.Dec.{T, leb, leb→le, nleb→lt}
 use lib.ListN.{length, get_or, set, length-set}
 use lib.Seq.{get_or-set_same, get_or-set_other}
-use Rattle.model.specs.Walk.{plus, lesser}
+use Rattle.model.specs.Walk.{lesser}
 use Rattle.model.specs.Table.{kept, chain_at, Chained}
-use Rattle.model.proofs.Coded.{plus_some, lesser_some}
 use Rattle.walk.specs.GoingBack.{Rewritten, Backed}
 
 -- ---- a run that is written
@@ -77,28 +76,3 @@ backed_chained old new need from early last allowed v pos e B = record { same = 
             let j : min (k + 1) (length old - 1) ≡ k + 1 = omega arith in
             rw (ne_eqb (k + 1) (length old) (λ e. omega arith), j)
             (within k i (leb need (k + 1)) (λ t. leb→le need (k + 1) t) (λ t. nleb→lt need (k + 1) t))
-
--- ---- where every state has a value
-
--- a run that is written so is one of coded values
-pub written_within : (old new : List ℕ) (from to : ℕ) (f g : ℕ → ℕ) → ((k : ℕ) → from ≤ k → k < to → f k ≡ g k) → Rewritten old new from to f
-    → Rewritten old new from to g
-written_within old new from to f g h W =
-    record { same = W.same; inside = λ k i j. W.inside k i j ∙ h k i j; below = W.below; above = W.above }
-
-lesser_plus_some : (early cost v : ℕ) → 0 < early → 0 < v → lesser early (plus cost v) ≡ min early (cost + v)
-lesser_plus_some early cost v h i = rw (plus_some cost v i) (lesser_some early (cost + v) h (omega arith))
-
-module _ (old : List ℕ) (has : (k : ℕ) → k < length old → 0 < get_or old k 0) (from end early last cost : ℕ) (h : from ≤ end) (e : length old ≡ end + 1)
-    (early_there : 0 < early) (last_there : 0 < last) where
-  -- the three runs one after the other
-  pub valued_is : (mid new : List ℕ) (x : ℕ) → Rewritten old mid 0 from (λ k. cost + get_or old (k + 1) 0)
-      → Rewritten mid new from end (λ k. min early (cost + get_or mid (k + 1) 0)) → x ≡ min last (cost + get_or old end 0)
-      → Backed old (set new end x) from early last true cost
-  valued_is mid new x A B g =
-      let kept_low = written_within old mid 0 from _ (λ k. kept true cost (get_or old (k + 1) 0))
-      (λ k i j. sym (plus_some cost (get_or old (k + 1) 0) (has (k + 1) (omega arith)))) A in
-      let kept_high = written_within mid new from end _ (λ k. lesser early (kept true cost (get_or mid (k + 1) 0)))
-      (λ k i j. sym (lesser_plus_some early cost (get_or mid (k + 1) 0) early_there (rw (A.above (k + 1) (omega arith)) (has (k + 1) (omega arith))))) B in
-      backed_is old mid new from end early last true cost x h e kept_low kept_high
-      (g ∙ sym (lesser_plus_some last cost (get_or old end 0) last_there (has end (omega arith))))

@@ -10,7 +10,6 @@ use lib.Dec.{T, leb, leb→le, eqb, eqb→eq}
 use lib.ListN.{length, take}
 use lib.Seq.{length-take-le, get_or-take}
 use Rattle.model.specs.declared.generator.Generator.{Generator}
-use Rattle.model.specs.Instance.{◌at◌}
 use Rattle.model.specs.Rules.{permits, spent}
 use Rattle.model.specs.Above.{Mark, allows}
 use Rattle.model.specs.Walk.{plus, lesser, Values, move, back, walk, cap}

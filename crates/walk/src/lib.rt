@@ -13,7 +13,6 @@ ghost use Rattle.walk.specs.GoingBack.{by_status, costs_of, Tables};
 
 mod chain;
 pub mod table;
-mod valued;
 
 use crate::table::{kept_value, lesser_value, step_back};
 use model::generator::Generator;
@@ -26,9 +25,7 @@ fn walk_back(g: Generator, on: &[u64], off: &[u64], fixed: &[u8], ons: &mut [u64
     requires by_index { ((k : ℕ) → k < g.TU → ons.old at k ≡ 1) × ((k : ℕ) → k < g.TD + g.Tcold + 1 → offs.old at k ≡ 1) }
     ensures { Tables g (values (length on.now) g (marks_of fixed.now) (costs_of on.now off.now) 0) ons.new offs.new }
 {
-    let mut t = on.len();
-    while 0 < t {
-        t -= 1;
+    for t in (0..on.len()).rev() {
         step_back(g, fixed[t], on[t], off[t], ons, offs);
     }
 }
@@ -38,62 +35,48 @@ pub fn place(n: usize, len: usize) -> usize
     requires { (1 ≤ n) × (1 ≤ len) }
     ensures { result ≡ min n len - 1 }
 {
-    if n <= len {
-        return n - 1;
-    }
-    len - 1
+    n.min(len) - 1
 }
 
-// The value, one period back, of the state that the unit reaches from before period 1 without a change: k periods in its status.
-// The values after the period are those of a unit just started, just stopped, and of one that stayed.
-fn own_back(
-    g: Generator,
-    k: usize,
-    mark: u8,
-    on: u64,
-    off: u64,
+// The values after a period of a unit just started, just stopped, and of one that stayed.
+#[derive(Clone, Copy)]
+struct After {
     started: u64,
     stopped: u64,
     stayed: u64,
-) -> u64
+}
+
+// The value, one period back, of the state that the unit reaches from before period 1 without a change: k periods in its status.
+fn own_back(g: Generator, k: usize, mark: u8, on: u64, off: u64, after: After) -> u64
     requires good_unit { GoodUnit g }
     requires good_cost { GoodCost on × GoodCost off }
-    requires good_value { GoodValue started × (GoodValue stopped × GoodValue stayed) }
-    ensures { (X : Values) → X true 1 ≡ started → X false 1 ≡ stopped → X g.on (suc k) ≡ stayed → result ≡ back g (mark_of mark) (by_status on off) X g.on k }
+    requires good_value { GoodValue after.started × (GoodValue after.stopped × GoodValue after.stayed) }
+    ensures { (X : Values) → X true 1 ≡ after.started → X false 1 ≡ after.stopped → X g.on (suc k) ≡ after.stayed → result ≡ back g (mark_of mark) (by_status on off) X g.on k }
 {
     let may_on = mark != 1;
     let may_off = mark != 2;
     if g.on {
-        let up = g.TU;
-        let staying = kept_value(may_on, on, stayed);
-        if k < up {
+        let staying = kept_value(may_on, on, after.stayed);
+        if k < g.TU {
             return staying;
         }
-        let stop = g.Dc;
-        return lesser_value(kept_value(may_off, stop + off, stopped), staying);
+        return lesser_value(kept_value(may_off, g.Dc + off, after.stopped), staying);
     }
-    let down = g.TD;
-    let hours = g.Tcold;
-    let staying = kept_value(may_off, off, stayed);
-    if k < down {
+    let staying = kept_value(may_off, off, after.stayed);
+    if k < g.TD {
         return staying;
     }
-    if k <= down + hours {
-        let hot = g.Hsc;
-        return lesser_value(kept_value(may_on, hot + on, started), staying);
+    if k <= g.TD + g.Tcold {
+        return lesser_value(kept_value(may_on, g.Hsc + on, after.started), staying);
     }
-    let cold = g.Csc;
-    lesser_value(kept_value(may_on, cold + on, started), staying)
+    lesser_value(kept_value(may_on, g.Csc + on, after.started), staying)
 }
 
 // The smaller of two numbers of states.
 pub fn smaller(x: usize, y: usize) -> usize
     ensures { result ≡ min x y }
 {
-    if x < y {
-        return x;
-    }
-    y
+    x.min(y)
 }
 
 // The least value, coded, of all periods from the state before period 1. Before period t a unit that has changed its status has
@@ -112,25 +95,16 @@ fn walk_reached(
     requires by_index { ((k : ℕ) → k < g.TU → ons.old at k ≡ 1) × ((k : ℕ) → k < g.TD + g.Tcold + 1 → offs.old at k ≡ 1) }
     ensures { result ≡ walk (length on.now) g (marks_of fixed.now) (costs_of on.now off.now) g.on g.since }
 {
-    let since = g.since;
-    let up = ons.len();
-    let down = offs.len();
     let mut value = 1;
-    let mut t = on.len();
-    while 0 < t {
-        let a = smaller(t, up);
-        let b = smaller(t, down);
-        t -= 1;
-        value = own_back(
-            g,
-            since + t,
-            fixed[t],
-            on[t],
-            off[t],
-            ons[0],
-            offs[0],
-            value,
-        );
+    for t in (0..on.len()).rev() {
+        let after = After {
+            started: ons[0],
+            stopped: offs[0],
+            stayed: value,
+        };
+        value = own_back(g, g.since + t, fixed[t], on[t], off[t], after);
+        let a = ons.len().min(t + 1);
+        let b = offs.len().min(t + 1);
         step_back(g, fixed[t], on[t], off[t], &mut ons[..a], &mut offs[..b]);
     }
     value
@@ -151,14 +125,12 @@ fn walk_all(
     requires by_index { ((k : ℕ) → k < g.TU → ons.old at k ≡ 1) × ((k : ℕ) → k < g.TD + g.Tcold + 1 → offs.old at k ≡ 1) }
     ensures { result ≡ walk (length on.now) g (marks_of fixed.now) (costs_of on.now off.now) g.on g.since }
 {
-    let since = g.since;
     walk_back(g, on, off, fixed, ons, offs);
     if g.on {
-        let i = place(since, ons.len());
-        return ons[i];
+        ons[place(g.since, ons.len())]
+    } else {
+        offs[place(g.since, offs.len())]
     }
-    let j = place(since, offs.len());
-    offs[j]
 }
 
 // Up to so many states a walk over whole tables is quicker.
@@ -175,7 +147,8 @@ pub fn walk_value(g: Generator, on: &[u64], off: &[u64], fixed: &[u8]) -> u64
     let mut ons = [1u64; 48];
     let mut offs = [1u64; 97];
     if up + down <= FEW_STATES {
-        return walk_all(g, on, off, fixed, &mut ons[..up], &mut offs[..down]);
+        walk_all(g, on, off, fixed, &mut ons[..up], &mut offs[..down])
+    } else {
+        walk_reached(g, on, off, fixed, &mut ons[..up], &mut offs[..down])
     }
-    walk_reached(g, on, off, fixed, &mut ons[..up], &mut offs[..down])
 }

@@ -6,10 +6,9 @@ ghost use Rattle.model.specs.Walk.{lesser};
 ghost use Rattle.model.specs.Table.{kept, Chained};
 ghost use Rattle.walk.specs.Marks.{mark_of};
 ghost use Rattle.walk.specs.Limits.{GoodCost, GoodValue};
-ghost use Rattle.walk.specs.GoingBack.{Back, Backed, Rising, is_open};
+ghost use Rattle.walk.specs.GoingBack.{Back, Backed, Valued, Rising, is_open};
 
-use crate::chain::{fill_states, first_early, keep_states, leave_or_keep_states};
-use crate::valued::free_back;
+use crate::chain::{fill_states, first_early, keep_states, leave_or_keep_states, plus_value};
 use model::generator::Generator;
 
 // A coded value with k added, where it is allowed.
@@ -17,13 +16,7 @@ pub fn kept_value(allowed: bool, k: u64, v: u64) -> u64
     requires { GoodValue k × GoodValue v }
     ensures { result ≡ kept allowed k v }
 {
-    if allowed {
-        if v == 0 {
-            return 0;
-        }
-        return k + v;
-    }
-    0
+    if allowed && v != 0 { k + v } else { 0 }
 }
 
 // The lesser of two coded values.
@@ -36,23 +29,27 @@ pub fn lesser_value(x: u64, y: u64) -> u64
     if y == 0 {
         return x;
     }
-    if x <= y {
-        return x;
-    }
-    y
+    x.min(y)
 }
 
 // Takes the values of one status, allowed in the period, back over it; states from the place begin on may be left.
-fn keep_back(states: &mut [u64], end: usize, begin: usize, early: u64, last: u64, cost: u64)
+fn keep_back<const VALUED: bool>(
+    states: &mut [u64],
+    end: usize,
+    begin: usize,
+    early: u64,
+    last: u64,
+    cost: u64,
+)
     requires begin_le_end { (begin ≤ end) × (length states.old ≡ end + 1) }
     requires good_cost { GoodCost cost × ((k : ℕ) → GoodValue (states.old at k)) }
+    requires valued { VALUED ≡ true → (0 < early) × Valued states.old }
     ensures { Backed states.old states.new begin early last true cost }
 {
     let final_state = states[end];
-    keep_states(states, 0, begin, cost);
-    leave_or_keep_states(states, begin, end, early, cost);
-    let keeping = kept_value(true, cost, final_state);
-    states[end] = lesser_value(last, keeping);
+    keep_states::<VALUED>(states, 0, begin, cost);
+    leave_or_keep_states::<VALUED>(states, begin, end, early, cost);
+    states[end] = lesser_value(last, plus_value::<VALUED>(cost, final_state));
 }
 
 // The same where the status is not allowed: it can only be left.
@@ -66,76 +63,80 @@ fn leave_back(states: &mut [u64], end: usize, begin: usize, early: u64, last: u6
 }
 
 // Takes the values of one status one period back, which costs cost.
-fn chain_back(states: &mut [u64], need: usize, early: u64, last: u64, allowed: bool, cost: u64)
+fn chain_back<const VALUED: bool>(
+    states: &mut [u64],
+    need: usize,
+    early: u64,
+    last: u64,
+    allowed: bool,
+    cost: u64,
+)
     requires by_index { (k : ℕ) → GoodValue (states.old at k) }
     requires good_cost { GoodCost cost }
+    requires valued { VALUED ≡ true → (0 < early) × Valued states.old }
     ensures { Chained states.old states.new need early last allowed cost }
 {
-    let n = states.len();
-    if n == 0 {
+    if states.is_empty() {
         return;
     }
-    let end = n - 1;
+    let end = states.len() - 1;
     let begin = first_early(need, end);
     if allowed {
-        keep_back(states, end, begin, early, last, cost);
-        return;
+        keep_back::<VALUED>(states, end, begin, early, last, cost);
+    } else {
+        leave_back(states, end, begin, early, last);
     }
-    leave_back(states, end, begin, early, last);
 }
 
 // Takes the values on back over a period, of which only the last may be left, for leaving.
-fn on_back(states: &mut [u64], leaving: u64, allowed: bool, cost: u64)
+fn on_back<const VALUED: bool>(states: &mut [u64], leaving: u64, allowed: bool, cost: u64)
     requires in_bounds { (1 ≤ length states.old) × ((k : ℕ) → GoodValue (states.old at k)) }
     requires good_cost { GoodCost cost }
+    requires valued { VALUED ≡ true → Valued states.old }
     ensures { (need : ℕ) → length states.old ≤ need → Chained states.old states.new need leaving leaving allowed cost }
 {
     let end = states.len() - 1;
-    let final_state = states[end];
     if allowed {
-        keep_states(states, 0, end, cost);
-        let keeping = kept_value(true, cost, final_state);
-        states[end] = lesser_value(leaving, keeping);
-        return;
+        let final_state = states[end];
+        keep_states::<VALUED>(states, 0, end, cost);
+        states[end] = lesser_value(leaving, plus_value::<VALUED>(cost, final_state));
+    } else {
+        fill_states(states, 0, end, 0);
+        states[end] = leaving;
     }
-    fill_states(states, 0, end, 0);
-    states[end] = leaving;
 }
 
-// Takes the values of all states back over a period that costs on or off by its status, mark being what is fixed in it.
-fn marked_back(g: Generator, mark: u8, on: u64, off: u64, ons: &mut [u64], offs: &mut [u64])
+// Takes the values of all states back over a period that costs on or off by its status, mark being what is fixed in it. Where VALUED holds
+// nothing is fixed and every value is there.
+fn marked_back<const VALUED: bool>(
+    g: Generator,
+    mark: u8,
+    on: u64,
+    off: u64,
+    ons: &mut [u64],
+    offs: &mut [u64],
+)
     requires good_unit { GoodUnit g }
     requires good_cost { GoodCost on × GoodCost off }
     requires between { Between 1 (length ons.old) g.TU × (1 ≤ length offs.old) }
     requires by_index { ((k : ℕ) → GoodValue (ons.old at k)) × ((k : ℕ) → GoodValue (offs.old at k)) }
+    requires valued { VALUED ≡ true → (mark ≡ 0) × (Valued ons.old × Valued offs.old) }
     ensures { Back g (mark_of mark) on off ons.old offs.old ons.new offs.new }
 {
-    let down = g.TD;
-    let stop = g.Dc;
-    let hot = g.Hsc;
-    let cold = g.Csc;
     let may_on = mark != 1;
     let may_off = mark != 2;
-    let first_on = ons[0];
-    let first_off = offs[0];
-    let leaving = kept_value(may_off, stop + off, first_off);
-    let starting = kept_value(may_on, hot + on, first_on);
-    let starting_cold = kept_value(may_on, cold + on, first_on);
-    on_back(ons, leaving, may_on, on);
-    chain_back(offs, down, starting, starting_cold, may_off, off);
+    let leaving = kept_value(may_off, g.Dc + off, offs[0]);
+    let starting = kept_value(may_on, g.Hsc + on, ons[0]);
+    let starting_cold = kept_value(may_on, g.Csc + on, ons[0]);
+    on_back::<VALUED>(ons, leaving, may_on, on);
+    chain_back::<VALUED>(offs, g.TD, starting, starting_cold, may_off, off);
 }
 
 // Whether nothing is fixed in a period and both values are there.
 fn is_open(mark: u8, x: u64, y: u64) -> bool
     ensures { result ≡ is_open mark x y }
 {
-    if mark != 0 {
-        return false;
-    }
-    if x == 0 {
-        return false;
-    }
-    y != 0
+    mark == 0 && x != 0 && y != 0
 }
 
 // The same; where the first state of a status has a value all of them have, and if nothing is fixed either none is tested for.
@@ -148,8 +149,8 @@ pub fn step_back(g: Generator, mark: u8, on: u64, off: u64, ons: &mut [u64], off
     ensures { Back g (mark_of mark) on off ons.old offs.old ons.new offs.new }
 {
     if is_open(mark, ons[0], offs[0]) {
-        free_back(g, on, off, ons, offs);
-        return;
+        marked_back::<true>(g, mark, on, off, ons, offs);
+    } else {
+        marked_back::<false>(g, mark, on, off, ons, offs);
     }
-    marked_back(g, mark, on, off, ons, offs);
 }

@@ -1,15 +1,9 @@
 -- `walk_back` meets its contract. The loop's invariant: before period t, the lists are the table of the periods from t on.
-use mathlib.Core.Path.{◌≡◌}
-use Prim.Native.Nat.{◌-◌, ◌≤◌, ◌<◌}
-use native.Mathlib.Omega.{arith}
-use borrow.Author.Rules.{rules}
+use Prim.Native.Nat.{◌≤◌}
 use lib.ListN.{length}
 use Rattle.model.specs.Table.{values}
-use Rattle.model.proofs.LeafSizes.{all_at}
 use Rattle.walk.specs.Marks.{marks_of}
 use Rattle.walk.specs.GoingBack.{costs_of, Tables}
-use Rattle.walk.proofs.Rising.{tabled_rising}
-use Rattle.walk.proofs.WholeTables.{tabled_good, tables_end, tables_back}
 use Rattle.walk.proofs.walk_back.Given as goal
 
 abbrev pub invariant-loop-t : goal.invariant-loop-t

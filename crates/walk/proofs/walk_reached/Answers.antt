@@ -2,13 +2,12 @@ use mathlib.Core.Path.{◌≡◌, sym, ◌∙◌, ap}
 use mathlib.Core.Bool.{true, false}
 use Prim.Native.Nat.{suc, ◌+◌, ◌-◌, ◌≤◌, ◌<◌, min}
 use native.Mathlib.Omega.{arith}
-use borrow.Author.Rules.{rules}
 use lib.ListN.{length}
 use lib.Seq.{length-take-le}
 use Rattle.model.specs.Walk.{cap}
 use Rattle.model.specs.Table.{values}
 use Rattle.walk.specs.Marks.{marks_of}
-use Rattle.walk.specs.GoingBack.{costs_of, Known}
+use Rattle.walk.specs.GoingBack.{costs_of}
 use Rattle.model.proofs.LeafSizes.{all_at}
 use Rattle.model.proofs.WalkPeriods.{values_end}
 use Rattle.walk.proofs.Rising.{front_rising}
@@ -67,13 +66,13 @@ step_back-requires c =
     let rising = front_rising (length a.on.now) a.g (marks_of a.fixed.now) (costs_of a.on.now a.off.now) t in
     let TU_pos : 0 < a.g.TU = c.requires.good_unit.in_range.TU_in.0 in
     let more : 0 < t = c.loop-t-test.true in
-    let up : c.smaller-a.result ≡ min t a.g.TU = c.smaller-a.ensures ∙ ap (min t) c.requires.ons_len.0 in
-    let down : c.smaller-b.result ≡ min t (cap a.g false) = c.smaller-b.ensures ∙ ap (min t) c.requires.ons_len.1 in record {
+    let up : c.min-a.result ≡ min t a.g.TU = omega (arith, c.min-a.ensures, inv.0.1) in
+    let down : c.min-b.result ≡ min t (cap a.g false) = omega (arith, c.min-b.ensures, inv.0.2) in record {
       good_unit = c.requires.good_unit;
       good_cost = (all_at 1_000_000_000_000_000 a.on.now C.on_in (t - 1), all_at 1_000_000_000_000_000 a.off.now C.off_in (t - 1));
       between = (
-        rw (length-take-le c.smaller-a.result c.loop-t.ons (omega arith)) (omega arith, omega arith),
-        rw (length-take-le c.smaller-b.result c.loop-t.offs (omega arith)) (omega arith),
+        rw (length-take-le c.min-a.result c.loop-t.ons (omega arith)) (omega arith, omega arith),
+        rw (length-take-le c.min-b.result c.loop-t.offs (omega arith)) (omega arith),
       );
       by_index = (good true _ _ _ up (omega arith) inv.1.0.0, good false _ _ _ down (omega arith) inv.1.0.1);
       rising = (rising true _ _ _ up (omega arith) inv.1.0.0, rising false _ _ _ down (omega arith) inv.1.0.1);
@@ -88,10 +87,10 @@ loop-t-preserved c =
     let inv = c.loop-t.invariant in
     let more : 0 < t = c.loop-t-test.true in
     let within : t ≤ n = inv.0.0 in
-    let p = c.smaller-a in
-    let q = c.smaller-b in
-    let up : p.result ≡ min t a.g.TU = p.ensures ∙ ap (min t) c.requires.ons_len.0 in
-    let down : q.result ≡ min t (cap a.g false) = q.ensures ∙ ap (min t) c.requires.ons_len.1 in
+    let p = c.min-a in
+    let q = c.min-b in
+    let up : p.result ≡ min t a.g.TU = omega (arith, p.ensures, inv.0.1) in
+    let down : q.result ≡ min t (cap a.g false) = omega (arith, q.ensures, inv.0.2) in
     let next : suc (a.g.since + (t - 1)) ≡ a.g.since + t = omega arith in
     let TU_pos : 0 < a.g.TU = c.requires.good_unit.in_range.TU_in.0 in
     let long = fronts_long a.g _ _ _ c.loop-t.ons c.loop-t.offs _ _ p.result q.result c.step_back.ensures in

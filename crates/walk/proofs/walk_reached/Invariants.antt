@@ -1,20 +1,13 @@
 -- `walk_reached` meets its contract. The loop's invariant: before period t, each list begins with the values of the states that a
 -- change of status has led to in t periods or less, and value is that of the state which no change has led to.
-use mathlib.Core.Path.{◌≡◌, sym, ◌∙◌, ap}
+use mathlib.Core.Path.{◌≡◌}
 use mathlib.Core.Bool.{true, false}
-use Prim.Native.Nat.{suc, ◌+◌, ◌-◌, ◌≤◌, ◌<◌, min}
-use native.Mathlib.Omega.{arith}
-use borrow.Author.Rules.{rules}
+use Prim.Native.Nat.{◌+◌, ◌≤◌, min}
 use lib.ListN.{length}
-use lib.Seq.{length-take-le}
 use Rattle.model.specs.Walk.{cap}
 use Rattle.model.specs.Table.{values}
 use Rattle.walk.specs.Marks.{marks_of}
 use Rattle.walk.specs.GoingBack.{costs_of, Known}
-use Rattle.model.proofs.LeafSizes.{all_at}
-use Rattle.model.proofs.WalkPeriods.{values_end}
-use Rattle.walk.proofs.Rising.{front_rising}
-use Rattle.walk.proofs.Walks.{values_good, ones_known, front_good, fronts_long, known_turn, own_turn, own_start}
 use Rattle.walk.proofs.walk_reached.Given as goal
 
 abbrev pub invariant-loop-t : goal.invariant-loop-t

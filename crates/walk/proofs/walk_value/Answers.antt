@@ -33,9 +33,6 @@ walk_all-requires c =
 pub slice_bounds-walk_reached-end : goal.slice_bounds-walk_reached-end
 slice_bounds-walk_reached-end c = sym (front_length 1 _ 48 (search rules))
 
-pub slice_bounds-walk_reached-end-2 : goal.slice_bounds-walk_reached-end-2
-slice_bounds-walk_reached-end-2 c = sym (front_length 1 _ 97 (search rules))
-
 pub walk_reached-requires : goal.walk_reached-requires
 walk_reached-requires c =
     let up = c.args.g.TU in

@@ -1,6 +1,5 @@
 -- `least_on` meets its contract: the best output lies at most at pU.
 use mathlib.Core.Path.{◌∙◌, ap}
-use borrow.Author.Rules.{rules}
 use Rattle.model.specs.Prices.{on_value}
 use Rattle.model.proofs.BestOutputs.{best_at_is}
 use Rattle.least.proofs.output.least_on.Goals as goal

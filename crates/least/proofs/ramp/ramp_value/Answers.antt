@@ -3,7 +3,6 @@
 use mathlib.Core.Path.{sym, ◌∙◌}
 use mathlib.Core.List.{List}
 use Prim.Native.Nat.{ℕ, ◌≤◌}
-use borrow.Author.Rules.{rules}
 use lib.ListN.{length, drop, replicate}
 use Rattle.model.specs.Instance.{◌at◌}
 use Rattle.walk.specs.Marks.{marks_of}

@@ -1,15 +1,9 @@
 -- `sum_ramp_offset` meets its contract. The loop's invariant: the sum is that of the periods passed.
-use mathlib.Core.Path.{◌≡◌, refl, ap, ◌∙◌}
-use mathlib.Core.List.{List}
-use Prim.Native.Nat.{ℕ, suc, pred, ◌+◌, ◌-◌, ◌≤◌}
-use native.Mathlib.Numerals.{add-one}
-use native.Mathlib.Omega.{arith}
-use lib.ListN.{length}
+use Rattle.std.proofs.Common.{◌≡◌, ℕ, List, length, pred}
 use Rattle.model.specs.declared.generator.Generator.{Generator}
 use Rattle.model.specs.Instance.{◌at◌, sum as sum_of}
-use Rattle.model.specs.RampCosts.{added, ramp_offset}
-use Rattle.model.proofs.PeriodSums.{sum_more}
-use Rattle.least.proofs.StepCosts.{steps, Readable, period_readable, added_is, part_ramp_offset_fits}
+use Rattle.model.specs.RampCosts.{added}
+use Rattle.least.proofs.StepCosts.{steps}
 use Rattle.least.proofs.ramp.sum_ramp_offset.Given as goal
 
 -- what is added in a period
@@ -17,7 +11,4 @@ abbrev pub added-in : Generator → List ℕ → List ℕ → List ℕ → List 
 added-in g q s up down = added (pred (length q)) g (λ t. q at t) (λ t. s at t) (steps up) (steps down)
 
 abbrev pub invariant-loop-t : goal.invariant-loop-t
-invariant-loop-t l = (l.t ≤ l.n) × (l.n ≡ length l.q) × (l.sum ≡ sum_of l.t (added-in l.g l.q l.s l.up l.down))
-
-abbrev pub decreases-loop-t : goal.decreases-loop-t
-decreases-loop-t l = l.n - l.t
+invariant-loop-t l = l.sum ≡ sum_of l.t (added-in l.g l.q l.s l.up l.down)

@@ -1,29 +1,17 @@
-use mathlib.Core.Path.{refl, ap, ◌∙◌}
-use Prim.Native.Nat.{◌-◌}
-use native.Mathlib.Omega.{arith}
-use borrow.Author.Rules.{rules}
-use borrow.Author.Tests.{le-leb, lt-leb}
-use lib.ListN.{length}
-use lib.Seq.{take-length}
+-- `are_statuses` meets its contract: the library's test of all members is the definition's.
+use Rattle.std.proofs.Common.{◌≡◌, ◌∙◌, ap, refl, Bool, ◌&&◌, List, [], ◌∷◌, rules, tests}
+use Rattle.std.proofs.lemmas.Iterator.{YieldsList-from_slice}
+use Rattle.std.proofs.lemmas.Iterator.Search.{all_from_yields_List}
+use Rattle.std.specs.List.{list_all}
 use Rattle.model.specs.Ranges.{every}
-use Rattle.model.proofs.Every.{Left, one_passes, one_fails, all_pass}
 use Rattle.walk.specs.Marks.{is_status}
 use Rattle.leaves.proofs.marks.are_statuses.Goals as goal
 
-pub loop-i-init : goal.loop-i-init
-loop-i-init c = refl
-
-pub returns-then-fixed-i-gt2 : goal.returns-then-fixed-i-gt2
-returns-then-fixed-i-gt2 c =
-    let fixed = c.args.fixed.now in
-    one_fails is_status 0 fixed (length fixed) (omega arith) c.loop-i.i (omega arith) (lt-leb _ 2 c.if-fixed-i-gt2.true) c.loop-i.invariant ∙ ap (every is_status) (take-length fixed)
-
-pub loop-i-preserved : goal.loop-i-preserved
-loop-i-preserved c =
-    let fixed = c.args.fixed.now in
-    one_passes is_status 0 fixed (length fixed) (omega arith) c.loop-i.i (omega arith) (le-leb _ 2 c.if-fixed-i-gt2.false) c.loop-i.invariant
+all_every : {A : Type 0} (test : A → Bool) (l : List A) → list_all test l ≡ every test l
+all_every test [] = refl
+all_every test (x ∷ l) = ap (λ (b : Bool). test x && b) (all_every test l)
 
 pub returns : goal.returns
 returns c =
     let fixed = c.args.fixed.now in
-    all_pass is_status 0 fixed (length fixed) (omega arith) c.loop-i.i (omega arith) c.loop-i.invariant ∙ ap (every is_status) (take-length fixed)
+    all_from_yields_List is_status _ _ _ c.all.ensures.ran (YieldsList-from_slice fixed cc) (λ x b q k. search (rules, tests)) ∙ all_every is_status fixed

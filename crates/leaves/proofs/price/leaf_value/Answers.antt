@@ -1,6 +1,5 @@
 -- `leaf_value` meets its contract: the units' answer leaves room for the requirement, and with it is the leaf's.
 use mathlib.Core.Path.{ap, ◌∙◌}
-use borrow.Author.Rules.{rules}
 use Rattle.model.specs.Instance.{◌at◌}
 use Rattle.layout.specs.Numbers.{instance_in}
 use Rattle.walk.specs.Marks.{above_of}

@@ -1,11 +1,9 @@
-use Rattle.std.proofs.Common.{rules, arith, ◌≡◌, ◌∙◌, sym, ap, ap₂, refl, ◌+◌, ◌*◌, ◌-◌, ◌≤◌, ◌<◌, length, ℕ, get_or, take, drop, ◌+ℤ◌, None, Some, w64, to_z, of_z, length-drop}
-use native.Mathlib.Nat.{mul-le-mul_right}
-use lib.Seq.{length-take-le}
+use Rattle.std.proofs.Common.{rules, arith, ◌≡◌, ◌∙◌, sym, ap, ap₂, refl, ◌+◌, ◌*◌, ◌-◌, ◌≤◌, ◌<◌, length, ℕ, get_or, take, drop, ◌+ℤ◌, w64, to_z, of_z}
 use Rattle.model.specs.declared.generator.Generator.{Generator}
 use Rattle.model.specs.Instance.{◌at◌}
 use Rattle.model.specs.Ranges.{GoodUnit}
 use Rattle.model.specs.Held.{blank_generator}
-use Rattle.model.specs.Leaf.{any_stuck, units_least}
+use Rattle.model.specs.Leaf.{units_least}
 use Rattle.layout.specs.Numbers.{instance_in}
 use Rattle.walk.specs.Marks.{marks_of, above_of}
 use Rattle.least.specs.UnitLeasts.{least_of}

@@ -1,5 +1,5 @@
 -- `add_unit` meets its contract: both answers taken apart, and the values added.
-use Rattle.std.proofs.Common.{rules, ◌≡◌, sym, suc, get_or, ℤ, Some, w64, to_z, of_z}
+use Rattle.std.proofs.Common.{rules, ◌≡◌, sym, suc, get_or, Some, w64, to_z, of_z}
 use Rattle.model.specs.Instance.{◌at◌}
 use Rattle.model.specs.Ranges.{GoodUnit}
 use Rattle.model.specs.Held.{blank_generator}

@@ -2,7 +2,6 @@
 use mathlib.Core.Path.{◌≡◌, sym, ap, ◌∙◌}
 use Prim.Native.Nat.{ℕ, ◌+◌, ◌*◌, ◌-◌, ◌≤◌}
 use native.Mathlib.Omega.{arith}
-use borrow.Author.Rules.{rules}
 use lib.ListN.{length, get_or, take, drop}
 use Rattle.model.specs.declared.generator.Generator.{Generator}
 use Rattle.model.specs.Instance.{◌at◌}
@@ -19,7 +18,7 @@ use Rattle.leaves.proofs.ramp.unit_answer.Reads as reads
 use Rattle.leaves.proofs.ramp.unit_answer.Lts as lts
 
 -- the unit's part is within the fixed statuses
-within : (c : lts.After-generator_at tie.the-claims reads.Pre reads.Post tie.handed_clauses) →
+within : (c : lts.After-periods_in tie.the-claims reads.Pre reads.Post tie.handed_clauses) →
     c.args.u * c.periods_in-n.result + c.periods_in-n.result ≤ length c.args.above.now
 within c =
     let P = instance_in c.args.numbers.now in
@@ -36,13 +35,13 @@ pub overflow_add-end : goal.overflow_add-end
 overflow_add-end c = omega (arith, within c.before)
 
 pub slice_bounds-ramp_least-end : goal.slice_bounds-ramp_least-end
-slice_bounds-ramp_least-end c = within c.before
+slice_bounds-ramp_least-end c = within c.before.before
 
 pub ramp_least-requires : goal.ramp_least-requires
 ramp_least-requires c =
     let a = c.args in
     let n = c.periods_in-n.result in
-    let long : length a.q.now ≡ (instance_in a.numbers.now).periods = c.requires.good_prices.q_long in record { good_unit = rw c.generator_at-g.ensures (good c.before.before.before.before.before.before.before.before.before.before); good_prices = (rw long c.requires.good_prices, part_long n (a.u * n) a.above.now (within c.before.before) ∙ c.periods_in-n.ensures ∙ sym long); good_steps = rw long c.requires.good_steps }
+    let long : length a.q.now ≡ (instance_in a.numbers.now).periods = c.requires.good_prices.q_long in record { good_unit = rw c.generator_at.ensures (good c.before.before.before.before.before.before.before.before.before.before); good_prices = (rw long c.requires.good_prices, part_long n (a.u * n) a.above.now (within c.before.before.before) ∙ c.periods_in-n.ensures ∙ sym long); good_steps = rw long c.requires.good_steps }
 
 pub returns : goal.returns
 returns c =
@@ -54,6 +53,6 @@ returns c =
     let long = place + n - place in
     c.ramp_least.ensures
     ∙ ap (λ (g : Generator). ramp_least_of (length a.q.now) (λ t. a.q.now at t) (λ t. a.s.now at t) (steps a.up.now) (steps a.down.now) g (marks_of (take long (drop place a.above.now))))
-    c.generator_at-g.ensures
+    c.generator_at.ensures
     ∙ ramp_part_answer (length P.units) P.periods a.u a.above.now c.requires.u_in_bounds (λ t. a.q.now at t) (λ t. a.s.now at t) (get_or P.units a.u blank_generator) (good c.before.before.before.before.before.before.before.before.before.before.before)
     (steps a.up.now) (steps a.down.now) (length a.q.now) place long c.requires.good_prices.q_long (ap (λ (k : ℕ). a.u * k) e) (omega (arith, e))

@@ -1,5 +1,5 @@
 -- `with_requirement` meets its contract: the answer taken apart, and the requirement added.
-use Rattle.std.proofs.Common.{rules, arith, ◌≡◌, ◌∙◌, ap, ap₂, sym, ◌<◌, ◌^◌, pos, ◌+ℤ◌, Some, w64, to_z, of_z}
+use Rattle.std.proofs.Common.{rules, arith, ◌≡◌, ◌∙◌, ap, ap₂, ◌<◌, ◌^◌, pos, ◌+ℤ◌, Some, w64, to_z, of_z}
 use mir.ValLaws.{to_z_pos}
 use Rattle.model.specs.Instance.{◌at◌}
 use Rattle.layout.specs.Numbers.{instance_in}

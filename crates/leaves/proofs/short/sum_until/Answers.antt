@@ -2,7 +2,6 @@
 use mathlib.Core.Path.{◌≡◌, ap₂, ◌∙◌}
 use Prim.Native.Nat.{◌+◌, ◌*◌, ◌≤◌}
 use native.Mathlib.Omega.{arith}
-use borrow.Author.Rules.{rules}
 use lib.ListN.{length}
 use Rattle.model.specs.Instance.{◌at◌}
 use Rattle.layout.specs.Numbers.{instance_in}
@@ -42,14 +41,11 @@ returns-then-upper-eq0 c =
     let a = c.args in
     c.take_by_number.ensures ∙ answers_all (instance_in a.numbers.now) a.above.now a.t c.requires.t_bound _ (need-is c.before.before.before.before) c.if-upper-eq0.true
 
-pub overflow_cast-upper : goal.overflow_cast-upper
-overflow_cast-upper c = omega (arith, c.shared_slice_known-3-1.given (1536 + c.args.t))
-
 pub take_largest-requires : goal.take_largest-requires
 take_largest-requires c =
-    record { laid = c.requires.laid; t_bound = c.requires.t_bound; numbers_in_bounds = inside c.before.before.before.before.before.before.before; need_bound = need-small c.before.before.before }
+    record { laid = c.requires.laid; t_bound = c.requires.t_bound; numbers_in_bounds = inside c.before.before.before.before.before.before.before.before; need_bound = need-small c.before.before.before.before }
 
 pub returns : goal.returns
 returns c =
     let a = c.args in
-    c.take_largest.ensures ∙ answers_largest (instance_in a.numbers.now) a.above.now a.t c.requires.t_bound _ (need-is c.before.before.before.before) c.if-upper-eq0.false
+    c.take_largest.ensures ∙ rw c.from.ensures (answers_largest (instance_in a.numbers.now) a.above.now a.t c.requires.t_bound _ (need-is c.before.before.before.before.before) c.if-upper-eq0.false)

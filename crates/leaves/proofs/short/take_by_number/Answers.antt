@@ -1,59 +1,27 @@
-use mathlib.Core.Path.{◌≡◌, sym, ap, ap₂, ◌∙◌}
-use mathlib.Core.List.{List, []}
-use Prim.Native.Nat.{ℕ, suc, ◌+◌, ◌*◌, ◌-◌, ◌≤◌, ◌<◌}
-use native.Mathlib.Nat.{mul-le-mul_right}
-use native.Mathlib.Numerals.{add-one}
-use native.Mathlib.Omega.{arith}
-use borrow.Author.Rules.{rules}
-use lib.ListN.{length, get_or}
-use Rattle.model.specs.Instance.{◌at◌}
-use Rattle.model.specs.Held.{blank_generator}
+use Rattle.std.proofs.Common.{arith, ◌≡◌, ◌∙◌, sym, ap, ap₂, ◌+◌, ◌*◌, ◌<◌, ◌≤◌, ℕ, suc, add-one, length, List, []}
+use Rattle.model.specs.Instance.{Instance, ◌at◌}
 use Rattle.model.specs.Above.{Mark}
 use Rattle.model.specs.Largest.{total}
-use Rattle.model.specs.Leaf.{unless_off, usable}
+use Rattle.model.specs.Leaf.{unless_off}
 use Rattle.layout.specs.Ranks.{pU_of, ranks_from}
 use Rattle.layout.specs.Numbers.{instance_in}
 use Rattle.layout.proofs.Ranks.{ranks_long}
 use Rattle.walk.specs.Marks.{mark_of, above_of}
 use Rattle.walk.proofs.AboveMarks.{marks_same}
-use Rattle.leaves.specs.declared.short.Taken.{Taken}
+use Rattle.least.proofs.UnitParts.{part_within}
 use Rattle.leaves.specs.LeafLeasts.{taken_from}
-use Rattle.leaves.proofs.Takings.{values, Passed, passed_none, passed_few, passed_more, passed_reached, passed_all}
+use Rattle.leaves.proofs.Takings.{Passed, passed_few, passed_more, passed_enough, passed_all}
 use Rattle.leaves.proofs.Shorts.{usable_rank, rank_may, rank_value, adds_most, pU_small, by_number}
 use Rattle.leaves.proofs.short.take_by_number.Goals as goal
+use Rattle.leaves.proofs.short.take_by_number.Goals.{else-loop-u-test, then-loop-u-test+then-need-sum}
 use Rattle.leaves.proofs.short.take_by_number.Tie as tie
 use Rattle.leaves.proofs.short.take_by_number.Reads as reads
 use Rattle.leaves.proofs.short.take_by_number.Lts as lts
 
--- the next unit is one of the problem's
-inside : (c : lts.Else1 tie.the-claims reads.Pre reads.Post goal.the-invariant-loop-u goal.the-decreases-loop-u tie.handed_clauses) → c.loop-u.u < length (instance_in c.args.numbers.now).units
-inside c = omega (arith, c.loop-u.invariant.1, c.loop-u-test.true)
-
--- its statuses are within those above
-within : (c : lts.Else1 tie.the-claims reads.Pre reads.Post goal.the-invariant-loop-u goal.the-decreases-loop-u tie.handed_clauses) →
-    (c.loop-u.begin + (instance_in c.args.numbers.now).periods ≤ length c.args.above.now) × (c.args.t < (instance_in c.args.numbers.now).periods)
-within c =
-    let P = instance_in c.args.numbers.now in
-    (omega (arith, c.loop-u.invariant.2, mul-le-mul_right P.periods (inside c), c.requires.numbers_in_bounds), c.requires.t_bound)
-
--- its mark
-marked : (c : lts.Else1 tie.the-claims reads.Pre reads.Post goal.the-invariant-loop-u goal.the-decreases-loop-u tie.handed_clauses) →
-    let a = c.args in
-    let P = instance_in a.numbers.now in
-    mark_of (a.above.now at (c.loop-u.begin + a.t)) ≡ (above_of P a.above.now).marks c.loop-u.u a.t
-marked c =
-    let a = c.args in
-    let P = instance_in a.numbers.now in
-    ap (λ (k : ℕ). mark_of (a.above.now at (k + a.t))) c.loop-u.invariant.2
-    ∙ marks_same (length P.units) P.periods a.above.now c.loop-u.u (inside c) a.t c.requires.t_bound
-
--- what it adds
-added : (c : lts.After-usable_of tie.the-claims reads.Pre reads.Post goal.the-invariant-loop-u goal.the-decreases-loop-u tie.handed_clauses) →
-    let a = c.args in
-    let P = instance_in a.numbers.now in
-    c.usable_of-sum.result ≡ total (unless_off ((above_of P a.above.now).marks c.loop-u.u a.t) (get_or P.units c.loop-u.u blank_generator).pU [])
-added c =
-    c.usable_of-sum.ensures ∙ ap₂ (λ (x : Mark) (v : ℕ). total (unless_off x v [])) (marked c.before.before.before) c.pU_at.ensures
+-- the mark of unit u in period t, where there are n periods
+marked : (P : Instance) (above : List ℕ) (u t n : ℕ) → n ≡ P.periods → u < length P.units → t < P.periods
+    → mark_of (above at (u * n + t)) ≡ (above_of P above).marks u t
+marked P above u t n e h l = ap (λ (k : ℕ). mark_of (above at (u * k + t))) e ∙ marks_same (length P.units) P.periods above u h t l
 
 -- a turn more
 more : (c : lts.After-not_off_of tie.the-claims reads.Pre reads.Post goal.the-invariant-loop-u goal.the-decreases-loop-u tie.handed_clauses) →
@@ -64,50 +32,39 @@ more : (c : lts.After-not_off_of tie.the-claims reads.Pre reads.Post goal.the-in
 more c =
     let a = c.args in
     let P = instance_in a.numbers.now in
+    let u = c.loop-u.u in
     let few = c.requires.laid.well_formed.units_in.1 in
     let m = (above_of P a.above.now).marks in
-    let x = m c.loop-u.u a.t in
-    let counted : c.not_off_of-taken.result ≡ length (unless_off x 0 []) = c.not_off_of-taken.ensures ∙ ap (λ (x : Mark). length (unless_off x 0 [])) (marked c.before.before.before.before) in
-    let value = ap (λ (v : ℕ). total (unless_off x v [])) (sym (rank_value P.units c.loop-u.u (inside c.before.before.before.before))) in
-    rw (counted, added c.before ∙ value)
-    (passed_more (usable_rank m a.t) pU_of (ranks_from 0 P.units) (length P.units) a.need c.loop-u.u c.loop-u.taken c.loop-u.sum c.loop-u.invariant.3 x
-    (omega (arith, inside c.before.before.before.before, ranks_long 0 P.units)) (omega (arith, inside c.before.before.before.before, passed_few _ _ _ _ _ _ _ _ c.loop-u.invariant.3)) c.if-sum-need.false
-    (rank_may P.units few m a.t c.loop-u.u (inside c.before.before.before.before)))
+    let x = m u a.t in
+    let inside : u < length P.units = omega (arith, c.units_in-u-end.ensures, c.loop-u-test.true) in
+    let byte = marked P a.above.now u a.t c.periods_in-n.result c.periods_in-n.ensures inside c.requires.t_bound in
+    let counted : c.not_off_of-taken.result ≡ length (unless_off x 0 []) = c.not_off_of-taken.ensures ∙ ap (λ (x : Mark). length (unless_off x 0 [])) byte in
+    let added = c.usable_of-sum.ensures ∙ ap₂ (λ (x : Mark) (v : ℕ). total (unless_off x v [])) byte (c.pU_at.ensures ∙ sym (rank_value P.units u inside)) in
+    rw (counted, added)
+    (passed_more (usable_rank m a.t) pU_of (ranks_from 0 P.units) (length P.units) a.need u c.loop-u.taken c.loop-u.sum c.loop-u.invariant x
+    (omega (arith, inside, ranks_long 0 P.units)) (omega (arith, inside, passed_few _ _ _ _ _ _ _ _ c.loop-u.invariant)) c.if-need-sum.false (rank_may P.units few m a.t u inside))
 
--- what is answered of those that were passed
-ended : (c : lts.At-loop tie.the-claims reads.Pre reads.Post goal.the-invariant-loop-u goal.the-decreases-loop-u tie.handed_clauses) (r : Taken) →
+pub bounds-above-u : goal.bounds-above-u
+bounds-above-u c =
     let P = instance_in c.args.numbers.now in
-    let m = (above_of P c.args.above.now).marks in
-    r ≡ taken_from (values (usable_rank m c.args.t) pU_of (ranks_from 0 P.units) (length P.units)) c.args.need
-    → r ≡ taken_from (usable P.units m c.args.t) c.args.need
-ended c r e =
-    let P = instance_in c.args.numbers.now in
-    e
-    ∙ ap (λ (v : List ℕ). taken_from v c.args.need)
-    (by_number P.units c.requires.laid.well_formed.units_in.1 (above_of P c.args.above.now).marks c.args.t)
-
-pub loop-u-init : goal.loop-u-init
-loop-u-init c = (c.periods_in-n.ensures, c.units_in-units.ensures, omega arith, passed_none _ _ _ _ _)
-
-pub overflow_add-mark : goal.overflow_add-mark
-overflow_add-mark c = omega (arith, within c.before)
-
-pub bounds-above-begin : goal.bounds-above-begin
-bounds-above-begin c = omega (arith, within c.before.before)
-
-pub pU_at-requires : goal.pU_at-requires
-pU_at-requires c = record { laid = c.requires.laid; u_in_bounds = inside c.before.before }
+    let n = c.periods_in-n.result in
+    let inside : c.loop-u.u < length P.units = omega (arith, c.units_in-u-end.ensures, c.loop-u-test.true) in
+    let within : c.loop-u.u * n + n ≤ length c.args.above.now =
+    part_within (length P.units) n c.loop-u.u (length c.args.above.now) inside (rw c.periods_in-n.ensures c.requires.numbers_in_bounds) in
+    omega (arith, within, c.periods_in-n.ensures, c.requires.t_bound)
 
 pub overflow_add-sum : goal.overflow_add-sum
 overflow_add-sum c =
     let P = instance_in c.args.numbers.now in
-    let high = (get_or P.units c.loop-u.u blank_generator).pU in
+    let u = c.loop-u.u in
+    let inside : u < length P.units = omega (arith, c.units_in-u-end.ensures, c.loop-u-test.true) in
     omega (
       arith,
-      added c.before,
-      adds_most ((above_of P c.args.above.now).marks c.loop-u.u c.args.t) high,
-      pU_small P.units c.requires.laid.well_formed.units_good c.loop-u.u (inside c.before.before.before.before),
-      c.if-sum-need.false,
+      c.usable_of-sum.ensures,
+      adds_most (mark_of (c.args.above.now at (u * c.periods_in-n.result + c.args.t))) c.pU_at.result,
+      c.pU_at.ensures,
+      pU_small P.units c.requires.laid.well_formed.units_good u inside,
+      c.if-need-sum.false,
       c.requires.need_bound,
     )
 
@@ -116,23 +73,15 @@ overflow_add-taken c =
     let P = instance_in c.args.numbers.now in
     omega (arith, passed_few _ _ _ _ _ _ _ _ (more c.before), (more c.before).within, ranks_long 0 P.units, c.requires.laid.well_formed.units_in.1)
 
-pub overflow_add-begin : goal.overflow_add-begin
-overflow_add-begin c = omega (arith, within c.before.before.before.before.before, c.loop-u.invariant.0)
-
-pub overflow_add-u : goal.overflow_add-u
-overflow_add-u c = omega (arith, inside c.before.before.before.before.before)
-
-pub loop-u-smaller : goal.loop-u-smaller
-loop-u-smaller c = omega (arith, c.loop-u-test.true)
-
 pub loop-u-preserved : goal.loop-u-preserved
-loop-u-preserved c =
-    (c.loop-u.invariant.0, c.loop-u.invariant.1, omega (arith, c.loop-u.invariant.0, c.loop-u.invariant.2), rw (add-one c.loop-u.u) (more c.before))
-
-pub returns-then-sum-need : goal.returns-then-sum-need
-returns-then-sum-need c = ended c.before.before.before _ (passed_reached _ _ _ _ _ _ _ _ c.loop-u.invariant.3 c.if-sum-need.true)
+loop-u-preserved c = rw (add-one c.loop-u.u) (more c.before)
 
 pub returns : goal.returns
 returns c =
     let P = instance_in c.args.numbers.now in
-    ended c.before.before _ (passed_all _ _ _ _ _ _ _ _ c.loop-u.invariant.3 (omega (arith, c.loop-u-test.false, c.loop-u.invariant.1, ranks_long 0 P.units)))
+    let passed = c.loop-u.invariant in
+    elim c.loop-u-test.branch [
+      | else-loop-u-test w ↦ passed_all _ _ _ _ _ _ _ _ passed (omega (arith, w.loop-u-test.false, c.units_in-u-end.ensures, ranks_long 0 P.units))
+      | then-loop-u-test+then-need-sum w ↦ passed_enough _ _ _ _ _ _ _ _ passed w.if-need-sum.true
+    ]
+    ∙ ap (λ (v : List ℕ). taken_from v c.args.need) (by_number P.units c.requires.laid.well_formed.units_in.1 (above_of P c.args.above.now).marks c.args.t)

@@ -1,15 +1,9 @@
 -- `keep_states` meets its contract. The loop's invariant: the states from the first to this one are written, and no other.
-use mathlib.Core.Path.{◌≡◌, ◌∙◌, ap}
-use Prim.Native.Nat.{ℕ, ◌+◌, ◌-◌, ◌≤◌}
-use native.Mathlib.Omega.{arith}
+use Prim.Native.Nat.{◌+◌}
 use Rattle.model.specs.Instance.{◌at◌}
 use Rattle.model.specs.Walk.{plus}
 use Rattle.walk.specs.GoingBack.{Rewritten}
-use Rattle.walk.proofs.Chains.{written_none, written_more}
 use Rattle.walk.proofs.chain.keep_states.Given as goal
 
 abbrev pub invariant-loop-i : goal.invariant-loop-i
-invariant-loop-i l = (l.from ≤ l.i) × (l.i ≤ l.to) × Rewritten l.initial.states l.states l.from l.i (λ k. plus l.cost (l.initial.states at (k + 1)))
-
-abbrev pub decreases-loop-i : goal.decreases-loop-i
-decreases-loop-i l = l.to - l.i
+invariant-loop-i g l = Rewritten l.initial.states l.states l.from l.i (λ k. plus l.cost (l.initial.states at (k + 1)))

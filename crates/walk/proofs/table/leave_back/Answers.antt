@@ -3,7 +3,6 @@ use mathlib.Core.Path.{sym}
 use mathlib.Core.Bool.{false}
 use Rattle.model.proofs.Coded.{lesser_none}
 use Rattle.walk.proofs.Chains.{written_ext, backed_is}
-use borrow.Author.Rules.{rules}
 use Rattle.walk.proofs.table.leave_back.Goals as goal
 
 pub returns : goal.returns

@@ -11,12 +11,7 @@ returns-then-x-eq0 c = rw c.if-x-eq0.true
 pub returns-then-y-eq0 : goal.returns-then-y-eq0
 returns-then-y-eq0 c = rw (c.if-y-eq0.true, lesser_none)
 
-pub returns-then-x-y : goal.returns-then-x-y
-returns-then-x-y c =
-    let a = c.args in
-    rw (lesser_some a.x a.y (omega arith) (omega arith)) (omega arith)
-
 pub returns : goal.returns
 returns c =
     let a = c.args in
-    rw (lesser_some a.x a.y (omega arith) (omega arith)) (omega arith)
+    rw (lesser_some a.x a.y (omega arith) (omega arith)) c.min.ensures

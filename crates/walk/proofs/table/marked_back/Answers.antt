@@ -1,23 +1,37 @@
 -- `marked_back` meets its contract: the values of leaving and starting are read from the old lists, before either changes.
-use native.Mathlib.Omega.{arith}
-use borrow.Author.Rules.{rules}
+use Rattle.std.proofs.Common.{◌≡◌, ◌<◌, ◌+◌, arith}
+use borrow.Author.Tests.{ne_eqb}
+use Rattle.model.specs.Instance.{◌at◌}
+use Rattle.model.proofs.Coded.{plus_some}
 use Rattle.walk.proofs.StatusMarks.{allows_on, allows_off}
 use Rattle.walk.proofs.table.marked_back.Goals as goal
 
 pub kept_value-leaving-requires : goal.kept_value-leaving-requires
-kept_value-leaving-requires c =
+kept_value-leaving-requires g c =
     omega (arith, c.requires.good_unit.in_range.Dc_in, c.requires.good_cost, c.requires.by_index.1 0)
 
 pub kept_value-starting-requires : goal.kept_value-starting-requires
-kept_value-starting-requires c =
+kept_value-starting-requires g c =
     omega (arith, c.requires.good_unit.in_range.Hsc_in, c.requires.good_cost, c.requires.by_index.0 0)
 
 pub kept_value-starting_cold-requires : goal.kept_value-starting_cold-requires
-kept_value-starting_cold-requires c =
+kept_value-starting_cold-requires g c =
     omega (arith, c.requires.good_unit.in_range.Csc_in, c.requires.good_cost, c.requires.by_index.0 0)
 
+pub chain_back-requires : goal.chain_back-requires
+chain_back-requires g c =
+    let a = c.args in
+    record {
+      by_index = c.requires.by_index.1;
+      good_cost = c.requires.good_cost.1;
+      valued = λ e.
+          let v = c.requires.valued e in
+          let free : (a.mark ≡ 1) → ⊥ = λ h. omega (arith, h, v.0) in
+          (rw (c.kept_value-starting.ensures, ne_eqb a.mark 1 free) (let i : 0 < a.ons.now at 0 = v.1.0 0 c.requires.between.0.0 in rw (plus_some (a.g.Hsc + a.on) (a.ons.now at 0) i) (omega arith)), v.1.1);
+    }
+
 pub returns : goal.returns
-returns c =
+returns g c =
     let cold = c.kept_value-starting_cold in
     let hot = c.kept_value-starting in
     let leave = c.kept_value-leaving in

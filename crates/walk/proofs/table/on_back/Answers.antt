@@ -5,27 +5,26 @@ use native.Mathlib.Omega.{arith}
 use Rattle.model.specs.Walk.{lesser}
 use Rattle.model.proofs.Coded.{lesser_none}
 use Rattle.walk.proofs.Chains.{written_none, backed_is, backed_chained}
-use borrow.Author.Rules.{rules}
 use Rattle.walk.proofs.table.on_back.Goals as goal
 
 pub keep_states-requires : goal.keep_states-requires
-keep_states-requires c =
-    record { from_le_to = omega arith; good_cost = (c.requires.good_cost, λ k h. c.requires.in_bounds.1 k) }
+keep_states-requires g c =
+    record { from_le_to = omega arith; good_cost = (c.requires.good_cost, λ k h. c.requires.in_bounds.1 k); valued = λ e k h i. c.requires.valued e k (omega arith) }
 
-pub kept_value-keeping-requires : goal.kept_value-keeping-requires
-kept_value-keeping-requires c =
-    (omega (arith, c.requires.good_cost), c.requires.in_bounds.1 _)
+pub plus_value-requires : goal.plus_value-requires
+plus_value-requires g c =
+    record { good = (c.requires.good_cost, c.requires.in_bounds.1 _); valued = λ e. c.requires.valued e _ (omega arith) }
 
 pub returns-then-allowed : goal.returns-then-allowed
-returns-then-allowed c need h =
+returns-then-allowed g c need h =
     let a = c.args in
     rw c.if-allowed.true
     (backed_chained _ _ need _ a.leaving a.leaving true a.cost (omega arith) (omega arith)
     (backed_is _ _ _ _ _ a.leaving a.leaving true a.cost _ (omega arith) (omega arith) c.keep_states.ensures (written_none _ _ _)
-    (c.lesser_value.ensures ∙ ap (lesser a.leaving) c.kept_value-keeping.ensures)))
+    (c.lesser_value.ensures ∙ ap (lesser a.leaving) c.plus_value.ensures)))
 
-pub returns : goal.returns
-returns c need h =
+pub returns-else-allowed : goal.returns-else-allowed
+returns-else-allowed g c need h =
     let a = c.args in
     rw c.if-allowed.false
     (backed_chained _ _ need _ a.leaving a.leaving false a.cost (omega arith) (omega arith)
