@@ -26,22 +26,23 @@ all_every test (x ∷ l) = ap (λ (b : Bool). test x && b) (all_every test l)
 
 -- ---- the multipliers and the statuses
 
-module _ (n I : ℕ) (q s fixed : List ℕ) where
+module _ (n I : ℕ) (fixed : List ℕ) where
   abbrev pub Statuses : Type 0
   Statuses = (length fixed ≡ I * n) × All (λ b. b ≤ 2) fixed
 
   pub statuses_are : T (statuses_in n I fixed) ↔ Statuses
   statuses_are = and_is (eqb (length fixed) (I * n)) _ (eqb_is (length fixed) (I * n)) (every_is is_status (λ b. b ≤ 2) (λ b. leb_is b 2) fixed)
 
+module _ (n I : ℕ) (q s fixed : List ℕ) where
   abbrev pub Asked : Type 0
-  Asked = (length q ≡ n) × ((length s ≡ n) × (All GoodPrice q × (All GoodPrice s × Statuses)))
+  Asked = (length q ≡ n) × ((length s ≡ n) × (All GoodPrice q × (All GoodPrice s × Statuses n I fixed)))
 
   pub asked_is : T (asked_in n I q s fixed) ↔ Asked
   asked_is =
       and_is (eqb (length q) n) _ (eqb_is (length q) n)
       (and_is (eqb (length s) n) _ (eqb_is (length s) n)
       (and_is (every is_price q) _ (every_is is_price GoodPrice price_is q)
-      (and_is (every is_price s) _ (every_is is_price GoodPrice price_is s) statuses_are)))
+      (and_is (every is_price s) _ (every_is is_price GoodPrice price_is s) (statuses_are n I fixed))))
 
 -- ---- the test of a question about runs
 
