@@ -24,7 +24,8 @@ use Rattle.std.specs.Prelude.{None, Some}
 use Rattle.least.specs.UnitLeasts.{least_of}
 use Rattle.least.proofs.UnitParts.{all_get_d}
 use Rattle.runs.specs.Drafts.{marks_asked}
-use Rattle.forced.specs.declared.answering.ForcedAnswer.TheVariants as answer
+use Rattle.std.specs.Prelude.{Ok, Err}
+use Rattle.runs.specs.declared.question.Unanswered.TheVariants.{Unfit}
 use Rattle.forced.specs.Answers as entries
 use Rattle.forced.specs.Answers.{fits, FitQuestion, untold, entries_asked, told_under}
 use Rattle.forced.proofs.Questions.{fits_is}
@@ -91,8 +92,8 @@ module _ (P : Instance) (q s fixed : List ℕ) (values : List ℤ) (stuck : List
     where
       go : (b : Bool) → (b ≡ true) ↔ FitQuestion P q s fixed (length values) (length stuck)
           → EntriesTold q s fixed values stuck (some P)
-          (cond b (record { answer = answer.Found; values = map value_number (entries_asked P q s fixed); stuck = map stuck_number (entries_asked P q s fixed) })
-          (untold values stuck answer.Unfit))
+          (cond b (record { answer = Ok tt; values = map value_number (entries_asked P q s fixed); stuck = map stuck_number (entries_asked P q s fixed) })
+          (untold values stuck (Err Unfit)))
       go true f = said.found (f.0 refl) (entries_there P (marks_asked P fixed) (λ t. q at t) (λ t. s at t))
       go false f = said.unfit (λ F. let e = f.1 F in let z : ◌≡◌ {A = ℕ} 0 1 = cc in omega arith)
 
@@ -142,7 +143,7 @@ told_one q s fx values stuck _ _ _ (said.unfit n) (said.found F a) = absurd (n F
 told_one q s fx values stuck _ _ _ (said.found F a) (said.unfit n) = absurd (n F)
 told_one q s fx values stuck (some P) _ _ (said.found {x = x} {y = y} F a) (said.found {x = x'} {y = y'} G b) =
     let e = one_entries P (marks_asked P fx) (λ t. q at t) (λ t. s at t) x x' y y' a b in
-    ap₂ (λ (v : List ℤ) (w : List ℕ). record { answer = answer.Found; values = v; stuck = w }) e.0 e.1
+    ap₂ (λ (v : List ℤ) (w : List ℕ). record { answer = Ok tt; values = v; stuck = w }) e.0 e.1
 
 -- ---- a price leaf of a tree
 
@@ -186,7 +187,7 @@ module _ (P : Instance) (W : WellFormed P) (t : Tree) (limits : Limits P root 0 
     leaf_under = sym (fit_told P q s bytes values stuck ((fits_is P q s bytes (length values) (length stuck)).1 leaf_fits))
 
     pub leaf_entries : (d : Docket) → Long d → JudgesBy d (some P) → (x : List ℤ) × (y : List ℕ) × Entries P m (λ t. q at t) (λ t. s at t) x y
-        × (forced_of d q s bytes values stuck ≡ record { answer = answer.Found; values = x; stuck = y })
+        × (forced_of d q s bytes values stuck ≡ record { answer = Ok tt; values = x; stuck = y })
     leaf_entries d long j = (
       map value_number (entries_asked P q s bytes),
       map stuck_number (entries_asked P q s bytes),

@@ -8,28 +8,32 @@ use mathlib.Core.Option.{none}
 use Prim.Native.Nat.{ℕ, ◌+◌, ◌*◌, ◌-◌, ◌≤◌, ◌<◌}
 use native.Mathlib.Nat.{mul-le-mul_right}
 use native.Mathlib.Omega.{arith}
-use borrow.Author.Tests.{eq-eqb, ne_eqb, le-leb, lt-leb}
-use lib.Dec.{T, eqb, ltb, leb}
+use borrow.Author.Tests.{eq-eqb}
+use lib.Dec.{T, ltb, leb}
 use lib.ListN.{length, set, drop, replicate, length-append, length-drop, length-replicate, get_or-append}
 use lib.Seq.{get_or-set_same, get_or-set_other}
 use Rattle.model.specs.Instance.{Instance, ◌at◌}
-use Rattle.model.specs.Ranges.{All, Between, WellFormed, every, between}
+use Rattle.model.specs.Ranges.{All, Between, WellFormed, between}
 use Rattle.model.specs.Held.{view}
 use Rattle.model.specs.Above.{Above, put}
 use Rattle.model.specs.Largest.{total}
 use Rattle.model.specs.Turns.{turned, in_turn, took}
 use Rattle.model.proofs.Tests.{T_true, true_T}
-use Rattle.model.proofs.RangeTests.{and_is, between_is, leb_is, eqb_is, every_is}
+use Rattle.model.proofs.RangeTests.{and_is, between_is, leb_is}
 use Rattle.model.proofs.Extents.{SameMarks, usable_ext}
 use Rattle.model.proofs.Turns.{in_turn_total}
-use Rattle.walk.specs.Marks.{is_status, mark_of, marks_in, most_of, most_in, above_of, upper_begin}
+use Rattle.walk.specs.Marks.{mark_of, marks_in, most_of, most_in, above_of, upper_begin}
 use Rattle.walk.proofs.AboveMarks.{marks_same, most_here, statuses_fit}
 --
 use Rattle.docket.specs.declared.Docket.{Docket}
-use Rattle.docket.specs.declared.taking.TakenAnswer.TheVariants.{NoProblem}
+use Rattle.std.specs.Prelude.{Result, Ok, Err}
+use Rattle.runs.specs.declared.question.Unanswered.{Unanswered}
+use Rattle.runs.specs.declared.question.Unanswered.TheVariants.{NoProblem}
+use Rattle.runs.specs.Questions.{statuses_in}
+use Rattle.runs.proofs.Questions.{statuses_are}
 use Rattle.docket.specs.Lodging.{trusted}
 use Rattle.leaves.specs.LeafLeasts.{taken_in}
-use Rattle.docket.specs.Taking.{fits_in, fits, FitQuestion, asked, taken_under, taken_of}
+use Rattle.docket.specs.Taking.{fits, FitQuestion, asked, taken_under, problem_asked, taken_of}
 use Rattle.docket.proofs.HoldingAnswers.{knows_sound, itself}
 
 -- ---- the test of a question
@@ -39,39 +43,15 @@ module _ (P : Instance) (period most : ℕ) (fixed : List ℕ) where
   parts_are =
       let T = P.periods in
       let I = length P.units in
-      let long = eqb (length fixed) (I * T) in
-      and_is (between 1 period T) (leb most I && (long && every is_status fixed)) (between_is 1 period T)
-      (and_is (leb most I) (long && every is_status fixed) (leb_is most I)
-      (and_is long (every is_status fixed) (eqb_is (length fixed) (I * T)) (every_is is_status (λ b. b ≤ 2) (λ b. leb_is b 2) fixed)))
+      let there = statuses_in T I fixed in
+      and_is (between 1 period T) (leb most I && there) (between_is 1 period T)
+      (and_is (leb most I) there (leb_is most I) (statuses_are T I fixed))
 
   pub fits_is : (fits P period most fixed ≡ true) ↔ FitQuestion P period most fixed
   fits_is = (
     λ e. let p = parts_are.0 (true_T (fits P period most fixed) e) in record { period_in = p.0; most_in = p.1.0; long = p.1.1.0; statuses = p.1.1.1 },
     λ F. T_true (fits P period most fixed) (parts_are.1 (F.period_in, (F.most_in, (F.long, F.statuses)))),
   )
-
--- part by part, as the code tests
-module _ (T I period most : ℕ) (fixed : List ℕ) where
-  abbrev later : Bool
-  later = leb most I && (eqb (length fixed) (I * T) && every is_status fixed)
-
-  pub too_early : period < 1 → false ≡ fits_in T I period most fixed
-  too_early h = rw (lt-leb 1 period h) refl
-
-  module _ (from : 1 ≤ period) where
-    pub too_late : T < period → false ≡ fits_in T I period most fixed
-    too_late h = rw (le-leb 1 period from, lt-leb period T h) refl
-
-    module _ (to : period ≤ T) where
-      pub too_many : I < most → false ≡ fits_in T I period most fixed
-      too_many h = rw (le-leb 1 period from, le-leb period T to, lt-leb most I h) refl
-
-      module _ (few : most ≤ I) where
-        pub wrong_length : (length fixed ≡ I * T → ⊥) → false ≡ fits_in T I period most fixed
-        wrong_length h = rw (le-leb 1 period from, le-leb period T to, le-leb most I few, ne_eqb (length fixed) (I * T) h) refl
-
-        pub right_length : length fixed ≡ I * T → every is_status fixed ≡ fits_in T I period most fixed
-        right_length h = rw (le-leb 1 period from, le-leb period T to, le-leb most I few, eq-eqb (length fixed) (I * T) h) refl
 
 -- ---- the bytes above the leaf
 
@@ -132,11 +112,25 @@ module _ (P : Instance) (W : WellFormed P) (period most : ℕ) (fixed : List ℕ
 -- ---- by what the docket knows
 
 module _ (d : Docket) where
+  pub asked_some : {u : Unit {0}} → problem_asked d ≡ Ok u → (trusted d).known ≡ true
+  asked_some {u} e = go (trusted d).known e
+    where
+      go : (b : Bool) → ◌≡◌ {A = Result (Unit {0}) Unanswered} (cond b (Ok tt) (Err NoProblem)) (Ok u) → b ≡ true
+      go true e = refl
+      go false e = cc
+
+  pub asked_none : {why : Unanswered} → problem_asked d ≡ Err why → ((trusted d).known ≡ false) × (why ≡ NoProblem)
+  asked_none {why} e = go (trusted d).known e
+    where
+      go : (b : Bool) → ◌≡◌ {A = Result (Unit {0}) Unanswered} (cond b (Ok tt) (Err NoProblem)) (Err why) → (b ≡ false) × (why ≡ NoProblem)
+      go true e = cc
+      go false e = (refl, cc)
+
   pub told_known : (trusted d).known ≡ true → (period most : ℕ) (fixed : List ℕ) → taken_of d period most fixed ≡ taken_under (view d.problem) period most fixed
   unfolding taken_of
   told_known k period most fixed =
-      ap₂ (λ (b : Bool) (x : Docket). cond b (taken_under (view x.problem) period most fixed) NoProblem) k (itself d (knows_sound d k))
+      ap₂ (λ (b : Bool) (x : Docket). cond b (taken_under (view x.problem) period most fixed) (Err NoProblem)) k (itself d (knows_sound d k))
 
-  pub told_none : (trusted d).known ≡ false → (period most : ℕ) (fixed : List ℕ) → taken_of d period most fixed ≡ NoProblem
+  pub told_none : (trusted d).known ≡ false → (period most : ℕ) (fixed : List ℕ) → taken_of d period most fixed ≡ Err NoProblem
   unfolding taken_of
-  told_none k period most fixed = ap (λ (b : Bool). cond b (taken_under (view (trusted d).problem) period most fixed) NoProblem) k
+  told_none k period most fixed = ap (λ (b : Bool). cond b (taken_under (view (trusted d).problem) period most fixed) (Err NoProblem)) k

@@ -6,6 +6,7 @@ use mathlib.Core.Bool.{Bool, true, false, not}
 use mathlib.Core.List.{List, [], ◌∷◌, ◌++◌, map, flatten}
 use mathlib.Core.Logic.{◌⊎◌, ◌↔◌}
 use mathlib.Core.Option.{Option, none, some}
+use Rattle.std.specs.Prelude.{Result, Ok, Err}
 use Prim.Native.Nat.{ℕ, suc, pred, ◌+◌, ◌*◌, ◌-◌, ◌≤◌, ◌<◌, min}
 use native.Mathlib.Omega.{arith}
 use lib.Dec.{T, lit<, lit≤}
@@ -65,14 +66,13 @@ use Rattle.tree.proofs.SplitCounts.{split_lines}
 use Rattle.answer.specs.StatedAnswers.{AnswerValues, refused, Carries}
 use Rattle.least.specs.UnitLeasts.{least_of}
 use Rattle.leaves.specs.declared.short.Taken.{Taken}
-use Rattle.runs.specs.declared.drafting.RunsAnswer.TheVariants as runs
+use Rattle.runs.specs.declared.drafting.NoRuns.TheVariants as runs
+use Rattle.runs.specs.declared.question.Unanswered.{Unanswered}
+use Rattle.runs.specs.declared.question.Unanswered.TheVariants.{NoProblem, Unfit}
 use Rattle.runs.specs.Drafts.{Drafted, unwritten, drafted, draft_under}
-use Rattle.forced.specs.declared.answering.ForcedAnswer.TheVariants as forced
 use Rattle.forced.specs.Answers as entries
 use Rattle.forced.specs.Answers.{untold, told_under}
 use Rattle.docket.specs.declared.Docket.{Docket}
-use Rattle.docket.specs.declared.taking.TakenAnswer.{TakenAnswer}
-use Rattle.docket.specs.declared.taking.TakenAnswer.TheVariants.{NoProblem, Unfit, Taken as taken}
 use Rattle.docket.specs.declared.held.BoundBy.{BoundBy}
 use Rattle.docket.specs.declared.held.HeldBound.TheVariants as bound
 use Rattle.docket.specs.Verdicts.{Verdict, problem}
@@ -197,7 +197,7 @@ all_taken P A t h = turns.took_all (in_turn P A t) (P.demand at t + P.spare at t
 pub told_anywhere : (d : Docket) → Long d → (o : Option Instance) → JudgesBy d o → (period most : ℕ) (fixed : List ℕ) → Told period most fixed o (taken_of d period most fixed)
 told_anywhere = telling.told_anywhere
 
-pub told_one : (period most : ℕ) (fixed : List ℕ) (o : Option Instance) (a b : TakenAnswer) → Told period most fixed o a → Told period most fixed o b → a ≡ b
+pub told_one : (period most : ℕ) (fixed : List ℕ) (o : Option Instance) (a b : Result Taken Unanswered) → Told period most fixed o a → Told period most fixed o b → a ≡ b
 told_one = telling.told_one
 
 -- It is what holds of a leaf of a tree, where the same statuses and the same upper count stand for the period, whatever stands for other periods
@@ -334,7 +334,7 @@ pub forced_at_leaf : (P : Instance) → WellFormed P → (t : Tree) → Limits P
     → (d : Docket) → Long d → JudgesBy d (some P)
     → let A = above root t i in
     (x : List ℤ) × (y : List ℕ) × Entries P A.marks (λ t. q at t) (λ t. s at t) x y
-    × (forced_of d q s (status_bytes (length P.units) P.periods A.marks) values bytes ≡ record { answer = forced.Found; values = x; stuck = y })
+    × (forced_of d q s (status_bytes (length P.units) P.periods A.marks) values bytes ≡ record { answer = Ok tt; values = x; stuck = y })
 forced_at_leaf = forcing.leaf_entries
 
 -- What an entry foretells of a split on unit u in period t at a price leaf with m above it: where the entry of d is z, with d fixed the leaf's value is as far from what it is as z from
@@ -383,7 +383,7 @@ pub leaf_gives : (P : Instance) → WellFormed P → (t : Tree) → Limits P roo
     → let A = above root t i in
     let z = leaf_value P A.marks (λ t. q at t) (λ t. s at t) in
     (rs : Schedule) × (leaf_runs P A (leaf_at t i) ≡ some rs) × LeafRuns P A.marks (λ t. q at t) (λ t. s at t) rs × (leaf_bound P A (leaf_at t i) ≡ number z)
-    × (runs_of d q s (status_bytes (length P.units) P.periods A.marks) rows gaps ≡ record { answer = runs.Found z; rows = flatten rs; short = shortfalls P rs })
+    × (runs_of d q s (status_bytes (length P.units) P.periods A.marks) rows gaps ≡ record { answer = Ok z; rows = flatten rs; short = shortfalls P rs })
 leaf_gives = drafting.leaf_gives
 
 -- A ramp leaf gives none
@@ -583,18 +583,18 @@ twice_refused =
 -- it takes the larger and is short; with the first unit off there it takes the other and is short, and with it on both again; a period 3 does not fit. Each end of each range is computed in
 -- crates/docket/specs/TakingExamples.antt. Before any problem there is nothing to tell
 
-abbrev told_then : ℕ → ℕ → List ℕ → TakenAnswer
+abbrev told_then : ℕ → ℕ → List ℕ → Result Taken Unanswered
 told_then = taken_of (after (listed_problem ∷ []))
 
 told_there : (period most : ℕ) (fixed : List ℕ) → told_then period most fixed ≡ taken_under example period most fixed
 told_there = telling.told_as (listed_problem ∷ []) (problem example ∷ []) (then is_listed_problem no_more) example refl
 
-pub told_witnessed : (told_then 2 0 (0 ∷ 0 ∷ 0 ∷ 0 ∷ []) ≡ taken (record { short = false; units = 2 }))
-    × (told_then 2 2 (0 ∷ 0 ∷ 0 ∷ 0 ∷ []) ≡ taken (record { short = true; units = 1 }))
-    × (told_then 2 0 (0 ∷ 1 ∷ 0 ∷ 0 ∷ []) ≡ taken (record { short = true; units = 1 }))
-    × (told_then 2 0 (0 ∷ 2 ∷ 0 ∷ 0 ∷ []) ≡ taken (record { short = false; units = 2 }))
-    × (told_then 3 0 (0 ∷ 0 ∷ 0 ∷ 0 ∷ []) ≡ Unfit)
-    × (taken_of (after []) 2 0 (0 ∷ 0 ∷ 0 ∷ 0 ∷ []) ≡ NoProblem)
+pub told_witnessed : (told_then 2 0 (0 ∷ 0 ∷ 0 ∷ 0 ∷ []) ≡ Ok (record { short = false; units = 2 }))
+    × (told_then 2 2 (0 ∷ 0 ∷ 0 ∷ 0 ∷ []) ≡ Ok (record { short = true; units = 1 }))
+    × (told_then 2 0 (0 ∷ 1 ∷ 0 ∷ 0 ∷ []) ≡ Ok (record { short = true; units = 1 }))
+    × (told_then 2 0 (0 ∷ 2 ∷ 0 ∷ 0 ∷ []) ≡ Ok (record { short = false; units = 2 }))
+    × (told_then 3 0 (0 ∷ 0 ∷ 0 ∷ 0 ∷ []) ≡ Err Unfit)
+    × (taken_of (after []) 2 0 (0 ∷ 0 ∷ 0 ∷ 0 ∷ []) ≡ Err NoProblem)
 unfolding taken_under taken_of in_turn took usable available largest falling sound marks_in mark_of
 told_witnessed = (
   told_there 2 0 (0 ∷ 0 ∷ 0 ∷ 0 ∷ []),
@@ -614,10 +614,10 @@ drafted_then q f = runs_of (after (listed_problem ∷ [])) q (0 ∷ 0 ∷ []) f 
 drafted_there : (q f : List ℕ) → drafted_then q f ≡ draft_under example q (0 ∷ 0 ∷ []) f (7 ∷ 7 ∷ 7 ∷ 7 ∷ []) (7 ∷ 7 ∷ [])
 drafted_there q f = drafting.told_as q (0 ∷ 0 ∷ []) f (7 ∷ 7 ∷ 7 ∷ 7 ∷ []) (7 ∷ 7 ∷ []) (listed_problem ∷ []) (problem example ∷ []) (then is_listed_problem no_more) example refl
 
-pub draft_witnessed : (drafted_then (10 ∷ 14 ∷ []) (0 ∷ 0 ∷ 0 ∷ 0 ∷ []) ≡ record { answer = runs.Found (pos 1880); rows = 20 ∷ 80 ∷ 0 ∷ 0 ∷ []; short = 40 ∷ 20 ∷ [] })
-    × (drafted_then (10 ∷ 14 ∷ []) (1 ∷ 2 ∷ 0 ∷ 0 ∷ []) ≡ unwritten (7 ∷ 7 ∷ 7 ∷ 7 ∷ []) (7 ∷ 7 ∷ []) (runs.Stuck 1))
-    × (drafted_then (10 ∷ []) (0 ∷ 0 ∷ 0 ∷ 0 ∷ []) ≡ unwritten (7 ∷ 7 ∷ 7 ∷ 7 ∷ []) (7 ∷ 7 ∷ []) runs.Unfit)
-    × (runs_of (after []) (10 ∷ 14 ∷ []) (0 ∷ 0 ∷ []) (0 ∷ 0 ∷ 0 ∷ 0 ∷ []) (7 ∷ []) (7 ∷ []) ≡ unwritten (7 ∷ []) (7 ∷ []) runs.NoProblem)
+pub draft_witnessed : (drafted_then (10 ∷ 14 ∷ []) (0 ∷ 0 ∷ 0 ∷ 0 ∷ []) ≡ record { answer = Ok (pos 1880); rows = 20 ∷ 80 ∷ 0 ∷ 0 ∷ []; short = 40 ∷ 20 ∷ [] })
+    × (drafted_then (10 ∷ 14 ∷ []) (1 ∷ 2 ∷ 0 ∷ 0 ∷ []) ≡ unwritten (7 ∷ 7 ∷ 7 ∷ 7 ∷ []) (7 ∷ 7 ∷ []) (Err (runs.Stuck 1)))
+    × (drafted_then (10 ∷ []) (0 ∷ 0 ∷ 0 ∷ 0 ∷ []) ≡ unwritten (7 ∷ 7 ∷ 7 ∷ 7 ∷ []) (7 ∷ 7 ∷ []) (Err (runs.Question Unfit)))
+    × (runs_of (after []) (10 ∷ 14 ∷ []) (0 ∷ 0 ∷ []) (0 ∷ 0 ∷ 0 ∷ 0 ∷ []) (7 ∷ []) (7 ∷ []) ≡ unwritten (7 ∷ []) (7 ∷ []) (Err (runs.Question NoProblem)))
 unfolding flatten runs_of draft_under drafted least_rows least_row shortfall output first_stuck is_stuck sound marks_in mark_of leaf_value units_least unit_least value revenue requirement rows_of row_cost
 draft_witnessed = (
   drafted_there (10 ∷ 14 ∷ []) (0 ∷ 0 ∷ 0 ∷ 0 ∷ []),
@@ -643,17 +643,17 @@ forced_there : (q f : List ℕ) → forced_then q f ≡ told_under example q (0 
 forced_there q f = forcing.told_as q (0 ∷ 0 ∷ []) f lent_values lent_bytes (listed_problem ∷ []) (problem example ∷ []) (then is_listed_problem no_more) example refl
 
 pub forced_witnessed : (forced_then (10 ∷ 14 ∷ []) (0 ∷ 0 ∷ 0 ∷ 0 ∷ []) ≡ record {
-  answer = forced.Found;
+  answer = Ok tt;
   values = pos 5 ∷ neg_ℤ (pos 120) ∷ pos 5 ∷ neg_ℤ (pos 120) ∷ pos 0 ∷ pos 140 ∷ pos 0 ∷ pos 100 ∷ [];
   stuck = 0 ∷ 0 ∷ 0 ∷ 0 ∷ 0 ∷ 0 ∷ 0 ∷ 0 ∷ [];
 })
     × (forced_then (10 ∷ 14 ∷ []) (0 ∷ 0 ∷ 0 ∷ 2 ∷ []) ≡ record {
-      answer = forced.Found;
+      answer = Ok tt;
       values = pos 5 ∷ neg_ℤ (pos 120) ∷ pos 5 ∷ neg_ℤ (pos 120) ∷ pos 100 ∷ pos 180 ∷ pos 0 ∷ pos 100 ∷ [];
       stuck = 0 ∷ 0 ∷ 0 ∷ 0 ∷ 0 ∷ 0 ∷ 1 ∷ 0 ∷ [];
     })
-    × (forced_then (10 ∷ []) (0 ∷ 0 ∷ 0 ∷ 0 ∷ []) ≡ untold lent_values lent_bytes forced.Unfit)
-    × (forced_of (after []) (10 ∷ 14 ∷ []) (0 ∷ 0 ∷ []) (0 ∷ 0 ∷ 0 ∷ 0 ∷ []) lent_values lent_bytes ≡ untold lent_values lent_bytes forced.NoProblem)
+    × (forced_then (10 ∷ []) (0 ∷ 0 ∷ 0 ∷ 0 ∷ []) ≡ untold lent_values lent_bytes (Err Unfit))
+    × (forced_of (after []) (10 ∷ 14 ∷ []) (0 ∷ 0 ∷ []) (0 ∷ 0 ∷ 0 ∷ 0 ∷ []) lent_values lent_bytes ≡ untold lent_values lent_bytes (Err NoProblem))
 unfolding forced_of told_under forced_tables forced_table is_stuck sound marks_in mark_of unit_least value revenue rows_of row_cost
 forced_witnessed = (
   forced_there (10 ∷ 14 ∷ []) (0 ∷ 0 ∷ 0 ∷ 0 ∷ []),

@@ -33,7 +33,9 @@ use Rattle.model.proofs.LeastRows.{precedes_outputs, least_row_walk, least_row_a
 use Rattle.model.proofs.FirstRuns.{first_run_ext}
 use Rattle.model.proofs.LeafRuns.{least_rows_long, least_rows_at, none_stuck, leaf_attained}
 use Rattle.least.proofs.UnitParts.{all_get_d}
-use Rattle.runs.specs.declared.drafting.RunsAnswer.TheVariants as answer
+use Rattle.std.specs.Prelude.{Ok, Err}
+use Rattle.runs.specs.declared.drafting.NoRuns.TheVariants as reason
+use Rattle.runs.specs.declared.question.Unanswered.TheVariants.{Unfit}
 use Rattle.runs.specs.Drafts.{fits, FitQuestion, Drafted, unwritten, marks_asked, runs_asked, drafted, draft_under}
 use Rattle.runs.proofs.Questions.{fits_is}
 use Rattle.runs.proofs.FirstStuck.{first_stuck_found, none_before}
@@ -90,9 +92,9 @@ module _ (P : Instance) (W : WellFormed P) (q s fixed rows short : List ℕ) whe
       go : (b c : Bool) → (b ≡ true) ↔ FitQuestion P q s fixed rows short → any_stuck P.periods P.units m ≡ c
           → DraftTold q s fixed rows short (some P)
           (cond b
-          (cond c (unwritten rows short (answer.Stuck (suc (first_stuck P.periods P.units m))))
-          (record { answer = answer.Found (leaf_value P m (λ t. q at t) (λ t. s at t)); rows = flatten (runs_asked P q s fixed rows short); short = shortfalls P (runs_asked P q s fixed rows short) }))
-          (unwritten rows short answer.Unfit))
+          (cond c (unwritten rows short (Err (reason.Stuck (suc (first_stuck P.periods P.units m)))))
+          (record { answer = Ok (leaf_value P m (λ t. q at t) (λ t. s at t)); rows = flatten (runs_asked P q s fixed rows short); short = shortfalls P (runs_asked P q s fixed rows short) }))
+          (unwritten rows short (Err (reason.Question Unfit))))
       go true true f e = said.stuck (f.0 refl) (first_there P W m (λ t. q at t) (λ t. s at t) e)
       go true false f e = said.found (f.0 refl) (runs_there P W m (λ t. q at t) (λ t. s at t) e)
       go false c f e = said.unfit (λ F. let e = f.1 F in let z : ◌≡◌ {A = ℕ} 0 1 = cc in omega arith)
@@ -178,11 +180,11 @@ told_one q s fx rows short _ _ _ (said.unfit n) (said.found F a) = absurd (n F)
 told_one q s fx rows short _ _ _ (said.stuck F a) (said.unfit n) = absurd (n F)
 told_one q s fx rows short _ _ _ (said.found F a) (said.unfit n) = absurd (n F)
 told_one q s fx rows short (some P) _ _ (said.stuck {u = u} F a) (said.stuck {u = v} G b) =
-    ap (λ (k : ℕ). unwritten rows short (answer.Stuck (suc k))) (one_stuck P (marks_asked P fx) u v a b)
+    ap (λ (k : ℕ). unwritten rows short (Err (reason.Stuck (suc k)))) (one_stuck P (marks_asked P fx) u v a b)
 told_one q s fx rows short (some P) _ _ (said.stuck {u = u} F a) (said.found {rs = rs} G b) = absurd (stuck_or_runs P (marks_asked P fx) (λ t. q at t) (λ t. s at t) u rs a b)
 told_one q s fx rows short (some P) _ _ (said.found {rs = rs} F a) (said.stuck {u = u} G b) = absurd (stuck_or_runs P (marks_asked P fx) (λ t. q at t) (λ t. s at t) u rs b a)
 told_one q s fx rows short (some P) _ _ (said.found {rs = rs} F a) (said.found {rs = rs'} G b) =
-    ap (λ (r : Schedule). record { answer = answer.Found (leaf_value P (marks_asked P fx) (λ t. q at t) (λ t. s at t)); rows = flatten r; short = shortfalls P r })
+    ap (λ (r : Schedule). record { answer = Ok (leaf_value P (marks_asked P fx) (λ t. q at t) (λ t. s at t)); rows = flatten r; short = shortfalls P r })
     (one_runs P (marks_asked P fx) (λ t. q at t) (λ t. s at t) rs rs' a b)
 
 -- ---- a price leaf of an accepted tree
@@ -251,15 +253,15 @@ module _ (P : Instance) (W : WellFormed P) (t : Tree) (limits : Limits P root 0 
 
     -- what is told of it is its value, its runs, and how far they fall short
     leaf_under : draft_under P q s bytes rows short
-        ≡ record { answer = answer.Found z; rows = flatten (least_rows P.periods (λ t. q at t) (λ t. s at t) P.units m); short = shortfalls P (least_rows P.periods (λ t. q at t) (λ t. s at t) P.units m) }
+        ≡ record { answer = Ok z; rows = flatten (least_rows P.periods (λ t. q at t) (λ t. s at t) P.units m); short = shortfalls P (least_rows P.periods (λ t. q at t) (λ t. s at t) P.units m) }
     unfolding draft_under drafted
     leaf_under =
         rw ((fits_is P q s bytes rows short).1 leaf_fits, free_there)
-        (ap₂ (λ (v : ℤ) (rs : Schedule). record { answer = answer.Found v; rows = flatten rs; short = shortfalls P rs })
+        (ap₂ (λ (v : ℤ) (rs : Schedule). record { answer = Ok v; rows = flatten rs; short = shortfalls P rs })
         (leaf_value_ext P W.units_good (marks_asked P bytes) m same (λ t. q at t) (λ t. q at t) (λ t. s at t) (λ t. s at t) (λ v l. refl) (λ v l. refl)) runs_alike)
 
     pub leaf_gives : (d : Docket) → Long d → JudgesBy d (some P) → (rs : Schedule) × (leaf_runs P (above root t i) (leaf_at t i) ≡ some rs) × LeafRuns P m (λ t. q at t) (λ t. s at t) rs
-        × (leaf_bound P (above root t i) (leaf_at t i) ≡ number z) × (runs_of d q s bytes rows short ≡ record { answer = answer.Found z; rows = flatten rs; short = shortfalls P rs })
+        × (leaf_bound P (above root t i) (leaf_at t i) ≡ number z) × (runs_of d q s bytes rows short ≡ record { answer = Ok z; rows = flatten rs; short = shortfalls P rs })
     unfolding leaf_bound
     leaf_gives d long j = (
       least_rows P.periods (λ t. q at t) (λ t. s at t) P.units m,

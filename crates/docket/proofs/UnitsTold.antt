@@ -19,8 +19,9 @@ use Rattle.walk.specs.Marks.{most_of}
 use Rattle.walk.proofs.AboveMarks.{marks_same}
 use Rattle.leaves.specs.declared.short.Taken.{Taken}
 use Rattle.docket.specs.declared.Docket.{Docket}
-use Rattle.docket.specs.declared.taking.TakenAnswer.{TakenAnswer}
-use Rattle.docket.specs.declared.taking.TakenAnswer.TheVariants.{Unfit, Taken as taken}
+use Rattle.std.specs.Prelude.{Result, Ok, Err}
+use Rattle.runs.specs.declared.question.Unanswered.{Unanswered}
+use Rattle.runs.specs.declared.question.Unanswered.TheVariants.{Unfit}
 use Rattle.docket.specs.Verdicts.{Verdict}
 use Rattle.docket.specs.Texts.{Are}
 use Rattle.docket.specs.Lodging.{trusted}
@@ -44,7 +45,7 @@ told_under P period most fixed = go (fits P period most fixed) (fits_is P period
     t : ℕ
     t = period - 1
 
-    go : (b : Bool) → (b ≡ true) ↔ FitQuestion P period most fixed → Told period most fixed (some P) (cond b (taken (taken_in P (asked P t most fixed) t)) Unfit)
+    go : (b : Bool) → (b ≡ true) ↔ FitQuestion P period most fixed → Told period most fixed (some P) (cond b (Ok (taken_in P (asked P t most fixed) t)) (Err Unfit))
     go true f = said.fit (f.0 refl) (taken_there P (asked P t most fixed) t)
     go false f = said.unfit (λ F. let e = f.1 F in let z : ◌≡◌ {A = ℕ} 0 1 = cc in omega arith)
 
@@ -90,12 +91,12 @@ there_one P A t u v p q =
     ap₂ (λ (b : Bool) (n : ℕ). record { short = b; units = n }) (same_bool u.short v.short p.short q.short)
     (fewest_one (in_turn P A t) (P.demand at t + P.spare at t) u.units v.units p.units q.units)
 
-pub told_one : (period most : ℕ) (fixed : List ℕ) (o : Option Instance) (a b : TakenAnswer) → Told period most fixed o a → Told period most fixed o b → a ≡ b
+pub told_one : (period most : ℕ) (fixed : List ℕ) (o : Option Instance) (a b : Result Taken Unanswered) → Told period most fixed o a → Told period most fixed o b → a ≡ b
 told_one period most fixed _ _ _ said.no_problem said.no_problem = refl
 told_one period most fixed _ _ _ (said.unfit n) (said.unfit m) = refl
 told_one period most fixed _ _ _ (said.unfit n) (said.fit F u) = absurd (n F)
 told_one period most fixed _ _ _ (said.fit F u) (said.unfit n) = absurd (n F)
-told_one period most fixed (some P) (taken u) (taken v) (said.fit F p) (said.fit G q) = ap taken (there_one P (asked P (period - 1) most fixed) (period - 1) u v p q)
+told_one period most fixed (some P) (Ok u) (Ok v) (said.fit F p) (said.fit G q) = ap Ok (there_one P (asked P (period - 1) most fixed) (period - 1) u v p q)
 
 -- ---- as the leaf of a tree is judged
 

@@ -1,5 +1,5 @@
 -- The words of the page of what document 02 asks beyond demands 1 to 3.
-use Rattle.std.specs.Prelude.{◌≡◌, Bool, true, false, not, ◌↔◌, ℕ, zero, suc, ◌+◌, ◌*◌, ◌-◌, ◌<◌, T, ℤ, pos, ◌+ℤ◌, length, get_or, None, Some}
+use Rattle.std.specs.Prelude.{◌≡◌, Bool, true, false, not, ◌↔◌, Result, Ok, Err, ℕ, zero, suc, ◌+◌, ◌*◌, ◌-◌, ◌<◌, T, ℤ, pos, ◌+ℤ◌, length, get_or, None, Some}
 use mathlib.Core.List.{List, [], ◌∷◌, ◌++◌, map, flatten}
 use Rattle.std.proofs.Math.Option.{Option, none, some}
 use Rattle.model.specs.declared.generator.Generator.{Generator}
@@ -17,10 +17,11 @@ use Rattle.model.specs.Turns.{in_turn, Fewest}
 use Rattle.walk.specs.Marks.{mark_of, most_of}
 use Rattle.least.specs.UnitLeasts.{Least}
 use Rattle.leaves.specs.declared.short.Taken.{Taken}
-use Rattle.runs.specs.declared.drafting.RunsAnswer.TheVariants as runs
+use Rattle.runs.specs.declared.drafting.NoRuns.TheVariants as runs
+use Rattle.runs.specs.declared.question.Unanswered.{Unanswered}
+use Rattle.runs.specs.declared.question.Unanswered.TheVariants.{NoProblem, Unfit}
 use Rattle.runs.specs.Drafts as drafts
 use Rattle.runs.specs.Drafts.{Drafted, unwritten, marks_asked}
-use Rattle.forced.specs.declared.answering.ForcedAnswer.TheVariants as forced
 use Rattle.forced.specs.Answers as entries
 use Rattle.forced.specs.Answers.{untold}
 use Rattle.text.specs.Lines.{Line, later, lines_of, kind_problem, kind_tree}
@@ -30,8 +31,6 @@ use Rattle.problem.specs.Rendering.{lines_after}
 use Rattle.problem.specs.Refusals.{FormAt, InLimits}
 use Rattle.tree.specs.Places.{Part, node_at, part_at, LineAt}
 use Rattle.tree.specs.Refusals.{WrittenTree, written_lines, HoldsSoFar}
-use Rattle.docket.specs.declared.taking.TakenAnswer.{TakenAnswer}
-use Rattle.docket.specs.declared.taking.TakenAnswer.TheVariants.{NoProblem, Unfit, Taken as taken}
 use Rattle.docket.specs.Texts.{Short, Begins}
 use Rattle.docket.specs.Taking.{FitQuestion, asked}
 
@@ -60,10 +59,10 @@ pub record TakenThere (P : Instance) (A : Above) (t : ℕ) (u : Taken) : Type 0 
 
 -- what is told where this problem, or none, is the one judged by: that there is none; that the question does not fit it; or what was taken, under what the
 -- question names
-pub data Told (period most : ℕ) (fixed : List ℕ) : Option Instance → TakenAnswer → Type 0 where
-  no_problem : Told period most fixed none NoProblem
-  unfit : {P : Instance} → (FitQuestion P period most fixed → ⊥) → Told period most fixed (some P) Unfit
-  fit : {P : Instance} {u : Taken} → FitQuestion P period most fixed → TakenThere P (asked P (period - 1) most fixed) (period - 1) u → Told period most fixed (some P) (taken u)
+pub data Told (period most : ℕ) (fixed : List ℕ) : Option Instance → Result Taken Unanswered → Type 0 where
+  no_problem : Told period most fixed none (Err NoProblem)
+  unfit : {P : Instance} → (FitQuestion P period most fixed → ⊥) → Told period most fixed (some P) (Err Unfit)
+  fit : {P : Instance} {u : Taken} → FitQuestion P period most fixed → TakenThere P (asked P (period - 1) most fixed) (period - 1) u → Told period most fixed (some P) (Ok u)
 
 -- A has in period t the statuses and the upper count that a question names
 pub record AsAsked (P : Instance) (t most : ℕ) (fixed : List ℕ) (A : Above) : Type 0 where
@@ -131,10 +130,10 @@ pub record Entries (P : Instance) (m : Marks) (q s : ℕ → ℕ) (values : List
 -- what is told where this problem, or none, is the one judged by, and what the slices for the values and for the bytes then hold: that there is none; that the question does not
 -- fit it; or the entries of all units. In all but the last the slices are as they were
 pub data EntriesTold (q s fixed : List ℕ) (values : List ℤ) (stuck : List ℕ) : Option Instance → entries.Told → Type 0 where
-  no_problem : EntriesTold q s fixed values stuck none (untold values stuck forced.NoProblem)
-  unfit : {P : Instance} → (entries.FitQuestion P q s fixed (length values) (length stuck) → ⊥) → EntriesTold q s fixed values stuck (some P) (untold values stuck forced.Unfit)
+  no_problem : EntriesTold q s fixed values stuck none (untold values stuck (Err NoProblem))
+  unfit : {P : Instance} → (entries.FitQuestion P q s fixed (length values) (length stuck) → ⊥) → EntriesTold q s fixed values stuck (some P) (untold values stuck (Err Unfit))
   found : {P : Instance} {x : List ℤ} {y : List ℕ} → entries.FitQuestion P q s fixed (length values) (length stuck) → Entries P (marks_asked P fixed) (λ t. q at t) (λ t. s at t) x y
-      → EntriesTold q s fixed values stuck (some P) (record { answer = forced.Found; values = x; stuck = y })
+      → EntriesTold q s fixed values stuck (some P) (record { answer = Ok tt; values = x; stuck = y })
 
 -- ---- [7] The run behind a minimum
 
@@ -159,11 +158,11 @@ pub record LeafRuns (P : Instance) (m : Marks) (q s : ℕ → ℕ) (runs : Sched
 -- not fit it; the first stuck unit, from 1; or the leaf's value, its runs one after the other, and for each period how far they fall short of D. In all but the last the slices
 -- are as they were
 pub data DraftTold (q s fixed rows short : List ℕ) : Option Instance → Drafted → Type 0 where
-  no_problem : DraftTold q s fixed rows short none (unwritten rows short runs.NoProblem)
-  unfit : {P : Instance} → (drafts.FitQuestion P q s fixed rows short → ⊥) → DraftTold q s fixed rows short (some P) (unwritten rows short runs.Unfit)
-  stuck : {P : Instance} {u : ℕ} → drafts.FitQuestion P q s fixed rows short → FirstStuck P (marks_asked P fixed) u → DraftTold q s fixed rows short (some P) (unwritten rows short (runs.Stuck (suc u)))
+  no_problem : DraftTold q s fixed rows short none (unwritten rows short (Err (runs.Question NoProblem)))
+  unfit : {P : Instance} → (drafts.FitQuestion P q s fixed rows short → ⊥) → DraftTold q s fixed rows short (some P) (unwritten rows short (Err (runs.Question Unfit)))
+  stuck : {P : Instance} {u : ℕ} → drafts.FitQuestion P q s fixed rows short → FirstStuck P (marks_asked P fixed) u → DraftTold q s fixed rows short (some P) (unwritten rows short (Err (runs.Stuck (suc u))))
   found : {P : Instance} {rs : Schedule} → drafts.FitQuestion P q s fixed rows short → LeafRuns P (marks_asked P fixed) (λ t. q at t) (λ t. s at t) rs
-      → DraftTold q s fixed rows short (some P) (record { answer = runs.Found (leaf_value P (marks_asked P fixed) (λ t. q at t) (λ t. s at t)); rows = flatten rs; short = shortfalls P rs })
+      → DraftTold q s fixed rows short (some P) (record { answer = Ok (leaf_value P (marks_asked P fixed) (λ t. q at t) (λ t. s at t)); rows = flatten rs; short = shortfalls P rs })
 
 -- what a leaf gives, with A above it: a price leaf the runs of all units; no other leaf gives any
 abbrev pub leaf_runs : Instance → Above → Leaf → Option Schedule

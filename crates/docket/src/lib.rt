@@ -1,22 +1,24 @@
 // The docket: what it holds, what lodging a text answers, its report, and what it tells of the units that `short` takes and of the runs behind a price leaf's value.
 #![tactic(auto)]
 
-ghost use Rattle.std.specs.Prelude.{◌≡◌};
+ghost use Rattle.std.specs.Prelude.{◌≡◌, OnOk};
+ghost use Rattle.model.specs.Held.{Valid};
 ghost use Rattle.docket.specs.Docket.{fresh_docket};
 ghost use Rattle.docket.specs.Lodging.{lodge_of};
 ghost use Rattle.docket.specs.Report.{report_of, buffer_of};
-ghost use Rattle.docket.specs.Taking.{taken_of};
+ghost use Rattle.docket.specs.Taking.{problem_asked, taken_of};
 ghost use Rattle.docket.specs.Drafting.{runs_of};
 ghost use Rattle.docket.specs.Forcing.{forced_of};
 
 use crate::admission::Admission;
 use crate::held::{Held, NOTHING_HELD};
-use crate::taking::TakenAnswer;
 use answer::Answer;
-use forced::answering::{ForcedAnswer, answer_forced};
+use forced::answering::answer_forced;
+use leaves::short::Taken;
 use model::arrays::Problem;
 use refusal::Refusal;
-use runs::drafting::{RunsAnswer, answer_runs};
+use runs::drafting::{NoRuns, answer_runs};
+use runs::question::Unanswered;
 
 pub mod admission;
 mod figures;
@@ -90,16 +92,25 @@ impl Docket {
         }
     }
 
-    // Whether `short` holds in the period, counted from 1, and how many units it takes, where these statuses are fixed and this upper count stands: `most` is 0
-    // for none and else one more than the count, unit u's statuses begin at u times the periods. A docket that is not sound knows no problem.
-    pub fn units_taken(self, period: usize, most: usize, fixed: &[u8]) -> TakenAnswer
-        ensures { result ≡ taken_of self period most fixed.now }
+    // Nothing where a problem is known, which is then valid; else why a question has no answer. A docket that is not sound knows none.
+    fn require_problem(self) -> Result<(), Unanswered>
+        ensures known { result ≡ problem_asked self }
+        ensures valid { OnOk result (Valid self.problem) }
     {
         if sound::knows(self) {
-            let problem = self.problem;
-            return taking::answer_taken(problem, period, most, fixed);
+            Ok(())
+        } else {
+            Err(Unanswered::NoProblem)
         }
-        TakenAnswer::NoProblem
+    }
+
+    // Whether `short` holds in the period, counted from 1, and how many units it takes, where these statuses are fixed and this upper count stands: `most` is 0
+    // for none and else one more than the count, unit u's statuses begin at u times the periods. A docket that is not sound knows no problem.
+    pub fn units_taken(self, period: usize, most: usize, fixed: &[u8]) -> Result<Taken, Unanswered>
+        ensures { result ≡ taken_of self period most fixed.now }
+    {
+        self.require_problem()?;
+        taking::answer_taken(self.problem, period, most, fixed)
     }
 
     // The value of a price leaf with these multipliers under these statuses, with the units' runs in `rows`, unit u's from u times the periods on, and in `short` how far
@@ -111,16 +122,13 @@ impl Docket {
         fixed: &[u8],
         rows: &mut [u64],
         short: &mut [u64],
-    ) -> RunsAnswer
+    ) -> Result<i64, NoRuns>
         ensures answer { result ≡ (runs_of self q.now s.now fixed.now rows.old short.old).answer }
         ensures rows { rows.new ≡ (runs_of self q.now s.now fixed.now rows.old short.old).rows }
         ensures short { short.new ≡ (runs_of self q.now s.now fixed.now rows.old short.old).short }
     {
-        if sound::knows(self) {
-            let problem = self.problem;
-            return answer_runs(problem, q, s, fixed, rows, short);
-        }
-        RunsAnswer::NoProblem
+        self.require_problem()?;
+        answer_runs(self.problem, q, s, fixed, rows, short)
     }
 
     // Each unit's least value at these multipliers under these statuses with the status of each period forced besides: in `values`, unit u's from u times twice the periods
@@ -133,15 +141,12 @@ impl Docket {
         fixed: &[u8],
         values: &mut [i64],
         stuck: &mut [u8],
-    ) -> ForcedAnswer
+    ) -> Result<(), Unanswered>
         ensures answer { result ≡ (forced_of self q.now s.now fixed.now values.old stuck.old).answer }
         ensures values { values.new ≡ (forced_of self q.now s.now fixed.now values.old stuck.old).values }
         ensures stuck { stuck.new ≡ (forced_of self q.now s.now fixed.now values.old stuck.old).stuck }
     {
-        if sound::knows(self) {
-            let problem = self.problem;
-            return answer_forced(problem, q, s, fixed, values, stuck);
-        }
-        ForcedAnswer::NoProblem
+        self.require_problem()?;
+        answer_forced(self.problem, q, s, fixed, values, stuck)
     }
 }

@@ -6,17 +6,9 @@ ghost use Rattle.docket.specs.Taking.{fits_in, fits, asked, taken_under};
 
 use layout::ranking::lay_out_ranked;
 use leaves::counts::UPPER;
-use leaves::marks::are_statuses;
 use leaves::short::{Taken, sum_until};
 use model::arrays::Problem;
-
-// What is answered: that no problem is known, that the question does not fit the problem, or what was taken.
-#[derive(Clone, Copy)]
-pub enum TakenAnswer {
-    NoProblem,
-    Unfit,
-    Taken(Taken),
-}
+use runs::question::{Unanswered, has_statuses};
 
 // Whether the question fits so many units in so many periods.
 fn is_fit(periods: usize, units: usize, period: usize, most: usize, fixed: &[u8]) -> bool
@@ -24,19 +16,7 @@ fn is_fit(periods: usize, units: usize, period: usize, most: usize, fixed: &[u8]
     requires units_bound { units ≤ 32 }
     ensures { result ≡ fits_in periods units period most fixed.now }
 {
-    if period < 1 {
-        return false;
-    }
-    if periods < period {
-        return false;
-    }
-    if units < most {
-        return false;
-    }
-    if fixed.len() == units * periods {
-        return are_statuses(fixed);
-    }
-    false
+    (1..=periods).contains(&period) && most <= units && has_statuses(periods, units, fixed)
 }
 
 // Puts the statuses at the front.
@@ -44,10 +24,8 @@ fn put_statuses(above: &mut [u8], fixed: &[u8])
     requires { length fixed.now ≤ length above.old }
     ensures { above.new ≡ fixed.now ++ drop (length fixed.now) above.old }
 {
-    let mut i = 0;
-    while i < fixed.len() {
-        above[i] = fixed[i];
-        i += 1;
+    for (i, status) in fixed.iter().enumerate() {
+        above[i] = *status;
     }
 }
 
@@ -66,12 +44,17 @@ fn take_units(problem: Problem, period: usize, most: usize, fixed: &[u8]) -> Tak
 }
 
 // What is answered under the problem.
-pub fn answer_taken(problem: Problem, period: usize, most: usize, fixed: &[u8]) -> TakenAnswer
+pub fn answer_taken(
+    problem: Problem,
+    period: usize,
+    most: usize,
+    fixed: &[u8],
+) -> Result<Taken, Unanswered>
     requires { Valid problem }
     ensures { result ≡ taken_under (view problem) period most fixed.now }
 {
-    if is_fit(problem.periods, problem.units, period, most, fixed) {
-        return TakenAnswer::Taken(take_units(problem, period, most, fixed));
+    if !is_fit(problem.periods, problem.units, period, most, fixed) {
+        return Err(Unanswered::Unfit);
     }
-    TakenAnswer::Unfit
+    Ok(take_units(problem, period, most, fixed))
 }

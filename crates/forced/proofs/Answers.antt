@@ -10,7 +10,8 @@ use Rattle.model.specs.Instance.{Instance}
 use Rattle.model.specs.Ranges.{WellFormed}
 use Rattle.model.specs.Forced.{value_number, stuck_number}
 use Rattle.least.specs.Limits.{GoodPrices}
-use Rattle.forced.specs.declared.answering.ForcedAnswer.TheVariants.{Unfit, Found}
+use Rattle.std.specs.Prelude.{Ok, Err}
+use Rattle.runs.specs.declared.question.Unanswered.TheVariants.{Unfit}
 use Rattle.forced.specs.Answers.{Told, untold, entries_asked, fits, told_under}
 use Rattle.forced.proofs.Questions.{fits_is}
 
@@ -27,12 +28,12 @@ module _ (P : Instance) (q s fixed : List ℕ) where
 
   -- all entries, in numbers
   abbrev pub found : Told
-  found = record { answer = Found; values = map value_number (entries_asked P q s fixed); stuck = map stuck_number (entries_asked P q s fixed) }
+  found = record { answer = Ok tt; values = map value_number (entries_asked P q s fixed); stuck = map stuck_number (entries_asked P q s fixed) }
 
   pub fit_told : (values : List ℤ) (stuck : List ℕ) → fits P q s fixed (length values) (length stuck) ≡ true → found ≡ told_under P q s fixed values stuck
   unfolding told_under
   fit_told values stuck e = rw e refl
 
-  pub unfit_told : (values : List ℤ) (stuck : List ℕ) → fits P q s fixed (length values) (length stuck) ≡ false → untold values stuck Unfit ≡ told_under P q s fixed values stuck
+  pub unfit_told : (values : List ℤ) (stuck : List ℕ) → fits P q s fixed (length values) (length stuck) ≡ false → untold values stuck (Err Unfit) ≡ told_under P q s fixed values stuck
   unfolding told_under
   unfit_told values stuck e = rw e refl

@@ -19,7 +19,7 @@ use Rattle.walk.specs.Limits.{GoodCosts}
 use Rattle.walk.specs.GoingBack.{costs_of}
 use Rattle.runs.specs.Kept.{Kept}
 use Rattle.forced.specs.Forward.{of_status, Stepped}
-use Rattle.forced.specs.Entries.{entry_of, Entered, Filled}
+use Rattle.forced.specs.Entries.{entry_of, Entered}
 use Rattle.forced.proofs.Ready.{Ready, ready_next, ready_entry}
 
 -- what a period costs fits, from two lists of costs
@@ -101,7 +101,3 @@ module _ {n : ℕ} {g : Generator} {m : ℕ → Mark} {w : ℕ → Bool → ℕ}
       rw e
       (filling_more t own own' ons offs ons' offs' entries l fits F S next x y (ex ∙ ap (λ (k : ℕ). entry_of g table k false offs' own') e)
       (ey ∙ ap (λ (k : ℕ). entry_of g table k true ons' own') e))
-
-  -- after the last
-  pub filling_all : (t own : ℕ) (ons offs entries : List ℕ) → n ≤ t → Filling n g m w t own ons offs entries → Filled n g m w entries
-  filling_all t own ons offs entries l F = record { long = F.long; entries = λ r h. F.entered r (omega arith) }

@@ -2,9 +2,8 @@
 use mathlib.Core.Path.{◌≡◌, refl, sym, ap, ap₂, ◌∙◌}
 use mathlib.Core.Bool.{Bool, true, false, cond, beq}
 use mathlib.Core.List.{List}
-use Prim.Native.Nat.{ℕ, zero, suc, ◌+◌, ◌*◌, ◌≤◌, min}
+use Prim.Native.Nat.{ℕ, zero, suc, ◌+◌, ◌*◌, min}
 use native.Mathlib.Numerals.{add-one}
-use native.Mathlib.Omega.{arith}
 use lib.ListN.{length}
 use Rattle.model.specs.declared.generator.Generator.{Generator}
 use Rattle.model.specs.Instance.{◌at◌}
@@ -36,10 +35,6 @@ unfolding least_upto
 least_more i f found value e h = rw (add-one i) (ap₂ lesser e h)
 
 -- ---- an entry
-
-pub first_most : (d : Bool) → first_of d ≤ 48
-first_most true = omega arith
-first_most false = omega arith
 
 -- what is found in the list of the states, by the number of the states and the place where their values begin
 module _ (g : Generator) (table : List ℕ) (t : ℕ) (d : Bool) (l : List ℕ) (own reached begin found : ℕ) (r : reached ≡ min t (length l)) (b : begin ≡ t * 145 + first_of d)

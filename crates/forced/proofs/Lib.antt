@@ -9,7 +9,6 @@ pub mod Joins
 pub mod Ready
 pub mod Filling
 pub mod JoinedEntries
-pub mod EntryNumbers
 pub mod Questions
 pub mod Answers
 pub mod UnitEntries

@@ -23,31 +23,6 @@ pub record Moving (old new : List ℕ) (i top : ℕ) (allowed : Bool) (v : ℕ) 
   pub inside : (k : ℕ) → i ≤ k → k < top → new at (suc k) ≡ kept allowed v (old at k)
   pub above : (k : ℕ) → top < k → new at k ≡ old at k
 
-pub moving_none : (l : List ℕ) (top : ℕ) (allowed : Bool) (v : ℕ) → Moving l l top top allowed v
-moving_none l top allowed v = record { same = refl; below = λ k i. refl; inside = λ k i j. absurd (omega arith); above = λ k i. refl }
-
-pub moving_more : (old new : List ℕ) (i top x : ℕ) (allowed : Bool) (v : ℕ) → 0 < i → i ≤ top → top < length old → Moving old new i top allowed v
-    → x ≡ kept allowed v (old at (i - 1)) → Moving old (set new i x) (i - 1) top allowed v
-moving_more old new i top x allowed v p h l M e =
-    let there : i < length new = omega (arith, M.same) in
-    record {
-      same = length-set new i x ∙ M.same;
-      below = λ k j. get_or-set_other new i k x 0 (omega arith) ∙ M.below k (omega arith);
-      inside = λ k j m. inside k m (leb i k) (λ t. leb→le i k t) (λ t. omega (arith, nleb→lt i k t)) there;
-      above = λ k j. get_or-set_other new i k x 0 (omega arith) ∙ M.above k j;
-    }
-  where
-    inside : (k : ℕ) → k < top → (c : Bool) → (T c → i ≤ k) → (T (not c) → k ≡ i - 1) → i < length new → (set new i x) at (suc k) ≡ kept allowed v (old at k)
-    inside k m true f g there = get_or-set_other new i (suc k) x 0 (omega (arith, f tt)) ∙ M.inside k (f tt) m
-    inside k m false f g there =
-        let k_is : k ≡ i - 1 = g tt in
-        let next : suc k ≡ i = omega arith in
-        ap (λ (n : ℕ). (set new i x) at n) next ∙ get_or-set_same new i x 0 there ∙ e ∙ ap (λ (n : ℕ). kept allowed v (old at n)) (sym k_is)
-
-pub moving_all : (old new : List ℕ) (top : ℕ) (allowed : Bool) (v : ℕ) → Moving old new 0 top allowed v → Moved old new top allowed v
-moving_all old new top allowed v M =
-    record { same = M.same; first = M.below 0 (omega arith); inside = λ k i. M.inside k (omega arith) i; above = M.above }
-
 -- ---- the whole status
 
 -- nothing is kept of a state that has no value

@@ -7,7 +7,7 @@ use Prim.Native.Nat.{ℕ, zero, suc, ◌+◌, ◌*◌, ◌≤◌, ◌<◌}
 use native.Mathlib.Omega.{arith}
 use lib.Dec.{eqb}
 use lib.IntN.{ℤ}
-use lib.ListN.{length, take, length-append}
+use lib.ListN.{length, take}
 use lib.Seq.{take_at}
 use Rattle.model.specs.declared.generator.Generator.{Generator}
 use Rattle.model.specs.Instance.{◌at◌}
@@ -199,12 +199,6 @@ module _ (g : Generator) (m : ℕ → Mark) (q s on off rest entries after : Lis
   -- the array of the entries begins with them
   entries_front : take (2 * n) (entries ++ after) ≡ entries
   entries_front = take_at entries after (2 * n) at_prices.long
-
-  pub front_entries_fit : 2 * n ≤ length (entries ++ after)
-  front_entries_fit = omega (arith, length-append entries after, at_prices.long)
-
-  pub front_entries_long : length (take (2 * n) (entries ++ after)) ≡ 2 * n
-  front_entries_long = ap length entries_front ∙ at_prices.long
 
   module _ (good : GoodUnit g) where
     pub front_entries_good : GoodPrices n q s → All GoodValue (take (2 * n) (entries ++ after))

@@ -1,24 +1,19 @@
 -- Document 02, [5], asked of a problem: the entries of all units at multipliers and under fixed statuses that the question names, in slices that are lent for them.
-use Rattle.std.specs.Prelude.{◌≡◌, Bool, cond, ◌&&◌, List, map, ℕ, ◌*◌, ◌≤◌, eqb, ℤ, length}
+use Rattle.std.specs.Prelude.{◌≡◌, Bool, cond, ◌&&◌, Result, Ok, Err, List, map, ℕ, ◌*◌, ◌≤◌, eqb, ℤ, length}
 use Rattle.std.proofs.Math.Option.{Option}
 use Rattle.model.specs.Instance.{Instance, ◌at◌}
-use Rattle.model.specs.Ranges.{All, GoodPrice, every}
+use Rattle.model.specs.Ranges.{All, GoodPrice}
 use Rattle.model.specs.Forced.{forced_tables, value_number, stuck_number}
-use Rattle.walk.specs.Marks.{is_status}
-use Rattle.runs.specs.Drafts.{is_price, marks_asked}
-use Rattle.forced.specs.declared.answering.ForcedAnswer.{ForcedAnswer}
-use Rattle.forced.specs.declared.answering.ForcedAnswer.TheVariants.{Unfit, Found}
+use Rattle.runs.specs.declared.question.Unanswered.{Unanswered}
+use Rattle.runs.specs.declared.question.Unanswered.TheVariants.{Unfit}
+use Rattle.runs.specs.Questions.{asked_in}
+use Rattle.runs.specs.Drafts.{marks_asked}
 
 -- ---- the question
 
 -- it fits I units in T periods: T multipliers of either kind, I-as-T statuses, and room for 2·I·T values and as many bytes
 abbrev pub fits_in : ℕ → ℕ → List ℕ → List ℕ → List ℕ → ℕ → ℕ → Bool
-fits_in T I q s fixed values stuck =
-    eqb (length q) T
-    && (eqb (length s) T
-    && (eqb (length fixed) (I * T)
-    && (eqb values (2 * (I * T))
-    && (eqb stuck (2 * (I * T)) && (every is_price q && (every is_price s && every is_status fixed))))))
+fits_in T I q s fixed values stuck = eqb values (2 * (I * T)) && (eqb stuck (2 * (I * T)) && asked_in T I q s fixed)
 
 abbrev pub fits : Instance → List ℕ → List ℕ → List ℕ → ℕ → ℕ → Bool
 fits P = fits_in P.periods (length P.units)
@@ -38,12 +33,12 @@ pub record FitQuestion (P : Instance) (q s fixed : List ℕ) (values stuck : ℕ
 
 -- what comes back, and what the slices for the values and for the bytes then hold
 pub record Told : Type 0 where
-  pub answer : ForcedAnswer
+  pub answer : Result (Unit {0}) Unanswered
   pub values : List ℤ
   pub stuck : List ℕ
 
 -- the slices as they were
-abbrev pub untold : List ℤ → List ℕ → ForcedAnswer → Told
+abbrev pub untold : List ℤ → List ℕ → Result (Unit {0}) Unanswered → Told
 untold values stuck a = record { answer = a; values = values; stuck = stuck }
 
 module _ (P : Instance) (q s fixed : List ℕ) where
@@ -55,5 +50,5 @@ module _ (P : Instance) (q s fixed : List ℕ) where
   unfoldable pub told_under : List ℤ → List ℕ → Told
   told_under values stuck =
       cond (fits P q s fixed (length values) (length stuck))
-      (record { answer = Found; values = map value_number entries_asked; stuck = map stuck_number entries_asked })
-      (untold values stuck Unfit)
+      (record { answer = Ok tt; values = map value_number entries_asked; stuck = map stuck_number entries_asked })
+      (untold values stuck (Err Unfit))

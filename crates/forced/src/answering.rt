@@ -5,17 +5,8 @@ ghost use Rattle.forced.specs.Answers.{fits_in, told_under};
 
 use crate::units::write_forced;
 use layout::ranking::lay_out_ranked;
-use leaves::marks::are_statuses;
 use model::arrays::Problem;
-use runs::drafting::are_prices;
-
-// That no problem is known, that the question does not fit the problem, or that the entries are written.
-#[derive(Clone, Copy)]
-pub enum ForcedAnswer {
-    NoProblem,
-    Unfit,
-    Found,
-}
+use runs::question::{Unanswered, is_asked};
 
 // Whether the question fits so many units in so many periods: its multipliers, its statuses, and the room for values and for bytes.
 fn is_fit(
@@ -30,32 +21,11 @@ fn is_fit(
     requires { (periods ≤ 48) × (units ≤ 32) }
     ensures { result ≡ fits_in periods units q.now s.now fixed.now values stuck }
 {
-    let places = units * periods;
-    let entries = 2 * places;
-    if q.len() != periods {
-        return false;
-    }
-    if s.len() != periods {
-        return false;
-    }
-    if fixed.len() != places {
-        return false;
-    }
-    if values != entries {
-        return false;
-    }
-    if stuck != entries {
-        return false;
-    }
-    if are_prices(q) {
-        if are_prices(s) {
-            return are_statuses(fixed);
-        }
-    }
-    false
+    let entries = 2 * units * periods;
+    values == entries && stuck == entries && is_asked(periods, units, q, s, fixed)
 }
 
-// What is answered under the problem; in all cases but the last `values` and `stuck` are as they were.
+// The entries written under the problem; or why there are none, and `values` and `stuck` are as they were.
 pub fn answer_forced(
     problem: Problem,
     q: &[u64],
@@ -63,13 +33,13 @@ pub fn answer_forced(
     fixed: &[u8],
     values: &mut [i64],
     stuck: &mut [u8],
-) -> ForcedAnswer
+) -> Result<(), Unanswered>
     requires { Valid problem }
     ensures answer { result ≡ (told_under (view problem) q.now s.now fixed.now values.old stuck.old).answer }
     ensures values { values.new ≡ (told_under (view problem) q.now s.now fixed.now values.old stuck.old).values }
     ensures stuck { stuck.new ≡ (told_under (view problem) q.now s.now fixed.now values.old stuck.old).stuck }
 {
-    if is_fit(
+    let fits = is_fit(
         problem.periods,
         problem.units,
         q,
@@ -77,10 +47,11 @@ pub fn answer_forced(
         fixed,
         values.len(),
         stuck.len(),
-    ) {
-        let numbers = lay_out_ranked(problem);
-        write_forced(&numbers, q, s, fixed, values, stuck);
-        return ForcedAnswer::Found;
+    );
+    if !fits {
+        return Err(Unanswered::Unfit);
     }
-    ForcedAnswer::Unfit
+    let numbers = lay_out_ranked(problem);
+    write_forced(&numbers, q, s, fixed, values, stuck);
+    Ok(())
 }

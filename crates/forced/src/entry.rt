@@ -9,7 +9,6 @@ ghost use Rattle.forced.specs.Entries.{entry_of};
 
 use model::generator::Generator;
 use runs::table::{FIRST_OFF, STATES, kept_at};
-use walk::smaller;
 use walk::table::lesser_value;
 
 // The sum of two coded values.
@@ -17,13 +16,7 @@ fn both_values(x: u64, y: u64) -> u64
     requires { GoodValue x × GoodValue y }
     ensures { result ≡ both x y }
 {
-    if x == 0 {
-        return 0;
-    }
-    if y == 0 {
-        return 0;
-    }
-    x + y - 1
+    if x == 0 || y == 0 { 0 } else { x + y - 1 }
 }
 
 // The least sum of a state, of the first so many, and what is kept for it from `begin` on.
@@ -33,10 +26,8 @@ fn join_states(states: &[u64], reached: usize, table: &[u64], begin: usize) -> u
     ensures { result ≡ least_upto reached (λ i. both (states.now at i) (table.now at (begin + i))) }
 {
     let mut found = 0;
-    let mut i = 0;
-    while i < reached {
+    for i in 0..reached {
         found = lesser_value(found, both_values(states[i], table[begin + i]));
-        i += 1;
     }
     found
 }
@@ -47,9 +38,10 @@ fn begin_of(t: usize, status: bool) -> usize
     ensures { result ≡ t * 145 + first_of status }
 {
     if status {
-        return t * STATES;
+        t * STATES
+    } else {
+        t * STATES + FIRST_OFF
     }
-    t * STATES + FIRST_OFF
 }
 
 // The entry of a status in the period before period t of the table: states and own are of the periods passed up to there.
@@ -66,11 +58,11 @@ pub fn entry_value(
     requires states_len_bound { (length states.now ≤ 97) × ((k : ℕ) → GoodValue (states.now at k)) × GoodValue own }
     ensures { result ≡ entry_of g table.now t status states.now own }
 {
-    let found = join_states(states, smaller(t, states.len()), table, begin_of(t, status));
-    let since = g.since;
+    let found = join_states(states, t.min(states.len()), table, begin_of(t, status));
     if g.on == status {
-        let kept = kept_at(g, table, t, status, since + t);
-        return lesser_value(found, both_values(own, kept));
+        let kept = kept_at(g, table, t, status, g.since + t);
+        lesser_value(found, both_values(own, kept))
+    } else {
+        found
     }
-    found
 }

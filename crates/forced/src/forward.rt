@@ -13,7 +13,6 @@ ghost use Rattle.forced.specs.Forward.{Beyond, Moved, Shifted, Stepped, started,
 
 use model::generator::Generator;
 use runs::status::branch_value;
-use walk::smaller;
 use walk::table::{kept_value, lesser_value};
 
 // The least value of the states from `from` up to `to`, which is not among them.
@@ -22,10 +21,8 @@ fn least_state(states: &[u64], from: usize, to: usize) -> u64
     ensures { result ≡ least_upto (to - from) (λ i. states.now at (from + i)) }
 {
     let mut found = 0;
-    let mut i = from;
-    while i < to {
+    for i in from..to {
         found = lesser_value(found, states[i]);
-        i += 1;
     }
     found
 }
@@ -38,14 +35,11 @@ fn started_value(g: Generator, mark: u8, on: u64, t: usize, offs: &[u64]) -> u64
     requires beyond { Beyond t offs.now }
     ensures { result ≡ started g (mark_of mark) on offs.now }
 {
-    let down = g.TD;
     let end = g.TD + g.Tcold;
-    let hot = g.Hsc;
-    let cold = g.Csc;
     let may_on = mark != 1;
-    let early = least_state(offs, down - 1, smaller(t, end));
-    let starting = kept_value(may_on, hot + on, early);
-    let starting_cold = kept_value(may_on, cold + on, offs[end]);
+    let early = least_state(offs, g.TD - 1, t.min(end));
+    let starting = kept_value(may_on, g.Hsc + on, early);
+    let starting_cold = kept_value(may_on, g.Csc + on, offs[end]);
     lesser_value(starting, starting_cold)
 }
 
@@ -55,11 +49,10 @@ fn own_into(g: Generator, mark: u8, cost: u64, k: usize, next: bool, own: u64) -
     requires good_cost { GoodCost cost × GoodValue own }
     ensures { result ≡ own_into g (mark_of mark) cost k next own }
 {
-    let status = g.on;
-    if status == next {
+    if g.on == next {
         return 0;
     }
-    branch_value(g, mark, cost, status, k, next, own)
+    branch_value(g, mark, cost, g.on, k, next, own)
 }
 
 // Its value after a period that costs on or off by its status.
@@ -68,11 +61,8 @@ pub fn own_forward(g: Generator, mark: u8, on: u64, off: u64, k: usize, own: u64
     requires good_cost { GoodCost on × GoodCost off × GoodValue own }
     ensures { result ≡ move g (mark_of mark) (by_status on off g.on) g.on k g.on own }
 {
-    let status = g.on;
-    if status {
-        return branch_value(g, mark, on, true, k, true, own);
-    }
-    branch_value(g, mark, off, false, k, false, own)
+    let cost = if g.on { on } else { off };
+    branch_value(g, mark, cost, g.on, k, g.on, own)
 }
 
 // Takes the states up to the place top one place on, at the cost of keeping the status.
@@ -81,10 +71,8 @@ fn move_states(states: &mut [u64], top: usize, allowed: bool, cost: u64)
     requires good_cost { GoodCost cost × ((k : ℕ) → GoodValue (states.old at k)) }
     ensures { Moved states.old states.new top allowed cost }
 {
-    let mut i = top;
-    while 0 < i {
-        states[i] = kept_value(allowed, cost, states[i - 1]);
-        i -= 1;
+    for i in (0..top).rev() {
+        states[i + 1] = kept_value(allowed, cost, states[i]);
     }
 }
 
@@ -97,7 +85,7 @@ fn shift_states(states: &mut [u64], t: usize, entered: u64, allowed: bool, cost:
 {
     let end = states.len() - 1;
     let last = kept_value(allowed, cost, states[end]);
-    move_states(states, smaller(t, end), allowed, cost);
+    move_states(states, t.min(end), allowed, cost);
     states[0] = entered;
     states[end] = lesser_value(states[end], last);
 }
@@ -120,13 +108,11 @@ pub fn step_forward(
     requires beyond { Beyond t ons.old × Beyond t offs.old }
     ensures { Stepped g (mark_of mark) (by_status on off) (g.since + t) own ons.old offs.old ons.new offs.new }
 {
-    let up = g.TU;
-    let stop = g.Dc;
     let k = g.since + t;
     let may_on = mark != 1;
     let may_off = mark != 2;
     let starting = started_value(g, mark, on, t, offs);
-    let stopping = kept_value(may_off, stop + off, ons[up - 1]);
+    let stopping = kept_value(may_off, g.Dc + off, ons[g.TU - 1]);
     let entered_on = lesser_value(starting, own_into(g, mark, on, k, true, own));
     let entered_off = lesser_value(stopping, own_into(g, mark, off, k, false, own));
     shift_states(ons, t, entered_on, may_on, on);

@@ -19,10 +19,7 @@ fn value_number(entry: u64, added: u64) -> i64
 fn stuck_number(entry: u64) -> u8
     ensures { result ≡ byte_of 0 entry }
 {
-    if entry == 0 {
-        return 1;
-    }
-    0
+    u8::from(entry == 0)
 }
 
 // Writes the entries in numbers.
@@ -32,11 +29,8 @@ pub fn write_numbers(entries: &[u64], added: u64, values: &mut [i64], stuck: &mu
     ensures values { values.new ≡ map (number_of added) entries.now }
     ensures stuck { stuck.new ≡ map (byte_of added) entries.now }
 {
-    let n = entries.len();
-    let mut i = 0;
-    while i < n {
-        values[i] = value_number(entries[i], added);
-        stuck[i] = stuck_number(entries[i]);
-        i += 1;
+    for (i, entry) in entries.iter().enumerate() {
+        values[i] = value_number(*entry, added);
+        stuck[i] = stuck_number(*entry);
     }
 }

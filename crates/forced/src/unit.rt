@@ -36,16 +36,12 @@ fn fill_forward(
     requires entries_len { length entries.old ≡ 2 * length on.now }
     ensures { Filled (length on.now) g (marks_of fixed.now) (costs_of on.now off.now) entries.new }
 {
-    let n = on.len();
-    let since = g.since;
     let mut own = 1;
-    let mut t = 0;
-    while t < n {
+    for t in 0..on.len() {
         step_forward(g, fixed[t], on[t], off[t], t, own, ons, offs);
-        own = own_forward(g, fixed[t], on[t], off[t], since + t, own);
+        own = own_forward(g, fixed[t], on[t], off[t], g.since + t, own);
         entries[2 * t] = entry_value(g, table, t + 1, false, offs, own);
         entries[2 * t + 1] = entry_value(g, table, t + 1, true, ons, own);
-        t += 1;
     }
 }
 

@@ -26,21 +26,16 @@ pub fn write_forced(
     ensures stuck { stuck.new ≡ map stuck_number (forced_tables (instance_in numbers.now).periods (λ t. q.now at t) (λ t. s.now at t) (instance_in numbers.now).units (above_of (instance_in numbers.now) fixed.now).marks) }
 {
     let n = periods_in(numbers);
-    let units = units_in(numbers);
-    let mut begin = 0;
-    let mut u = 0;
-    while u < units {
-        let g = generator_at(numbers, u);
+    for u in 0..units_in(numbers) {
+        let begin = u * n;
         let end = begin + n;
         unit_forced(
-            g,
+            generator_at(numbers, u),
             q,
             s,
             &fixed[begin..end],
             &mut values[2 * begin..2 * end],
             &mut stuck[2 * begin..2 * end],
         );
-        begin = end;
-        u += 1;
     }
 }

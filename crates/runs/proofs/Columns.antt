@@ -39,12 +39,6 @@ column_next k n l t = rw (add-one k) (sum_more k (λ u. l at (u * n + t)))
 abbrev pub short_at : Instance → List ℕ → ℕ → ℕ
 short_at P l t = P.demand at t - output_in (length P.units) P.periods l t
 
--- as the code has it: the numbers are known as others
-pub short_found : (P : Instance) (l : List ℕ) (t I n demand given x : ℕ) → I ≡ length P.units → n ≡ P.periods
-    → demand ≡ P.demand at t → given ≡ output_in I n l t → x ≡ demand - given → x ≡ short_at P l t
-short_found P l t I n demand given x i j d g e =
-    e ∙ ap₂ ◌-◌ d (g ∙ ap₂ (λ (I n : ℕ). output_in I n l t) i j)
-
 -- ---- the rows of a schedule
 
 module _ (n t : ℕ) (inside : t < n) where

@@ -12,14 +12,13 @@ use lib.Seq.{take-suc-set, take_all}
 use Rattle.model.specs.declared.generator.Generator.{Generator}
 use Rattle.model.specs.Instance.{◌at◌}
 use Rattle.model.specs.Ranges.{GoodUnit}
-use Rattle.model.specs.Rules.{if_on, permits, spent}
-use Rattle.model.specs.Cost.{switch_cost}
-use Rattle.model.specs.Above.{Mark, allows}
+use Rattle.model.specs.Rules.{if_on, spent}
+use Rattle.model.specs.Above.{Mark}
 use Rattle.model.specs.Walk.{move, walk}
-use Rattle.model.specs.Table.{kept, values}
+use Rattle.model.specs.Table.{values}
 use Rattle.model.specs.Prices.{best_output}
 use Rattle.model.specs.RunWalk.{no_worse, branch, next_status, first_run, row_of}
-use Rattle.model.proofs.WalkPeriods.{from, from_later, from_zero}
+use Rattle.model.proofs.WalkPeriods.{from, from_later}
 use Rattle.walk.specs.Marks.{marks_of}
 use Rattle.walk.specs.GoingBack.{costs_of}
 use Rattle.runs.specs.Kept.{Kept, kept_in, status_by}
@@ -39,14 +38,6 @@ no_worse_both (suc x) zero h i = absurd (i refl)
 no_worse_both (suc x) (suc y) h i = refl
 
 -- ---- one status
-
-module _ (g : Generator) (m : Mark) (v : ℕ) (b : Bool) (k : ℕ) (d : Bool) (X : ℕ) where
-  -- a status that the rules permit is left to its mark
-  pub move_permitted : permits g b k d ≡ true → move g m v b k d X ≡ kept (allows m d) (switch_cost g b k d + v) X
-  move_permitted e = rw e refl
-
-  pub move_refused : permits g b k d ≡ false → move g m v b k d X ≡ 0
-  move_refused e = rw e refl
 
 -- a status lasts for a period at least, and for one more than the last at most
 pub spent_least : (b : Bool) (k : ℕ) (d : Bool) → 1 ≤ spent b k d
@@ -102,10 +93,6 @@ module _ (n : ℕ) (g : Generator) (m : ℕ → Mark) (w : ℕ → Bool → ℕ)
   abbrev row_left : ℕ → Bool → ℕ → List ℕ
   row_left t b k = row_of (from t o) (first_run (n - t) g (from t m) (from t w) b k)
 
-  -- before the first period it is the whole
-  left_start : (b : Bool) (k : ℕ) → row_left 0 b k ≡ row_of o (first_run n g m w b k)
-  left_start b k = let e : n - 0 ≡ n = omega arith in rw (e, from_zero o, from_zero m, from_zero w) refl
-
   -- after the last there is none
   left_end : (t : ℕ) → n ≤ t → (b : Bool) (k : ℕ) → row_left t b k ≡ []
   unfolding first_run
@@ -132,9 +119,6 @@ module _ (g : Generator) (q on off fixed : List ℕ) where
   -- it is the first t outputs, and behind them the row of the run that is left after k periods in b
   abbrev pub Written : List ℕ → ℕ → Bool → ℕ → Type 0
   Written row t b k = take t row ++ row_left (length q) g (marks_of fixed) (costs_of on off) best t b k ≡ whole_row
-
-  pub written_none : (row : List ℕ) → Written row 0 g.on g.since
-  written_none row = left_start (length q) g (marks_of fixed) (costs_of on off) best g.on g.since
 
   pub written_more : GoodUnit g → (table : List ℕ) → Kept (length q) g (marks_of fixed) (costs_of on off) table
       → (row : List ℕ) (t : ℕ) (b : Bool) (k : ℕ) → t < length q → length row ≡ length q → Written row t b k

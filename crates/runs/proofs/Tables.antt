@@ -2,13 +2,12 @@
 use mathlib.Core.Path.{◌≡◌, sym, ◌∙◌, ap}
 use mathlib.Core.Logic.{◌⊎◌, inl, inr, ⊎_elim}
 use mathlib.Core.Bool.{Bool, true, false, not}
-use mathlib.Core.List.{List, ◌++◌}
+use mathlib.Core.List.{List}
 use Prim.Native.Nat.{ℕ, suc, ◌+◌, ◌*◌, ◌-◌, ◌≤◌, ◌<◌, min}
 use native.Mathlib.Nat.{add-zero}
 use native.Mathlib.Omega.{arith}
 use lib.Dec.{T, leb, leb→le, nleb→lt}
-use lib.ListN.{length, take, drop, get_or-append}
-use lib.Seq.{paste, length-paste, length_paste_head, length-take-le, get_or-take, get_or-drop, get_or-append-add}
+use lib.ListN.{length}
 use Rattle.model.specs.declared.generator.Generator.{Generator}
 use Rattle.model.specs.Instance.{◌at◌}
 use Rattle.model.specs.Ranges.{GoodUnit}
@@ -23,44 +22,6 @@ use Rattle.walk.specs.GoingBack.{costs_of, Tables, Back}
 use Rattle.walk.proofs.WholeTables.{tabled_good, tables_end, tables_back}
 use Rattle.runs.specs.Kept.{first_of, kept_in, RowAt, Stored, Kept}
 
--- ---- a list stored in another from i on
-
-module _ (d s new : List ℕ) (i : ℕ) (fits : i + length s ≤ length d) (is : new ≡ paste d i s (length s)) where
-  abbrev head : List ℕ
-  head = take i d ++ take (length s) s
-
-  head_long : length head ≡ i + length s
-  head_long = length_paste_head d i s (length s) (omega arith) (omega arith)
-
-  pub pasted_long : length new ≡ length d
-  pasted_long = ap length is ∙ length-paste d i s (length s) fits (omega arith)
-
-  pub pasted_before : (k : ℕ) → k < i → new at k ≡ d at k
-  pasted_before k l =
-      ap (λ (x : List ℕ). x at k) is
-      ∙ get_or-append head (drop (i + length s) d) 0 k (omega (arith, head_long))
-      ∙ get_or-append (take i d) (take (length s) s) 0 k (omega (arith, length-take-le i d (omega arith)))
-      ∙ get_or-take i d k 0 l
-
-  pub pasted_inside : (k : ℕ) → k < length s → new at (i + k) ≡ s at k
-  pasted_inside k l =
-      ap (λ (x : List ℕ). x at (i + k)) is
-      ∙ get_or-append head (drop (i + length s) d) 0 (i + k) (omega (arith, head_long))
-      ∙ ap (λ (j : ℕ). head at (j + k)) (sym (length-take-le i d (omega arith)))
-      ∙ get_or-append-add (take i d) (take (length s) s) k 0
-      ∙ get_or-take (length s) s k 0 l
-
-  pub pasted_behind : (k : ℕ) → i + length s ≤ k → new at k ≡ d at k
-  pasted_behind k l =
-      let j = k - (i + length s) in
-      let here : k ≡ length head + j = omega (arith, head_long) in
-      let there : (i + length s) + j ≡ k = omega arith in
-      ap (λ (x : List ℕ). x at k) is
-      ∙ ap (λ (x : ℕ). (head ++ drop (i + length s) d) at x) here
-      ∙ get_or-append-add head (drop (i + length s) d) j 0
-      ∙ get_or-drop (i + length s) d j 0
-      ∙ ap (λ (x : ℕ). d at x) there
-
 -- ---- a row stored
 
 -- k is from a on or before it
@@ -70,24 +31,6 @@ side a k = go (leb a k) (λ h. leb→le a k h) (λ h. nleb→lt a k h)
     go : (c : Bool) → (T c → a ≤ k) → (T (not c) → k < a) → (a ≤ k) ⊎ (k < a)
     go true f h = inl (f tt)
     go false f h = inr (h tt)
-
--- the states on, then the states off
-pub both_stored : (ons offs old mid new : List ℕ) (t : ℕ) → (length old ≡ 7105) × (t ≤ 48) → (length ons ≤ 48) × (length offs ≤ 97)
-    → mid ≡ paste old (t * 145) ons (length ons) → new ≡ paste mid (t * 145 + 48) offs (length offs) → Stored ons offs old new t
-both_stored ons offs old mid new t h l one two =
-    let first : t * 145 + length ons ≤ length old = omega arith in
-    let same = pasted_long old ons mid (t * 145) first one in
-    let second : t * 145 + 48 + length offs ≤ length mid = omega arith in
-    let under = pasted_before mid offs new (t * 145 + 48) second two in
-    let over = pasted_behind old ons mid (t * 145) first one in
-    record {
-      same = pasted_long mid offs new (t * 145 + 48) second two ∙ same;
-      on_at = λ k i. under (t * 145 + k) (omega arith) ∙ pasted_inside old ons mid (t * 145) first one k i;
-      off_at = λ k i. pasted_inside mid offs new (t * 145 + 48) second two k i;
-      between = λ k i j. under (t * 145 + k) (omega arith) ∙ over (t * 145 + k) (omega arith);
-      before = λ k i. under k (omega arith) ∙ pasted_before old ons mid (t * 145) first one k i;
-      behind = λ k i. pasted_behind mid offs new (t * 145 + 48) second two k i ∙ over k (omega arith);
-    }
 
 module _ (ons offs old new : List ℕ) (t : ℕ) (S : Stored ons offs old new t) where
   -- it holds the values of its lists
@@ -124,10 +67,6 @@ pub record Begun (n : ℕ) (g : Generator) (m : ℕ → Mark) (w : ℕ → Bool 
   pub long : length table ≡ 7105
   pub rows : (r : ℕ) → t ≤ r → r ≤ n → RowAt g (values n g m w r) table r
   pub small : (k : ℕ) → GoodValue (table at k)
-
-pub begun_all : (n : ℕ) (g : Generator) (m : ℕ → Mark) (w : ℕ → Bool → ℕ) (t : ℕ) (table : List ℕ) → t ≡ 0 → Begun n g m w t table
-    → Kept n g m w table
-begun_all n g m w t table e B = record { long = B.long; rows = λ r j. B.rows r (omega arith) j; small = B.small }
 
 -- the states of each status fit their part of a row
 pub states_fit : (g : Generator) → GoodUnit g → {x y : ℕ} → (x ≡ g.TU) × (y ≡ g.TD + g.Tcold + 1) → (x ≤ 48) × (y ≤ 97)

@@ -1,39 +1,30 @@
 // What is answered to a question about the runs of a price leaf.
 ghost use Rattle.std.specs.Prelude.{◌≡◌, true, ◌≤◌, length};
-ghost use Rattle.model.specs.Ranges.{every};
 ghost use Rattle.model.specs.Held.{view, Valid};
 ghost use Rattle.layout.specs.Numbers.{instance_in, Laid};
-ghost use Rattle.runs.specs.Drafts.{is_price, fits_in, fits, drafted, draft_under};
+ghost use Rattle.runs.specs.Drafts.{fits_in, fits, drafted, draft_under};
+ghost use Rattle.runs.specs.declared.drafting.NoRuns.TheVariants.{Question};
 
+use crate::question::{Unanswered, is_asked};
 use crate::short::write_short;
 use crate::units::{first_stuck, write_runs};
 use layout::ranking::lay_out_ranked;
-use leaves::marks::are_statuses;
 use leaves::price::leaf_value;
 use model::arrays::Problem;
-use model::ranges::PRICE;
 
-// That no problem is known, that the question does not fit the problem, the first stuck unit, from 1, or the leaf's value.
+// Why there are no runs: the question has no answer, or units are stuck, of which this is the first, from 1.
 #[derive(Clone, Copy)]
-pub enum RunsAnswer {
-    NoProblem,
-    Unfit,
+pub enum NoRuns {
+    Question(Unanswered),
     Stuck(usize),
-    Found(i64),
 }
 
-// Whether every number is a multiplier.
-pub fn are_prices(prices: &[u64]) -> bool
-    ensures { result ≡ every is_price prices.now }
-{
-    let mut i = 0;
-    while i < prices.len() {
-        if PRICE.most < prices[i] {
-            return false;
-        }
-        i += 1;
+impl From<Unanswered> for NoRuns {
+    ghost from_gives = { λ why e. e ≡ Question why };
+
+    fn from(why: Unanswered) -> NoRuns {
+        NoRuns::Question(why)
     }
-    true
 }
 
 // Whether the question fits so many units in so many periods: its multipliers, its statuses, and the room for outputs and for shortfalls.
@@ -49,31 +40,10 @@ fn is_fit(
     requires { (periods ≤ 48) × (units ≤ 32) }
     ensures { result ≡ fits_in periods units q.now s.now fixed.now outputs shorts }
 {
-    let places = units * periods;
-    if q.len() != periods {
-        return false;
-    }
-    if s.len() != periods {
-        return false;
-    }
-    if shorts != periods {
-        return false;
-    }
-    if fixed.len() != places {
-        return false;
-    }
-    if outputs != places {
-        return false;
-    }
-    if are_prices(q) {
-        if are_prices(s) {
-            return are_statuses(fixed);
-        }
-    }
-    false
+    shorts == periods && outputs == units * periods && is_asked(periods, units, q, s, fixed)
 }
 
-// The draft of a leaf that fits: a stuck unit, or the leaf's value, with the runs and the shortfalls written.
+// The draft of a leaf that fits: the leaf's value, with the runs and the shortfalls written, or a stuck unit.
 fn draft(
     numbers: &[u64],
     q: &[u64],
@@ -81,7 +51,7 @@ fn draft(
     fixed: &[u8],
     rows: &mut [u64],
     short: &mut [u64],
-) -> RunsAnswer
+) -> Result<i64, NoRuns>
     requires laid { Laid numbers.now }
     requires short_value { fits (instance_in numbers.now) q.now s.now fixed.now (length rows.old) (length short.old) ≡ true }
     ensures answer { result ≡ (drafted (instance_in numbers.now) q.now s.now fixed.now rows.old short.old).answer }
@@ -89,16 +59,16 @@ fn draft(
     ensures short { short.new ≡ (drafted (instance_in numbers.now) q.now s.now fixed.now rows.old short.old).short }
 {
     match leaf_value(numbers, q, s, fixed) {
-        None => RunsAnswer::Stuck(first_stuck(numbers, fixed) + 1),
+        None => Err(NoRuns::Stuck(first_stuck(numbers, fixed) + 1)),
         Some(value) => {
             write_runs(numbers, q, s, fixed, rows);
             write_short(numbers, rows, short);
-            RunsAnswer::Found(value)
+            Ok(value)
         }
     }
 }
 
-// What is answered under the problem; in all cases but the last `rows` and `short` are as they were.
+// What is answered under the problem; where there are no runs `rows` and `short` are as they were.
 pub fn answer_runs(
     problem: Problem,
     q: &[u64],
@@ -106,13 +76,13 @@ pub fn answer_runs(
     fixed: &[u8],
     rows: &mut [u64],
     short: &mut [u64],
-) -> RunsAnswer
+) -> Result<i64, NoRuns>
     requires { Valid problem }
     ensures answer { result ≡ (draft_under (view problem) q.now s.now fixed.now rows.old short.old).answer }
     ensures rows { rows.new ≡ (draft_under (view problem) q.now s.now fixed.now rows.old short.old).rows }
     ensures short { short.new ≡ (draft_under (view problem) q.now s.now fixed.now rows.old short.old).short }
 {
-    if is_fit(
+    let fits = is_fit(
         problem.periods,
         problem.units,
         q,
@@ -120,9 +90,10 @@ pub fn answer_runs(
         fixed,
         rows.len(),
         short.len(),
-    ) {
-        let numbers = lay_out_ranked(problem);
-        return draft(&numbers, q, s, fixed, rows, short);
+    );
+    if !fits {
+        return Err(NoRuns::Question(Unanswered::Unfit));
     }
-    RunsAnswer::Unfit
+    let numbers = lay_out_ranked(problem);
+    draft(&numbers, q, s, fixed, rows, short)
 }

@@ -2,6 +2,7 @@
 #![tactic(auto)]
 
 pub mod drafting;
+pub mod question;
 mod short;
 pub mod status;
 pub mod table;

@@ -15,20 +15,9 @@ fn sum_column(units: usize, periods: usize, rows: &[u64], t: usize) -> u64
 {
     let mut sum = 0;
     for u in 0..units {
-        let from = u * periods;
-        sum += rows[from + t];
+        sum += rows[u * periods + t];
     }
     sum
-}
-
-// How far what is given falls short of the demand.
-fn fall_short(demand: u64, given: u64) -> u64
-    ensures { result ≡ demand - given }
-{
-    if given < demand {
-        return demand - given;
-    }
-    0
 }
 
 // Writes how far the units' rows fall short of the demand in each period.
@@ -40,9 +29,7 @@ pub fn write_short(numbers: &[u64], rows: &[u64], short: &mut [u64])
 {
     let n = periods_in(numbers);
     let units = units_in(numbers);
-    let mut t = 0;
-    while t < n {
-        short[t] = fall_short(demand_at(numbers, t), sum_column(units, n, rows, t));
-        t += 1;
+    for (t, missing) in short.iter_mut().enumerate() {
+        *missing = demand_at(numbers, t).saturating_sub(sum_column(units, n, rows, t));
     }
 }

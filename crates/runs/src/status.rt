@@ -19,28 +19,18 @@ use walk::table::kept_value;
 fn is_permitted(g: Generator, on: bool, k: usize, next: bool) -> bool
     ensures { result ≡ permits g on k next }
 {
-    let up = g.TU;
-    let down = g.TD;
-    if on {
-        if next {
-            return true;
-        }
-        return up <= k;
+    match (on, next) {
+        (true, false) => g.TU <= k,
+        (false, true) => g.TD <= k,
+        _ => true,
     }
-    if next {
-        return down <= k;
-    }
-    true
 }
 
 // Whether the fixed status allows it.
 fn is_allowed(mark: u8, next: bool) -> bool
     ensures { result ≡ allows (mark_of mark) next }
 {
-    if next {
-        return mark != 1;
-    }
-    mark != 2
+    if next { mark != 1 } else { mark != 2 }
 }
 
 // What the status costs as a start or a stop.
@@ -48,21 +38,12 @@ fn switch_cost(g: Generator, on: bool, k: usize, next: bool) -> u64
     requires { GoodUnit g }
     ensures { result ≡ switch_cost g on k next }
 {
-    let down = g.TD;
-    let hours = g.Tcold;
-    if on {
-        if next {
-            return 0;
-        }
-        return g.Dc;
+    match (on, next) {
+        (true, false) => g.Dc,
+        (false, true) if k <= g.TD + g.Tcold => g.Hsc,
+        (false, true) => g.Csc,
+        _ => 0,
     }
-    if next {
-        if k <= down + hours {
-            return g.Hsc;
-        }
-        return g.Csc;
-    }
-    0
 }
 
 // How many periods the unit has then been in the status.
@@ -70,16 +51,7 @@ pub fn periods_spent(on: bool, k: usize, next: bool) -> usize
     requires { k ≤ 2000 }
     ensures { result ≡ spent on k next }
 {
-    if on {
-        if next {
-            return k + 1;
-        }
-        return 1;
-    }
-    if next {
-        return 1;
-    }
-    k + 1
+    if on == next { k + 1 } else { 1 }
 }
 
 // The status in a period that costs so much in it, with the value after it; coded.
@@ -96,25 +68,18 @@ pub fn branch_value(
     requires good_cost { GoodCost cost × GoodValue after }
     ensures { result ≡ move g (mark_of mark) cost on k next after }
 {
-    if is_permitted(g, on, k, next) {
-        let allowed = is_allowed(mark, next);
-        let change = switch_cost(g, on, k, next);
-        return kept_value(allowed, change + cost, after);
+    if !is_permitted(g, on, k, next) {
+        return 0;
     }
-    0
+    let spent = switch_cost(g, on, k, next) + cost;
+    kept_value(is_allowed(mark, next), spent, after)
 }
 
 // Whether the first of two coded values is no worse.
 fn is_no_worse(x: u64, y: u64) -> bool
     ensures { result ≡ no_worse x y }
 {
-    if x == 0 {
-        return false;
-    }
-    if y == 0 {
-        return true;
-    }
-    x <= y
+    x != 0 && (y == 0 || x <= y)
 }
 
 // Whether a unit that has been in the status for k periods is on in the period before period t of the table; that period costs on or off by its status.

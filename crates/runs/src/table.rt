@@ -47,10 +47,8 @@ fn store_back(
     requires table_len { (length table.old ≡ 7105) × ((k : ℕ) → table.old at k ≡ 0) }
     ensures { Kept (length on.now) g (marks_of fixed.now) (costs_of on.now off.now) table.new }
 {
-    let mut t = on.len();
-    store_states(table, t, ons, offs);
-    while 0 < t {
-        t -= 1;
+    store_states(table, on.len(), ons, offs);
+    for t in (0..on.len()).rev() {
         step_back(g, fixed[t], on[t], off[t], ons, offs);
         store_states(table, t, ons, offs);
     }
@@ -76,11 +74,10 @@ pub fn kept_at(g: Generator, table: &[u64], t: usize, on: bool, k: usize) -> u64
     requires table_len { (length table.now ≡ 7105) × (t ≤ 48) × (1 ≤ k) }
     ensures { result ≡ kept_in g table.now t on k }
 {
-    let up = g.TU;
-    let down = g.TD + g.Tcold + 1;
     let begin = t * STATES;
     if on {
-        return table[begin + place(k, up)];
+        table[begin + place(k, g.TU)]
+    } else {
+        table[begin + FIRST_OFF + place(k, g.TD + g.Tcold + 1)]
     }
-    table[begin + FIRST_OFF + place(k, down)]
 }

@@ -27,11 +27,7 @@ fn output_of(g: Generator, q: u64, on: bool) -> u64
     requires good_price { GoodPrice q }
     ensures { result ≡ if_on on (best_output g q) }
 {
-    let b = g.b;
-    if on {
-        return best_output(g, b, q);
-    }
-    0
+    if on { best_output(g, g.b, q) } else { 0 }
 }
 
 // Writes the run forward from the state before period 1, by the values kept.
@@ -51,16 +47,13 @@ fn write_row(
     requires row_len { length row.old ≡ length q.now }
     ensures { row.new ≡ row_of (λ t. best_output g (q.now at t)) (first_run (length q.now) g (marks_of fixed.now) (costs_of on.now off.now) g.on g.since) }
 {
-    let n = q.len();
     let mut status = g.on;
     let mut k = g.since;
-    let mut t = 0;
-    while t < n {
+    for (t, output) in row.iter_mut().enumerate() {
         let next = next_status(g, fixed[t], on[t], off[t], table, t + 1, status, k);
-        row[t] = output_of(g, q[t], next);
+        *output = output_of(g, q[t], next);
         k = periods_spent(status, k, next);
         status = next;
-        t += 1;
     }
 }
 

@@ -19,12 +19,10 @@ pub fn first_stuck(numbers: &[u64], fixed: &[u8]) -> usize
     ensures { result ≡ first_stuck (instance_in numbers.now).periods (instance_in numbers.now).units (above_of (instance_in numbers.now) fixed.now).marks }
 {
     let units = units_in(numbers);
-    let mut u = 0;
-    while u < units {
+    for u in 0..units {
         if is_unit_stuck(numbers, u, fixed) {
             return u;
         }
-        u += 1;
     }
     units
 }
@@ -39,14 +37,10 @@ pub fn write_runs(numbers: &[u64], q: &[u64], s: &[u64], fixed: &[u8], rows: &mu
     ensures { rows.new ≡ flatten (least_rows (instance_in numbers.now).periods (λ t. q.now at t) (λ t. s.now at t) (instance_in numbers.now).units (above_of (instance_in numbers.now) fixed.now).marks) }
 {
     let n = periods_in(numbers);
-    let units = units_in(numbers);
-    let mut begin = 0;
-    let mut u = 0;
-    while u < units {
-        let g = generator_at(numbers, u);
+    for u in 0..units_in(numbers) {
+        let begin = u * n;
         let end = begin + n;
+        let g = generator_at(numbers, u);
         unit_run(g, q, s, &fixed[begin..end], &mut rows[begin..end]);
-        begin = end;
-        u += 1;
     }
 }

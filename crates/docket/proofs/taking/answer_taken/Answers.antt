@@ -6,7 +6,8 @@ use native.Mathlib.Omega.{arith}
 use lib.ListN.{length}
 use lib.Seq.{length-take-le}
 use Rattle.model.specs.Held.{view}
-use Rattle.docket.specs.declared.taking.TakenAnswer.TheVariants.{Unfit, Taken}
+use Rattle.std.specs.Prelude.{Ok, Err}
+use Rattle.runs.specs.declared.question.Unanswered.TheVariants.{Unfit}
 use Rattle.leaves.specs.LeafLeasts.{taken_in}
 use Rattle.docket.specs.Taking.{fits_in, fits, asked, taken_under}
 use Rattle.docket.proofs.taking.answer_taken.Goals as goal
@@ -28,24 +29,24 @@ fits_by c =
     let a = c.args in
     c.is_fit.ensures ∙ ap (λ (I : ℕ). fits_in a.problem.periods I a.period a.most a.fixed.now) (units_are c.before.before)
 
-pub is_fit-requires : goal.is_fit-requires
+pub is_fit-requires-clause-periods_bound : goal.is_fit-requires-clause-periods_bound
 unfolding view
-is_fit-requires c = record { periods_bound = c.requires.well_formed.periods_in.1; units_bound = c.requires.units_fit }
+is_fit-requires-clause-periods_bound c = c.requires.well_formed.periods_in.1
 
-pub take_units-requires : goal.take_units-requires
-take_units-requires c = record { valid = c.requires; fixed_value = sym (fits_by c.before.before) ∙ c.if-is_fit.true }
-
-pub returns-then-is_fit : goal.returns-then-is_fit
-unfolding taken_under
-returns-then-is_fit c =
-    let a = c.args in
-    let P = view a.problem in
-    let e = sym c.if-is_fit.true ∙ fits_by c.before.before.before in
-    ap Taken c.take_units.ensures ∙ ap (λ (b : Bool). cond b (Taken (taken_in P (asked P (a.period - 1) a.most a.fixed.now) (a.period - 1))) Unfit) e
+pub take_units-requires-clause-fixed_value : goal.take_units-requires-clause-fixed_value
+take_units-requires-clause-fixed_value c = sym (fits_by c.before.before) ∙ c.if-not-is_fit.false
 
 pub returns : goal.returns
 unfolding taken_under
 returns c =
     let a = c.args in
     let P = view a.problem in
-    ap (λ (b : Bool). cond b (Taken (taken_in P (asked P (a.period - 1) a.most a.fixed.now) (a.period - 1))) Unfit) (sym c.if-is_fit.false ∙ fits_by c.before.before)
+    let e = sym c.if-not-is_fit.false ∙ fits_by c.before.before.before in
+    ap Ok c.take_units.ensures ∙ ap (λ (b : Bool). cond b (Ok (taken_in P (asked P (a.period - 1) a.most a.fixed.now) (a.period - 1))) (Err Unfit)) e
+
+pub returns-then-not-is_fit : goal.returns-then-not-is_fit
+unfolding taken_under
+returns-then-not-is_fit c =
+    let a = c.args in
+    let P = view a.problem in
+    ap (λ (b : Bool). cond b (Ok (taken_in P (asked P (a.period - 1) a.most a.fixed.now) (a.period - 1))) (Err Unfit)) (sym c.if-not-is_fit.true ∙ fits_by c.before.before)

@@ -3,14 +3,13 @@ use mathlib.Core.Path.{◌≡◌, ap, subst, ◌∙◌}
 use mathlib.Core.List.{List}
 use Prim.Native.Nat.{ℕ, ◌+◌, ◌-◌}
 use native.Mathlib.Omega.{arith}
-use borrow.Author.Rules.{rules}
 use lib.ListN.{set}
 use Rattle.model.specs.Instance.{Instance}
 use Rattle.model.specs.Held.{view}
 use Rattle.walk.specs.Marks.{above_of, upper_begin}
 use Rattle.leaves.specs.LeafLeasts.{taken_in}
 use Rattle.docket.specs.Taking.{FitQuestion}
-use Rattle.docket.proofs.Questions.{fits_is, t_within, statuses_first, taken_asked}
+use Rattle.docket.proofs.Questions.{fits_is, statuses_first, taken_asked}
 use Rattle.docket.proofs.taking.take_units.Goals as goal
 use Rattle.docket.proofs.taking.take_units.Tie as tie
 use Rattle.docket.proofs.taking.take_units.Reads as reads
@@ -19,26 +18,10 @@ use Rattle.docket.proofs.taking.take_units.Lts as lts
 fit : (s : lts.Start tie.the-claims reads.Pre reads.Post tie.handed_clauses) → FitQuestion (view s.args.problem) s.args.period s.args.most s.args.fixed.now
 fit s = (fits_is (view s.args.problem) s.args.period s.args.most s.args.fixed.now).0 s.requires.fixed_value
 
-pub overflow_sub-t : goal.overflow_sub-t
-overflow_sub-t c = omega (arith, (fit c.before.before).period_in)
-
 pub put_statuses-requires : goal.put_statuses-requires
 put_statuses-requires c =
     let room = statuses_first (view c.args.problem) c.requires.valid.well_formed c.args.period c.args.most c.args.fixed.now (fit c.before.before.before.before) in
     omega (arith, room)
-
-pub overflow_cast-above : goal.overflow_cast-above
-overflow_cast-above c = omega (arith, (fit c.before.before.before.before.before.before).most_in, c.requires.valid.well_formed.units_in.1)
-
-pub overflow_add-above : goal.overflow_add-above
-overflow_add-above c = omega (arith, (fit c.before.before.before.before.before.before).period_in, c.requires.valid.well_formed.periods_in.1)
-
-pub bounds-above-t : goal.bounds-above-t
-bounds-above-t c = omega (arith, (fit c.before.before.before.before.before.before).period_in, c.requires.valid.well_formed.periods_in.1)
-
-pub sum_until-requires : goal.sum_until-requires
-sum_until-requires c =
-    let P = view c.args.problem in record { laid = c.lay_out_ranked-numbers.ensures.read.0; t_bound = rw c.lay_out_ranked-numbers.ensures.read.1 (t_within P c.requires.valid.well_formed c.args.period c.args.most c.args.fixed.now (fit c.before.before.before.before.before.before.before.before)); above_len = search rules }
 
 pub returns : goal.returns
 returns c =

@@ -2,8 +2,7 @@
 use mathlib.Core.Path.{◌≡◌, sym, ap, ◌∙◌}
 use Prim.Native.Nat.{ℕ}
 use native.Mathlib.Omega.{arith}
-use borrow.Author.Rules.{rules}
-use lib.ListN.{length, length-map}
+use lib.ListN.{length}
 use lib.Seq.{length-take-le}
 use Rattle.model.specs.Instance.{Instance}
 use Rattle.model.specs.Held.{view}
@@ -24,34 +23,34 @@ units_are s =
 -- the test is the question's
 fits_by : (c : lts.After-is_fit tie.the-claims reads.Pre reads.Post tie.handed_clauses) →
     let a = c.args in
-    c.is_fit.result ≡ fits (view a.problem) a.q.now a.s.now a.fixed.now (length a.values.now) (length a.stuck.now)
+    c.is_fit-fits.result ≡ fits (view a.problem) a.q.now a.s.now a.fixed.now (length a.values.now) (length a.stuck.now)
 unfolding view
 fits_by c =
     let a = c.args in
-    c.is_fit.ensures
+    c.is_fit-fits.ensures
     ∙ ap (λ (I : ℕ). fits_in a.problem.periods I a.q.now a.s.now a.fixed.now (length a.values.now) (length a.stuck.now)) (units_are c.before.before.before.before.before)
 
-pub is_fit-requires : goal.is_fit-requires
+pub is_fit-fits-requires : goal.is_fit-fits-requires
 unfolding view
-is_fit-requires c = (c.requires.well_formed.periods_in.1, c.requires.units_fit)
+is_fit-fits-requires c = (c.requires.well_formed.periods_in.1, c.requires.units_fit)
 
 pub write_forced-requires : goal.write_forced-requires
 write_forced-requires c =
     let a = c.args in
     let laid = c.lay_out_ranked-numbers.ensures.read in
     let rest = fit_limits _ a.q.now a.s.now a.fixed.now laid.0.well_formed (length a.values.now) (length a.stuck.now)
-    (ap (λ (P : Instance). fits P a.q.now a.s.now a.fixed.now (length a.values.now) (length a.stuck.now)) laid.1 ∙ sym (fits_by c.before.before.before.before.before.before) ∙ c.if-is_fit.true) in
+    (ap (λ (P : Instance). fits P a.q.now a.s.now a.fixed.now (length a.values.now) (length a.stuck.now)) laid.1 ∙ sym (fits_by c.before.before.before.before.before.before) ∙ c.if-not-fits.false) in
     record { laid = laid.0; good_prices = rest.0; numbers_in_bounds = rest.1.0; values_len = rest.1.1 }
-
-pub returns-then-is_fit : goal.returns-then-is_fit
-returns-then-is_fit c =
-    let a = c.args in
-    let e = ap (λ (P : Instance). found P a.q.now a.s.now a.fixed.now) c.lay_out_ranked-numbers.ensures.read.1
-    ∙ fit_told (view a.problem) a.q.now a.s.now a.fixed.now a.values.now a.stuck.now (sym (fits_by c.before.before.before.before.before.before.before.before.before.before) ∙ c.if-is_fit.true) in
-    record { answer = ap (λ (x : Told). x.answer) e; values = c.write_forced.ensures.values ∙ ap (λ (x : Told). x.values) e; stuck = c.write_forced.ensures.stuck ∙ ap (λ (x : Told). x.stuck) e }
 
 pub returns : goal.returns
 returns c =
     let a = c.args in
-    let e = unfit_told (view a.problem) a.q.now a.s.now a.fixed.now a.values.now a.stuck.now (sym (fits_by c.before.before) ∙ c.if-is_fit.false) in
+    let e = ap (λ (P : Instance). found P a.q.now a.s.now a.fixed.now) c.lay_out_ranked-numbers.ensures.read.1
+    ∙ fit_told (view a.problem) a.q.now a.s.now a.fixed.now a.values.now a.stuck.now (sym (fits_by c.before.before.before.before.before.before.before.before.before.before) ∙ c.if-not-fits.false) in
+    record { answer = ap (λ (x : Told). x.answer) e; values = c.write_forced.ensures.values ∙ ap (λ (x : Told). x.values) e; stuck = c.write_forced.ensures.stuck ∙ ap (λ (x : Told). x.stuck) e }
+
+pub returns-then-not-fits : goal.returns-then-not-fits
+returns-then-not-fits c =
+    let a = c.args in
+    let e = unfit_told (view a.problem) a.q.now a.s.now a.fixed.now a.values.now a.stuck.now (sym (fits_by c.before.before) ∙ c.if-not-fits.true) in
     record { answer = ap (λ (x : Told). x.answer) e; values = ap (λ (x : Told). x.values) e; stuck = ap (λ (x : Told). x.stuck) e }

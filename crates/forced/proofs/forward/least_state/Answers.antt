@@ -1,7 +1,6 @@
 use mathlib.Core.Path.{◌≡◌, refl, sym, ◌∙◌, ap}
-use Prim.Native.Nat.{ℕ, ◌+◌, ◌-◌, ◌≤◌}
+use Prim.Native.Nat.{ℕ, ◌+◌, ◌-◌}
 use native.Mathlib.Omega.{arith}
-use borrow.Author.Rules.{rules}
 use Rattle.model.specs.Instance.{◌at◌}
 use Rattle.model.specs.Walk.{lesser}
 use Rattle.model.specs.ForcedWalk.{least_upto}
@@ -13,20 +12,16 @@ unfolding least_upto
 loop-i-init c =
     let from = c.args.from in
     let none : from - from ≡ 0 = omega arith in
-    (omega arith, omega arith, rw none refl)
+    (omega arith, rw none refl)
 
 pub loop-i-preserved : goal.loop-i-preserved
 loop-i-preserved c =
     let a = c.args in
-    let inv = c.loop-i.invariant in
-    let i = c.loop-i.i in (
-      omega arith,
-      omega arith,
-      c.lesser_value-found.ensures ∙ ap (λ (x : ℕ). lesser x (a.states.now at i)) inv.2 ∙ sym (upto_more a.from i a.states.now inv.0),
-    )
+    let i = c.loop-i.i in
+    (omega arith, c.lesser_value-found.ensures ∙ ap (λ (x : ℕ). lesser x (a.states.now at i)) c.loop-i.invariant.1 ∙ sym (upto_more a.from i a.states.now (omega arith)))
 
 pub returns : goal.returns
 returns c =
     let a = c.args in
     let all : c.loop-i.i - a.from ≡ a.to - a.from = omega arith in
-    c.loop-i.invariant.2 ∙ ap (λ (n : ℕ). least_upto n (λ j. a.states.now at (a.from + j))) all
+    c.loop-i.invariant.1 ∙ ap (λ (n : ℕ). least_upto n (λ j. a.states.now at (a.from + j))) all

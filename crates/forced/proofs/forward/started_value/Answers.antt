@@ -3,7 +3,6 @@ use mathlib.Core.Path.{◌≡◌, ◌∙◌, ap, ap₂}
 use mathlib.Core.Bool.{not}
 use Prim.Native.Nat.{ℕ, suc, ◌+◌, ◌-◌}
 use native.Mathlib.Omega.{arith}
-use borrow.Author.Rules.{rules}
 use lib.Dec.{eqb}
 use Rattle.model.specs.Instance.{◌at◌}
 use Rattle.model.specs.Walk.{lesser}
@@ -19,16 +18,12 @@ kept_value-starting-requires c = (
   (omega arith, rw c.least_state-early.ensures (upto_most _ _ _ (λ k. (c.requires.offs_len.1 (c.args.g.TD - 1 + k)).1))),
 )
 
-pub kept_value-starting_cold-requires : goal.kept_value-starting_cold-requires
-kept_value-starting_cold-requires c =
-    (omega (arith, c.requires.good_unit.in_range.Csc_in, c.requires.good_cost), c.requires.offs_len.1 _)
-
 pub returns : goal.returns
 returns c =
     let a = c.args in
     let g = a.g in
     let to : g.TD + g.Tcold ≡ g.TD - 1 + suc g.Tcold = omega (arith, c.requires.good_unit.in_range.TD_in) in
-    let reached = c.least_state-early.ensures ∙ ap (λ (n : ℕ). least_upto (n - (g.TD - 1)) (λ i. a.offs.now at (g.TD - 1 + i))) c.smaller.ensures in
+    let reached = c.least_state-early.ensures ∙ ap (λ (n : ℕ). least_upto (n - (g.TD - 1)) (λ i. a.offs.now at (g.TD - 1 + i))) c.min.ensures in
     let early = reached ∙ least_beyond (g.TD - 1) (g.TD + g.Tcold) (suc g.Tcold) a.t a.offs.now to c.requires.beyond in
     rw (allows_on a.mark)
     (c.lesser_value.ensures ∙ ap₂ lesser (c.kept_value-starting.ensures ∙ ap (kept (not (eqb a.mark 1)) (g.Hsc + a.on)) early) c.kept_value-starting_cold.ensures)

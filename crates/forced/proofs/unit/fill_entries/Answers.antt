@@ -1,9 +1,8 @@
 -- `fill_entries` meets its contract: the walk back is kept in a table of zeros, and the walk forward starts with nothing in its lists.
-use mathlib.Core.Path.{◌≡◌, refl, sym}
+use mathlib.Core.Path.{◌≡◌, refl}
 use mathlib.Core.Bool.{Bool, true, false, not}
 use Prim.Native.Nat.{ℕ, ◌+◌, ◌≤◌, ◌<◌}
 use native.Mathlib.Omega.{arith}
-use borrow.Author.Rules.{rules}
 use lib.Dec.{T, leb, leb→le, nleb→lt}
 use lib.ListN.{take, replicate, get_or-eq_default}
 use Rattle.model.specs.Instance.{◌at◌}
@@ -20,18 +19,12 @@ front-none n m l k = go (leb n k) (λ t. leb→le n k t) (λ t. nleb→lt n k t)
     go true f h = get_or-eq_default (take n (replicate m 0)) 0 {n = k} (omega (arith, front_length 0 n m l, f tt))
     go false f h = front_at 0 n m l k (h tt)
 
-pub keep_walk-requires : goal.keep_walk-requires
-keep_walk-requires c =
-    record { good_unit = c.requires.good_unit; good_costs = c.requires.good_costs; table_len = (refl, zeros_at 7105) }
+pub keep_walk-requires-clause-table_len : goal.keep_walk-requires-clause-table_len
+keep_walk-requires-clause-table_len c = (refl, zeros_at 7105)
 
-pub slice_bounds-fill_forward-end-2 : goal.slice_bounds-fill_forward-end-2
-slice_bounds-fill_forward-end-2 c = sym (front_length 0 _ 48 (search rules))
-
-pub slice_bounds-fill_forward-end-3 : goal.slice_bounds-fill_forward-end-3
-slice_bounds-fill_forward-end-3 c = sym (front_length 0 _ 97 (search rules))
-
-pub fill_forward-requires : goal.fill_forward-requires
-fill_forward-requires c =
+pub fill_forward-requires-clause-by_index : goal.fill_forward-requires-clause-by_index
+fill_forward-requires-clause-by_index c =
     let up = c.args.g.TU in
     let down = c.args.g.TD + c.args.g.Tcold + 1 in
-    let l : (up ≤ 48) × (down ≤ 97) = states_fit c.args.g c.requires.good_unit (refl, refl) in record { good_unit = c.requires.good_unit; good_costs = c.requires.good_costs; kept = c.keep_walk.ensures; ons_len = (front_length 0 up 48 l.0, front_length 0 down 97 l.1); by_index = (front-none up 48 l.0, front-none down 97 l.1); entries_len = c.requires.entries_len }
+    let l : (up ≤ 48) × (down ≤ 97) = states_fit c.args.g c.requires.good_unit (refl, refl) in
+    (front-none up 48 l.0, front-none down 97 l.1)

@@ -2,8 +2,7 @@
 use mathlib.Core.Path.{◌≡◌, sym, ap, subst, ◌∙◌}
 use Prim.Native.Nat.{ℕ}
 use native.Mathlib.Omega.{arith}
-use borrow.Author.Rules.{rules}
-use lib.ListN.{length, length-map}
+use lib.ListN.{length}
 use lib.Seq.{length-take-le}
 use Rattle.model.specs.Instance.{Instance}
 use Rattle.model.specs.Held.{view}
@@ -24,35 +23,35 @@ units_are s =
 -- the test is the question's
 fits_by : (c : lts.After-is_fit tie.the-claims reads.Pre reads.Post tie.handed_clauses) →
     let a = c.args in
-    c.is_fit.result ≡ fits (view a.problem) a.q.now a.s.now a.fixed.now (length a.rows.now) (length a.short.now)
+    c.is_fit-fits.result ≡ fits (view a.problem) a.q.now a.s.now a.fixed.now (length a.rows.now) (length a.short.now)
 unfolding view
 fits_by c =
     let a = c.args in
-    c.is_fit.ensures
+    c.is_fit-fits.ensures
     ∙ ap (λ (I : ℕ). fits_in a.problem.periods I a.q.now a.s.now a.fixed.now (length a.rows.now) (length a.short.now)) (units_are c.before.before.before.before.before.before)
 
-pub is_fit-requires : goal.is_fit-requires
+pub is_fit-fits-requires : goal.is_fit-fits-requires
 unfolding view
-is_fit-requires c = (c.requires.well_formed.periods_in.1, c.requires.units_fit)
+is_fit-fits-requires c = (c.requires.well_formed.periods_in.1, c.requires.units_fit)
 
 pub draft-requires : goal.draft-requires
 draft-requires c =
     let a = c.args in record {
       laid = c.lay_out_ranked-numbers.ensures.read.0;
       short_value = ap (λ (P : Instance). fits P a.q.now a.s.now a.fixed.now (length a.rows.now) (length a.short.now)) c.lay_out_ranked-numbers.ensures.read.1
-          ∙ sym (fits_by c.before.before.before.before.before.before) ∙ c.if-is_fit.true;
+          ∙ sym (fits_by c.before.before.before.before.before.before) ∙ c.if-not-fits.false;
     }
-
-pub returns-then-is_fit : goal.returns-then-is_fit
-returns-then-is_fit c =
-    let a = c.args in
-    let P = view a.problem in
-    let e = ap (λ (P : Instance). drafted P a.q.now a.s.now a.fixed.now a.rows.now a.short.now) c.lay_out_ranked-numbers.ensures.read.1
-    ∙ fit_drafted P a.q.now a.s.now a.fixed.now a.rows.now a.short.now (sym (fits_by c.before.before.before.before.before.before.before.before.before.before.before) ∙ c.if-is_fit.true) in
-    let whole = subst (λ (x : Drafted). Drafts c.draft.result c.draft.new.rows c.draft.new.short x) e (c.draft.ensures.answer, (c.draft.ensures.rows, c.draft.ensures.short)) in record { answer = whole.0; rows = whole.1.0; short = whole.1.1 }
 
 pub returns : goal.returns
 returns c =
     let a = c.args in
-    let e = unfit_drafted (view a.problem) a.q.now a.s.now a.fixed.now a.rows.now a.short.now (sym (fits_by c.before.before) ∙ c.if-is_fit.false) in
+    let P = view a.problem in
+    let e = ap (λ (P : Instance). drafted P a.q.now a.s.now a.fixed.now a.rows.now a.short.now) c.lay_out_ranked-numbers.ensures.read.1
+    ∙ fit_drafted P a.q.now a.s.now a.fixed.now a.rows.now a.short.now (sym (fits_by c.before.before.before.before.before.before.before.before.before.before.before) ∙ c.if-not-fits.false) in
+    let whole = subst (λ (x : Drafted). Drafts c.draft.result c.draft.new.rows c.draft.new.short x) e (c.draft.ensures.answer, (c.draft.ensures.rows, c.draft.ensures.short)) in record { answer = whole.0; rows = whole.1.0; short = whole.1.1 }
+
+pub returns-then-not-fits : goal.returns-then-not-fits
+returns-then-not-fits c =
+    let a = c.args in
+    let e = unfit_drafted (view a.problem) a.q.now a.s.now a.fixed.now a.rows.now a.short.now (sym (fits_by c.before.before) ∙ c.if-not-fits.true) in
     record { answer = ap (λ (x : Drafted). x.answer) e; rows = ap (λ (x : Drafted). x.rows) e; short = ap (λ (x : Drafted). x.short) e }

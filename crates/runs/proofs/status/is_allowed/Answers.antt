@@ -6,5 +6,5 @@ use Rattle.runs.proofs.status.is_allowed.Goals as goal
 pub returns-then-next : goal.returns-then-next
 returns-then-next c = rw c.if-next.true (sym (allows_on c.args.mark))
 
-pub returns : goal.returns
-returns c = rw c.if-next.false (sym (allows_off c.args.mark))
+pub returns-else-next : goal.returns-else-next
+returns-else-next c = rw c.if-next.false (sym (allows_off c.args.mark))

@@ -1,20 +1,11 @@
-use mathlib.Core.Path.{◌∙◌}
-use Prim.Native.Nat.{◌-◌, ◌≤◌, ◌<◌}
+use Prim.Native.Nat.{◌≤◌, ◌<◌}
 use native.Mathlib.Omega.{arith}
-use borrow.Author.Rules.{rules}
 use lib.ListN.{length}
-use Rattle.model.specs.Table.{values}
-use Rattle.model.proofs.LeafSizes.{all_at}
 use Rattle.walk.specs.Marks.{marks_of}
-use Rattle.walk.specs.GoingBack.{costs_of, Tables}
+use Rattle.walk.specs.GoingBack.{costs_of}
 use Rattle.walk.proofs.Rising.{tabled_rising}
-use Rattle.walk.proofs.WholeTables.{tabled_good}
-use Rattle.runs.proofs.Tables.{Begun, begun_end, begun_back, begun_all, states_fit}
+use Rattle.runs.proofs.Tables.{begun_end, begun_back}
 use Rattle.runs.proofs.table.store_back.Goals as goal
-
-pub store_states-requires : goal.store_states-requires
-store_states-requires c =
-    record { table_len = (c.requires.table_len.0, c.requires.good_costs.0.periods_in.1); ons_len_bound = states_fit c.args.g c.requires.good_unit c.requires.ons_len }
 
 pub loop-t-init : goal.loop-t-init
 loop-t-init c =
@@ -22,23 +13,11 @@ loop-t-init c =
     let begun = begun_end a.g c.requires.good_unit (length a.on.now) a.on.now a.off.now a.fixed.now c.requires.good_costs.0 in
     (omega arith, begun _ _ _ _ c.requires.ons_len c.requires.by_index c.requires.table_len c.store_states.ensures)
 
-pub step_back-requires : goal.step_back-requires
-step_back-requires c =
+pub step_back-requires-clause-rising : goal.step_back-requires-clause-rising
+step_back-requires-clause-rising c =
     let a = c.args in
-    let t = c.loop-t.t in
-    let A = c.loop-t.invariant.1.0 in
-    let C = c.requires.good_costs.0 in
-    let TU_pos : 0 < a.g.TU = c.requires.good_unit.in_range.TU_in.0 in
-    let fits = tabled_good a.g c.requires.good_unit (length a.on.now) a.on.now a.off.now a.fixed.now C t in
-    let rising = tabled_rising (length a.on.now) a.g (marks_of a.fixed.now) (costs_of a.on.now a.off.now) t in record { good_unit = c.requires.good_unit; good_cost = (all_at 1_000_000_000_000_000 a.on.now C.on_in (t - 1), all_at 1_000_000_000_000_000 a.off.now C.off_in (t - 1)); between = ((omega (arith, A.of_on.long, TU_pos), omega (arith, A.of_on.long)), omega (arith, A.of_off.long)); by_index = (fits _ _ A.of_on, fits _ _ A.of_off); rising = (rising _ _ A.of_on, rising _ _ A.of_off) }
-
-pub store_states-requires-in-loop-t : goal.store_states-requires-in-loop-t
-store_states-requires-in-loop-t c =
-    let A = c.loop-t.invariant.1.0 in
-    let B = c.step_back.ensures in
-    let within : c.loop-t.t ≤ length c.args.on.now = c.loop-t.invariant.0 in
-    let most : length c.args.on.now ≤ 48 = c.requires.good_costs.0.periods_in.1 in
-    record { table_len = (c.loop-t.invariant.1.1.long, omega arith); ons_len_bound = states_fit c.args.g c.requires.good_unit (B.of_on.same ∙ A.of_on.long, B.of_off.same ∙ A.of_off.long) }
+    let rising = tabled_rising (length a.on.now) a.g (marks_of a.fixed.now) (costs_of a.on.now a.off.now) c.loop-t.t in
+    (rising _ _ c.loop-t.invariant.1.0.of_on, rising _ _ c.loop-t.invariant.1.0.of_off)
 
 pub loop-t-preserved : goal.loop-t-preserved
 loop-t-preserved c =
@@ -48,6 +27,3 @@ loop-t-preserved c =
     let within : t ≤ length a.on.now = c.loop-t.invariant.0 in
     let begun = begun_back a.g c.requires.good_unit (length a.on.now) a.on.now a.off.now a.fixed.now c.requires.good_costs.0 t more within in
     (omega arith, begun _ _ _ _ _ _ c.loop-t.invariant.1 c.step_back.ensures c.store_states-in-loop-t.ensures)
-
-pub returns : goal.returns
-returns c = begun_all _ _ _ _ _ _ (omega arith) c.loop-t.invariant.1.1

@@ -1,23 +1,14 @@
 -- `store_back` meets its contract. The loop's invariant: before period t, the lists are the table of the periods from t on, and the
 -- rows of these periods are stored.
-use mathlib.Core.Path.{◌∙◌}
-use Prim.Native.Nat.{◌-◌, ◌≤◌, ◌<◌}
-use native.Mathlib.Omega.{arith}
-use borrow.Author.Rules.{rules}
+use Prim.Native.Nat.{◌≤◌}
 use lib.ListN.{length}
 use Rattle.model.specs.Table.{values}
-use Rattle.model.proofs.LeafSizes.{all_at}
 use Rattle.walk.specs.Marks.{marks_of}
 use Rattle.walk.specs.GoingBack.{costs_of, Tables}
-use Rattle.walk.proofs.Rising.{tabled_rising}
-use Rattle.walk.proofs.WholeTables.{tabled_good}
-use Rattle.runs.proofs.Tables.{Begun, begun_end, begun_back, begun_all, states_fit}
+use Rattle.runs.proofs.Tables.{Begun}
 use Rattle.runs.proofs.table.store_back.Given as goal
 
 abbrev pub invariant-loop-t : goal.invariant-loop-t
 invariant-loop-t l = let m = marks_of l.fixed in
     let w = costs_of l.on l.off in
     (l.t ≤ length l.on) × (Tables l.g (values (length l.on) l.g m w l.t) l.ons l.offs × Begun (length l.on) l.g m w l.t l.table)
-
-abbrev pub decreases-loop-t : goal.decreases-loop-t
-decreases-loop-t l = l.t

@@ -1,7 +1,6 @@
 -- `write_walk` meets its contract: what the table keeps for the state before period 1 is the walk's value, and the row is written over that table.
 use mathlib.Core.Path.{◌≡◌, refl, sym, subst, ◌∙◌}
 use Prim.Native.Nat.{ℕ}
-use borrow.Author.Rules.{rules}
 use lib.ListN.{length}
 use Rattle.model.specs.Walk.{walk}
 use Rattle.walk.specs.Marks.{marks_of}
@@ -29,19 +28,13 @@ found c =
     let a = c.args in
     c.kept_at-found.ensures ∙ kept_first (length a.q.now) a.g c.requires.good_unit (marks_of a.fixed.now) (costs_of a.on.now a.off.now) c.keep_walk.new.table (kept c.before.before.before)
 
-pub keep_walk-requires : goal.keep_walk-requires
-keep_walk-requires c =
-    let C = c.requires.good_costs.0 in
-    record { good_unit = c.requires.good_unit; good_costs = (rw C.on_long C, c.requires.good_costs.1 ∙ sym C.on_long); table_len = (refl, zeros_at 7105) }
+pub keep_walk-requires-clause-table_len : goal.keep_walk-requires-clause-table_len
+keep_walk-requires-clause-table_len c = (refl, zeros_at 7105)
 
 pub returns-then-found-eq0 : goal.returns-then-found-eq0
 returns-then-found-eq0 c =
     let e = sym c.if-found-eq0.true ∙ found c.before.before in
     record { value = e; row = row_missing _ _ _ (sym e) }
-
-pub write_row-requires : goal.write_row-requires
-write_row-requires c =
-    record { good_unit = c.requires.good_unit; all = c.requires.all; good_costs = c.requires.good_costs; kept = kept c.before.before.before.before.before.before.before; row_len = c.requires.row_len }
 
 pub returns : goal.returns
 returns c =
