@@ -1,5 +1,5 @@
 -- A loop that stores the elements of a list one by one pastes its first ones at the front (`paste` of lib.Seq); when it ends, all of them.
-use Rattle.std.proofs.Common.{◌≡◌, ℕ, ◌+◌, ◌<◌, ◌≤◌, List, [], ◌∷◌, ◌++◌, length, get_or, take, drop, set, sym, refl, ap, ◌∙◌, append-nil, zero-add, add-one, arith, drop_of_length-le, take_all}
+use Rattle.std.proofs.Common.{◌≡◌, ℕ, ◌+◌, ◌<◌, ◌≤◌, List, ◌++◌, length, get_or, set, sym, ap, ◌∙◌, append-nil, add-one, arith, drop_of_length-le, take_all}
 use lib.Seq.{paste, paste-suc}
 use Rattle.writer.specs.Written.{over}
 

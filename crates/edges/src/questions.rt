@@ -12,10 +12,7 @@ use docket::taking::TakenAnswer;
 fn status_of(b: u8) -> u8
     ensures { result ≡ status_of b }
 {
-    if b < 48 {
-        return b + 208;
-    }
-    b - 48
+    b.wrapping_sub(b'0')
 }
 
 // Puts the statuses that s stands for at the front of buf.
@@ -23,10 +20,8 @@ fn put_statuses(buf: &mut [u8], s: &[u8])
     requires { length s.now ≤ length buf.old }
     ensures { buf.new ≡ over (map status_of s.now) buf.old }
 {
-    let mut i = 0;
-    while i < s.len() {
-        buf[i] = status_of(s[i]);
-        i += 1;
+    for (i, b) in s.iter().enumerate() {
+        buf[i] = status_of(*b);
     }
 }
 
@@ -35,10 +30,9 @@ fn ask_in(d: Docket, period: usize, most: usize, s: &[u8]) -> TakenAnswer
     requires { length s.now ≤ 1537 }
     ensures { result ≡ taken_of d period most (map status_of s.now) }
 {
-    let mut room = [0u8; 1537];
-    let n = s.len();
+    let mut room = [0; 1537];
     put_statuses(&mut room, s);
-    d.units_taken(period, most, &room[..n])
+    d.units_taken(period, most, &room[..s.len()])
 }
 
 // The answer. Of a longer text 1,537 bytes are asked about, which are too many as well: no problem has more than 1,536 statuses.

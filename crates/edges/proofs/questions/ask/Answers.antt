@@ -1,5 +1,5 @@
 -- `ask` meets its contract: what is cut off a text that is too long does not count.
-use Rattle.std.proofs.Common.{ℕ, List, map, length, ap, ◌∙◌, arith, length-take, rules}
+use Rattle.std.proofs.Common.{ℕ, List, map, length, ap, ◌∙◌, arith, length-take}
 use Rattle.docket.specs.Taking.{taken_of}
 use Rattle.edges.specs.Statuses.{status_of}
 use Rattle.edges.proofs.LongTexts.{cut_alike}

@@ -1,9 +1,7 @@
 -- `put_statuses` meets its contract. The loop's invariant: the statuses that the first i of s stand for are pasted at the front.
-use Rattle.std.proofs.Common.{◌≡◌, ℕ, ◌-◌, ◌≤◌, List, map, length, set, sym, ap, ◌∙◌, arith, length-set, rules}
-use lib.ListN.{length-map, get_or-map}
-use lib.Seq.{paste, paste-zero}
+use Rattle.std.proofs.Common.{◌≡◌, ◌-◌, ◌≤◌, map, length}
+use lib.Seq.{paste}
 use Rattle.edges.specs.Statuses.{status_of}
-use Rattle.edges.proofs.Copies.{paste_on, paste_end}
 use Rattle.edges.proofs.questions.put_statuses.Given as goal
 
 abbrev pub invariant-loop-i : goal.invariant-loop-i

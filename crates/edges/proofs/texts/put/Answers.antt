@@ -1,6 +1,6 @@
-use Rattle.std.proofs.Common.{◌≡◌, ℕ, ◌-◌, ◌≤◌, List, map, length, set, sym, ap, ◌∙◌, arith, length-set, rules}
+use Rattle.std.proofs.Common.{ℕ, map, set, sym, ap, ◌∙◌, arith, length-set}
 use lib.ListN.{length-map, get_or-map}
-use lib.Seq.{paste, paste-zero}
+use lib.Seq.{paste-zero}
 use Rattle.edges.specs.Texts.{byte_of}
 use Rattle.edges.proofs.Copies.{paste_on, paste_end}
 use Rattle.edges.proofs.texts.put.Goals as goal
