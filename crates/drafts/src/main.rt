@@ -10,6 +10,7 @@ use std::fmt::{self, Write};
 const STDOUT: i32 = 1;
 
 // Standard output. What it does not take is let go, so that printing cannot fail; printing by the runtime can, and rests on more of the C library than `write`.
+// What this program has like crates/entries stays in both: the crates that both stand on are linked into hosts, and print nothing.
 #[derive(Drop)]
 struct Stdout;
 

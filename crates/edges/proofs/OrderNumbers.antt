@@ -1,6 +1,6 @@
 -- Laws of the reader of numbers. Where the bytes from i on, after digits of value v, say of all digits and of the value what the whole says,
 -- one digit more keeps that, and the end and a byte that does not fit decide.
-use Rattle.std.proofs.Common.{◌≡◌, ℕ, suc, ◌+◌, ◌-◌, ◌*◌, ◌<◌, ◌≤◌, Bool, true, false, cond, ◌&&◌, ltb, Some, None, List, [], ◌∷◌, length, get_or, drop, refl, ap, ◌∙◌, add-one, arith, drop_of_length-le, drop-cons, ltb-false, le-ltb, lt-ltb}
+use Rattle.std.proofs.Common.{◌≡◌, ℕ, suc, ◌+◌, ◌-◌, ◌*◌, ◌<◌, ◌≤◌, Bool, true, false, cond, ◌&&◌, ltb, Some, None, List, [], ◌∷◌, length, get_or, drop, refl, ap, ◌∙◌, arith, drop_of_length-le, drop-cons, ltb-false, le-ltb, lt-ltb}
 use Rattle.decimal.specs.Decimal.{is_digit, all_digits, value_of}
 use Rattle.edges.specs.Numbers.{limit, value_below}
 
@@ -24,9 +24,6 @@ pub record Left (s : List ℕ) (i v : ℕ) : Type 0 where
   pub all : all_digits s ≡ all_digits (drop i s)
   pub value : value_of 0 s ≡ value_of v (drop i s)
 
-pub left_all : (s : List ℕ) → Left s 0 0
-left_all s = record { all = refl; value = refl }
-
 module _ (s : List ℕ) (i v : ℕ) (l : Left s i v) where
   pub left_end : length s ≤ i → v < limit → Some v ≡ value_below s
   unfolding value_below
@@ -36,14 +33,8 @@ module _ (s : List ℕ) (i v : ℕ) (l : Left s i v) where
       rw (all, value, lt-ltb v limit k)
 
   module _ (within : i < length s) where
-    pub left_on : is_digit (get_or s i 0) ≡ true → Left s (i + 1) (v * 10 + (get_or s i 0 - 48))
-    left_on d = record {
-      all = l.all ∙ ap all_digits (drop-cons s i 0 within) ∙ rw (d, add-one);
-      value = l.value ∙ ap (value_of v) (drop-cons s i 0 within) ∙ rw add-one;
-    }
-
     -- a byte that is no digit, or digits that are too many
-    pub left_off : (is_digit (get_or s i 0) && ltb (v * 10 + (get_or s i 0 - 48)) limit) ≡ false → None ≡ value_below s
+    left_off : (is_digit (get_or s i 0) && ltb (v * 10 + (get_or s i 0 - 48)) limit) ≡ false → None ≡ value_below s
     unfolding value_below
     left_off e =
         rw (l.all ∙ ap all_digits (drop-cons s i 0 within), l.value ∙ ap (value_of v) (drop-cons s i 0 within))

@@ -37,15 +37,15 @@ impl Dockets {
     }
 
     // Keeps the docket in hand at a place.
-    fn keep(&mut self, place: u64) {
-        if let Some(kept) = self.kept.get_mut(place as usize) {
+    fn keep(&mut self, place: usize) {
+        if let Some(kept) = self.kept.get_mut(place) {
             *kept = self.in_hand;
         }
     }
 
     // Takes the docket that is kept at a place in hand.
-    fn take(&mut self, place: u64) {
-        if let Some(kept) = self.kept.get(place as usize) {
+    fn take(&mut self, place: usize) {
+        if let Some(kept) = self.kept.get(place) {
             self.in_hand = *kept;
         }
     }
@@ -55,7 +55,7 @@ impl Dockets {
         let docket = &mut self.in_hand;
         match change {
             Change::Known(known) => docket.known = known,
-            Change::Periods(n) => docket.problem.periods = n as usize,
+            Change::Periods(n) => docket.problem.periods = n,
             Change::Outputs(output) => docket.rows = [output; 1536],
             Change::Cost(cost) => docket.held.cost = HeldCost::Number(cost),
             Change::Bound(bound) => docket.held.bound = HeldBound::Number(bound),
@@ -69,9 +69,9 @@ impl Dockets {
             Order::Give => {
                 let _ = self.lodge(text);
             }
-            Order::Ask { size, at, name } => ask(name, self.in_hand, size as usize, at as usize),
+            Order::Ask { size, at, name } => ask(name, self.in_hand, size, at),
             Order::Units { period, most, name } => {
-                let taken = questions::ask(self.in_hand, period as usize, most as usize, text);
+                let taken = questions::ask(self.in_hand, period, most, text);
                 show::print(name, Shown(&taken));
             }
             Order::Fresh => self.in_hand = Docket::fresh(),
@@ -83,7 +83,7 @@ impl Dockets {
     }
 }
 
-// Asks for a report in a buffer of so many letters, and prints the line of the case.
+// Asks for a report in a buffer of so many letters, 160 at most, and prints the line of the case.
 fn ask(name: &[u8], docket: Docket, size: usize, at: usize) {
     let mut letters = [0; 160];
     for (place, letter) in letters.iter_mut().zip((b'a'..=b'z').cycle()) {

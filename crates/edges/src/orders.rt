@@ -1,5 +1,5 @@
 // The orders, one to a line, as they are read.
-use crate::words::{number, split};
+use crate::words::{self, split};
 use docket::held::{BoundBy, CostBy};
 
 // An order with what it names. The docket of `keep` and of `take` is named by its place among those that are kept.
@@ -9,25 +9,25 @@ pub enum Order<'a> {
     Text(&'a [u8]),
     More(&'a [u8]),
     Fill {
-        size: u64,
+        size: usize,
         byte: u8,
     },
-    Cut(u64),
+    Cut(usize),
     Lodge(&'a [u8]),
     Give,
     Ask {
-        size: u64,
-        at: u64,
+        size: usize,
+        at: usize,
         name: &'a [u8],
     },
     Units {
-        period: u64,
-        most: u64,
+        period: usize,
+        most: usize,
         name: &'a [u8],
     },
     Fresh,
-    Keep(u64),
-    Take(u64),
+    Keep(usize),
+    Take(usize),
     Set(Change),
 }
 
@@ -35,7 +35,7 @@ pub enum Order<'a> {
 #[derive(Clone, Copy)]
 pub enum Change {
     Known(bool),
-    Periods(u64),
+    Periods(usize),
     Outputs(u16),
     Cost(CostBy),
     Bound(BoundBy),
@@ -73,11 +73,23 @@ fn read_rest<'a>(word: &[u8], rest: &'a [u8]) -> Option<Order<'a>> {
 
 // A name or bytes, of which there is at least one.
 fn named(s: &[u8]) -> Option<&[u8]> {
-    if s.is_empty() { None } else { Some(s) }
+    (!s.is_empty()).then_some(s)
 }
 
-// A number, a space, and what follows.
-fn number_then(s: &[u8]) -> Option<(u64, &[u8])> {
+// A number that fits its type.
+fn number<N: TryFrom<u64>>(s: &[u8]) -> Option<N>
+where
+    N::Error: Drop,
+{
+    N::try_from(words::number(s)?).ok()
+}
+
+// A number that fits its type, a space, and what follows.
+fn number_then<N: TryFrom<u64>>(s: &[u8]) -> Option<(N, &[u8])>
+where
+    N::Error: Drop,
+    N: Drop,
+{
     let (word, rest) = split(s);
     Some((number(word)?, rest?))
 }
@@ -110,7 +122,7 @@ fn read_units(s: &[u8]) -> Option<Order<'_>> {
 }
 
 // The place of a docket that is kept under 1 to 7.
-fn read_place(s: &[u8]) -> Option<u64> {
+fn read_place(s: &[u8]) -> Option<usize> {
     match number(s)? {
         n @ 1..=7 => Some(n - 1),
         _ => None,
@@ -124,7 +136,7 @@ fn read_change(s: &[u8]) -> Option<Change> {
     match field {
         b"known" => read_known(value),
         b"periods" => Some(Change::Periods(number(value)?)),
-        b"outputs" => Some(Change::Outputs(u16::try_from(number(value)?).ok()?)),
+        b"outputs" => Some(Change::Outputs(number(value)?)),
         b"cost" => read_cost(value),
         b"bound" => read_bound(value),
         _ => None,
@@ -133,7 +145,7 @@ fn read_change(s: &[u8]) -> Option<Change> {
 
 // 0 or 1.
 fn read_known(s: &[u8]) -> Option<Change> {
-    match number(s)? {
+    match number::<u64>(s)? {
         0 => Some(Change::Known(false)),
         1 => Some(Change::Known(true)),
         _ => None,
@@ -152,7 +164,7 @@ fn read_bound(s: &[u8]) -> Option<Change> {
     let (word, rest) = split(s);
     let value = match word.split_first() {
         Some((b'-', digits)) => minus(number(digits)?)?,
-        _ => i64::try_from(number(word)?).ok()?,
+        _ => number(word)?,
     };
     let writer = number(rest?)?;
     Some(Change::Bound(BoundBy { value, writer }))

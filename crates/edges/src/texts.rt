@@ -1,5 +1,5 @@
 // The text that orders make: the front of a lent array, of so many bytes as its size says.
-ghost use Rattle.std.specs.Prelude.{◌≡◌, ◌≤◌, map, length, take};
+ghost use Rattle.std.specs.Prelude.{◌≡◌, ℕ, ◌<◌, ◌≤◌, map, length, take};
 ghost use Rattle.writer.specs.Written.{over};
 ghost use Rattle.edges.specs.Texts.{byte_of};
 
@@ -15,13 +15,14 @@ fn byte_of(b: u8) -> u8
     }
 }
 
-// Puts the bytes that s stands for at the front of buf.
-fn put(buf: &mut [u8], s: &[u8])
-    requires { length s.now ≤ length buf.old }
-    ensures { buf.new ≡ over (map byte_of s.now) buf.old }
+// Puts what f makes of the bytes of s at the front of buf.
+pub fn put<F: Fn(u8) -> u8>(buf: &mut [u8], s: &[u8], f: F)
+    requires room { length s.now ≤ length buf.old }
+    requires callable { F.IsAlwaysCallable f }
+    ensures { (g : ℕ → ℕ) → ((b : ℕ) (r : ℕ) → b < 256 → F.post f b r → r ≡ g b) → buf.new ≡ over (map g s.now) buf.old }
 {
     for (i, b) in s.iter().enumerate() {
-        buf[i] = byte_of(*b);
+        buf[i] = f(*b);
     }
 }
 
@@ -35,7 +36,7 @@ pub fn front(text: &[u8], size: usize) -> &[u8]
 // The text's size, where it goes on after its first `size` bytes with those that s stands for.
 fn more(size: usize, s: &[u8], text: &mut [u8]) -> Option<usize> {
     let end = size.checked_add(s.len())?;
-    put(text.get_mut(size..end)?, s);
+    put(text.get_mut(size..end)?, s, byte_of);
     Some(end)
 }
 
@@ -50,9 +51,8 @@ pub fn run(order: Order<'_>, size: usize, text: &mut [u8]) -> Option<usize> {
     match order {
         Order::Text(s) => more(0, s, text),
         Order::More(s) => more(size, s, text),
-        Order::Fill { size: to, byte } => fill(size, to as usize, byte, text),
-        Order::Cut(to) if to as usize <= size => Some(to as usize),
-        Order::Cut(_) => None,
+        Order::Fill { size: to, byte } => fill(size, to, byte, text),
+        Order::Cut(to) => (to <= size).then_some(to),
         _ => Some(size),
     }
 }
