@@ -17,10 +17,10 @@ mod show;
 mod texts;
 mod words;
 
-// The file number of standard input.
+// The file number of standard input. It is read by its number: by the runtime that can fail, and rests on more of the C library than `read`.
 const STDIN: i32 = 0;
 
-// Room for N bytes: zeros.
+// Room for N bytes: zeros. Written in `main` at its length, such an array is too long for the check.
 fn room<const N: usize>() -> [u8; N]
     ensures { N ≡ length result }
 {

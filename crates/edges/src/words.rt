@@ -30,6 +30,7 @@ fn is_canonical(s: &[u8]) -> bool
 }
 
 // The value of the digits that s is, where it fits 64 bits.
+#[tactic(auto, using(crate::proofs::OrderNumbers::left_end, crate::proofs::OrderNumbers::left_large, crate::proofs::OrderNumbers::left_other))]
 fn value(s: &[u8]) -> Option<u64>
     ensures { result ≡ value_below s.now }
 {

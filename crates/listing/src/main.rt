@@ -6,13 +6,14 @@ ghost use Rattle.std.specs.Prelude.{◌≡◌, length};
 
 use list::Listed;
 
-// The file number of standard input.
+// The file number of standard input. It is read by its number, and what is listed is written so: by the runtime both can fail, and rest on more of the C library than `read` and
+// `write`.
 const STDIN: i32 = 0;
 
 // The file number of standard output.
 const STDOUT: i32 = 1;
 
-// Room for N bytes: zeros.
+// Room for N bytes: zeros. Written in `main` at its length, such an array is too long for the check.
 fn room<const N: usize>() -> [u8; N]
     ensures { N ≡ length result }
 {
