@@ -1,5 +1,5 @@
 -- A loop that stores the elements of a list one by one pastes its first ones at the front (`paste` of lib.Seq); when it ends, all of them.
-use Rattle.std.proofs.Common.{◌≡◌, ℕ, ◌+◌, ◌<◌, ◌≤◌, List, [], ◌∷◌, ◌++◌, length, get_or, take, drop, set, sym, refl, ap, ◌∙◌, append-nil, zero-add, add-one, arith, drop_of_length-le, take_all}
+use Rattle.std.proofs.Common.{◌≡◌, ℕ, ◌+◌, ◌<◌, List, length, get_or, set, sym, ap, ◌∙◌, add-one, arith, take_all}
 use lib.Seq.{paste, paste-suc}
 use Rattle.writer.specs.Written.{over}
 
@@ -16,7 +16,3 @@ pub paste_end : (d s : List ℕ) (n : ℕ) → n ≡ length s → paste d 0 s n 
 paste_end d s n e =
     let z : 0 + n ≡ length s = omega arith in
     rw (z, take_all n s (omega arith))
-
--- as many as there are places
-pub paste_full : (d s : List ℕ) (n : ℕ) → n ≡ length s → length d ≤ n → paste d 0 s n ≡ s
-paste_full d s n e h = paste_end d s n e ∙ ap (λ (r : List ℕ). s ++ r) (drop_of_length-le d {i = length s} (omega arith)) ∙ append-nil s

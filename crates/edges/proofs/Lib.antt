@@ -1,5 +1,4 @@
 -- Laws that the proofs of the functions cite.
-pub mod Parting
 pub mod OrderNumbers
 pub mod Copies
 pub mod LongTexts

@@ -8,6 +8,7 @@
 ghost use Rattle.std.specs.Prelude.{◌≡◌, length};
 
 use crate::dockets::Dockets;
+use crate::orders::Order;
 
 mod dockets;
 mod orders;
@@ -16,46 +17,44 @@ mod show;
 mod texts;
 mod words;
 
-// The file number of standard input.
+// The file number of standard input. It is read by its number: by the runtime that can fail, and rests on more of the C library than `read`.
 const STDIN: i32 = 0;
 
-// Zeros: room for the orders, and one byte more, which tells that there are too many.
-fn input_room() -> [u8; 65537]
-    ensures { 65537 ≡ length result }
+// Room for N bytes: zeros. Written in `main` at its length, such an array is too long for the check.
+fn room<const N: usize>() -> [u8; N]
+    ensures { N ≡ length result }
 {
-    [0; 65537]
+    [0; N]
 }
 
-// Zeros: room for a text that is one byte too long.
-fn text_room() -> [u8; 1048577]
-    ensures { 1048577 ≡ length result }
-{
-    [0; 1048577]
+// The order that the line is, if it is one that fits the text, and the text's size after it.
+fn read<'a>(line: &'a [u8], size: usize, text: &mut [u8]) -> Option<(Order<'a>, usize)> {
+    let order = orders::read(line)?;
+    let size = texts::run(order, size, text)?;
+    Some((order, size))
 }
 
 // Carries out the orders.
 fn run(input: &[u8], text: &mut [u8]) {
-    let mut all = Dockets::fresh();
+    let mut dockets = Dockets::fresh();
     let mut size = 0;
-    let mut at = 0;
-    while at < input.len() {
-        let end = words::find(input, at, 10);
-        let line = &input[at..end];
-        let order = orders::read(line);
-        size = texts::run(order, size, line, text);
-        all = dockets::run(all, order, size, line, text);
-        if end == input.len() {
-            return;
+    for line in input.split(|b| *b == b'\n') {
+        if let Some((order, after)) = read(line, size, text) {
+            size = after;
+            dockets.run(order, texts::front(text, size));
+        } else {
+            show::misread(line);
         }
-        at = end + 1;
     }
 }
 
 fn main() {
-    let mut input = input_room();
-    let mut text = text_room();
+    // the orders, and one byte more, which tells that there are too many
+    let mut input = room::<65_537>();
+    // a text that is one byte too long
+    let mut text = room::<1_048_577>();
     let n = io::read_full(STDIN, &mut input);
-    if n == 65537 {
+    if n == input.len() {
         show::misread(b"more than 65536 bytes");
     }
     run(&input[..n], &mut text);

@@ -1,161 +1,180 @@
-// The orders, one to a line. An order's code is its place among what lines begin with (`read`): 0 to 4 have no number, 5 to 11 one, 12 to
-// 16 two, and 17 is no order.
-use crate::words::Numeral;
-use crate::{show, words};
+// The orders, one to a line, as they are read.
+use crate::words::{self, split};
+use docket::held::{BoundBy, CostBy};
 
-// A line as it is read: its code, its numbers, and where what follows its beginning starts.
+// An order with what it names. The docket of `keep` and of `take` is named by its place among those that are kept.
 #[derive(Clone, Copy)]
-pub struct Order {
-    pub code: usize,
-    pub a: u64,
-    pub b: u64,
-    pub from: usize,
+pub enum Order<'a> {
+    Note,
+    Text(&'a [u8]),
+    More(&'a [u8]),
+    Fill {
+        size: usize,
+        byte: u8,
+    },
+    Cut(usize),
+    Lodge(&'a [u8]),
+    Give,
+    Ask {
+        size: usize,
+        at: usize,
+        name: &'a [u8],
+    },
+    Units {
+        period: usize,
+        most: usize,
+        name: &'a [u8],
+    },
+    Fresh,
+    Keep(usize),
+    Take(usize),
+    Set(Change),
 }
 
-// The order without numbers.
-fn bare(code: usize, from: usize) -> Order {
-    Order {
-        code,
-        a: 0,
-        b: 0,
-        from,
+// A field of the docket in hand with its new value: `outputs` are all the same.
+#[derive(Clone, Copy)]
+pub enum Change {
+    Known(bool),
+    Periods(usize),
+    Outputs(u16),
+    Cost(CostBy),
+    Bound(BoundBy),
+}
+
+// The order that the line is, if it is one; a note is an empty line or a comment.
+pub fn read(line: &[u8]) -> Option<Order<'_>> {
+    if matches!(line, [] | [b'#', ..]) {
+        return Some(Order::Note);
+    }
+    match split(line) {
+        (b"give", None) => Some(Order::Give),
+        (b"fresh", None) => Some(Order::Fresh),
+        (word, Some(rest)) => read_rest(word, rest),
+        _ => None,
     }
 }
 
-// No order; prints the line.
-fn misread(line: &[u8]) -> Order {
-    show::misread(line);
-    bare(17, 0)
-}
-
-// Which of the beginnings, each ended by a slash, the line has.
-fn begin(line: &[u8], beginnings: &[u8]) -> Order {
-    let mut at = 0;
-    let mut code = 0;
-    while at < beginnings.len() {
-        let end = words::find(beginnings, at, 47);
-        if text::starts(line, 0, &beginnings[at..end]) {
-            return bare(code, end - at);
-        }
-        if end == beginnings.len() {
-            return bare(17, 0);
-        }
-        at = end + 1;
-        code += 1;
-    }
-    bare(17, 0)
-}
-
-// The largest first number that an order may have.
-fn most(code: usize) -> u64 {
-    match code {
-        6 | 7 => 7,
-        8 => 1,
-        10 => 65_535,
-        13 => 9_223_372_036_854_775_808,
-        14 => 9_223_372_036_854_775_807,
-        15 => 160,
-        _ => 18_446_744_073_709_551_615,
+// The order that begins with this word and a space, with what follows.
+fn read_rest<'a>(word: &[u8], rest: &'a [u8]) -> Option<Order<'a>> {
+    match word {
+        b"text" => Some(Order::Text(named(rest)?)),
+        b"more" => Some(Order::More(named(rest)?)),
+        b"fill" => read_fill(rest),
+        b"cut" => Some(Order::Cut(number(rest)?)),
+        b"lodge" => Some(Order::Lodge(named(rest)?)),
+        b"ask" => read_ask(rest),
+        b"units" => read_units(rest),
+        b"keep" => Some(Order::Keep(read_place(rest)?)),
+        b"take" => Some(Order::Take(read_place(rest)?)),
+        b"set" => Some(Order::Set(read_change(rest)?)),
+        _ => None,
     }
 }
 
-// The smallest first number that an order may have.
-fn least(code: usize) -> u64 {
-    match code {
-        6 | 7 | 13 => 1,
-        _ => 0,
+// A name or bytes, of which there is at least one.
+fn named(s: &[u8]) -> Option<&[u8]> {
+    (!s.is_empty()).then_some(s)
+}
+
+// A number that fits its type.
+fn number<N: TryFrom<u64>>(s: &[u8]) -> Option<N>
+where
+    N::Error: Drop,
+{
+    N::try_from(words::number(s)?).ok()
+}
+
+// A number that fits its type, a space, and what follows.
+fn number_then<N: TryFrom<u64>>(s: &[u8]) -> Option<(N, &[u8])>
+where
+    N::Error: Drop,
+    N: Drop,
+{
+    let (word, rest) = split(s);
+    Some((number(word)?, rest?))
+}
+
+// A size and a byte.
+fn read_fill(s: &[u8]) -> Option<Order<'static>> {
+    match number_then(s)? {
+        (size, [byte]) => Some(Order::Fill { size, byte: *byte }),
+        _ => None,
     }
 }
 
-// Whether s is one word, with no space after it.
-fn is_word(s: &[u8]) -> bool {
-    let word = words::first(s);
-    word.len() == s.len()
+// A size of 160 at most, a place and a name.
+fn read_ask(s: &[u8]) -> Option<Order<'_>> {
+    let (size, s) = number_then(s)?;
+    let (at, s) = number_then(s)?;
+    let name = named(s)?;
+    if size > 160 {
+        return None;
+    }
+    Some(Order::Ask { size, at, name })
 }
 
-// The order with its second number, which stands first in s, and is the last word but of an order that takes a name.
-fn with_second(line: &[u8], code: usize, a: u64, from: usize, s: &[u8]) -> Order {
-    let Numeral::Value(b) = words::number(words::first(s)) else {
-        return misread(line);
+// A period, an upper count and a name.
+fn read_units(s: &[u8]) -> Option<Order<'_>> {
+    let (period, s) = number_then(s)?;
+    let (most, s) = number_then(s)?;
+    let name = named(s)?;
+    Some(Order::Units { period, most, name })
+}
+
+// The place of a docket that is kept under 1 to 7.
+fn read_place(s: &[u8]) -> Option<usize> {
+    match number(s)? {
+        n @ 1..=7 => Some(n - 1),
+        _ => None,
+    }
+}
+
+// A field and its value.
+fn read_change(s: &[u8]) -> Option<Change> {
+    let (field, rest) = split(s);
+    let value = rest?;
+    match field {
+        b"known" => read_known(value),
+        b"periods" => Some(Change::Periods(number(value)?)),
+        b"outputs" => Some(Change::Outputs(number(value)?)),
+        b"cost" => read_cost(value),
+        b"bound" => read_bound(value),
+        _ => None,
+    }
+}
+
+// 0 or 1.
+fn read_known(s: &[u8]) -> Option<Change> {
+    match number::<u64>(s)? {
+        0 => Some(Change::Known(false)),
+        1 => Some(Change::Known(true)),
+        _ => None,
+    }
+}
+
+// A cost and its writer.
+fn read_cost(s: &[u8]) -> Option<Change> {
+    let (cost, s) = number_then(s)?;
+    let writer = number(s)?;
+    Some(Change::Cost(CostBy { cost, writer }))
+}
+
+// A bound, with a minus or without, and its writer.
+fn read_bound(s: &[u8]) -> Option<Change> {
+    let (word, rest) = split(s);
+    let value = match word.split_first() {
+        Some((b'-', digits)) => minus(number(digits)?)?,
+        _ => number(word)?,
     };
-    let name = words::rest(s);
-    if code < 15 {
-        if !is_word(s) {
-            return misread(line);
-        }
-    } else if name.len() == 0 {
-        return misread(line);
-    }
-    Order { code, a, b, from }
+    let writer = number(rest?)?;
+    Some(Change::Bound(BoundBy { value, writer }))
 }
 
-// The order with its numbers, which start at `from`; one is the last word but of an order that takes a byte.
-fn with_numbers(line: &[u8], code: usize, from: usize) -> Order {
-    let s = words::after(line, from);
-    let Numeral::Value(a) = words::number(words::first(s)) else {
-        return misread(line);
-    };
-    if most(code) < a {
-        return misread(line);
+// -n, where it fits 64 bits and n is not 0.
+fn minus(n: u64) -> Option<i64> {
+    if n == 0 {
+        None
+    } else {
+        0i64.checked_sub_unsigned(n)
     }
-    if a < least(code) {
-        return misread(line);
-    }
-    if 11 < code {
-        return with_second(line, code, a, from, words::rest(s));
-    }
-    if code < 11 {
-        if !is_word(s) {
-            return misread(line);
-        }
-    }
-    Order {
-        code,
-        a,
-        b: 0,
-        from,
-    }
-}
-
-// Whether the line is empty or a comment.
-fn is_note(line: &[u8]) -> bool {
-    if line.len() == 0 {
-        return true;
-    }
-    line[0] == 35
-}
-
-// The order that the line is.
-pub fn read(line: &[u8]) -> Order {
-    if is_note(line) {
-        return bare(17, 0);
-    }
-    let order = begin(
-        line,
-        b"lodge /text /more /give/fresh/cut /keep /take /set known /set periods /set outputs /fill /set cost /set bound -/set bound /ask /units /",
-    );
-    let code = order.code;
-    let from = order.from;
-    match code {
-        0 | 1 | 2 => followed(line, order),
-        3 | 4 => whole(line, order),
-        17 => misread(line),
-        _ => with_numbers(line, code, from),
-    }
-}
-
-// The order where something follows its beginning.
-fn followed(line: &[u8], order: Order) -> Order {
-    if order.from == line.len() {
-        return misread(line);
-    }
-    order
-}
-
-// The order where nothing follows its beginning.
-fn whole(line: &[u8], order: Order) -> Order {
-    if order.from == line.len() {
-        return order;
-    }
-    misread(line)
 }

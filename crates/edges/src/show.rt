@@ -1,283 +1,158 @@
 // The lines that the program prints.
-ghost use Rattle.std.specs.Prelude.{◌≡◌, ◌≤◌};
-ghost use Rattle.docket.specs.Lodging.{lodge_of};
-
 use answer::Answer;
 use docket::held::{HeldBound, HeldCost};
 use docket::taking::TakenAnswer;
 use docket::{Docket, Lodged};
-use leaves::short::Taken;
-use model::arrays::Problem;
-use model::figures::TreeFigures;
+use model::figures::{Bound, TreeFigures};
 use refusal::Refusal;
 use report::ReportAnswer;
-use writer::Figure;
+use std::fmt::{self, Write};
 
 // The file number of standard output.
 const STDOUT: i32 = 1;
 
-// Prints bytes as they are.
-pub fn print(s: &[u8]) {
-    io::write_all(STDOUT, s);
+// Standard output. What it does not take is let go, so that printing cannot fail; printing by the runtime can, and rests on more of the C library than `write`.
+#[derive(Drop)]
+struct Stdout;
+
+impl fmt::Write for Stdout {
+    fn write_str(&mut self, s: &str) -> fmt::Result {
+        io::write_all(STDOUT, s.as_bytes());
+        Ok(())
+    }
 }
 
 // Prints a line that is no order.
 pub fn misread(line: &[u8]) {
-    print(b"not understood: ");
-    print(line);
-    print(b"\n");
+    for part in [b"not understood: ".as_slice(), line, b"\n"] {
+        io::write_all(STDOUT, part);
+    }
 }
 
-// Prints a number.
-fn print_number(n: u64) {
-    io::print_decimal(STDOUT, n);
+// Prints a line: the case's name, whose bytes need not be text, and what is shown.
+pub fn print(name: &[u8], shown: impl fmt::Display + Drop) {
+    io::write_all(STDOUT, name);
+    let _ = writeln!(Stdout, ": {shown}");
 }
 
-// Prints a comma and a number.
-fn print_value(n: u64) {
-    print(b",");
-    print_number(n);
+// A value as a line shows it.
+#[derive(Drop)]
+pub struct Shown<'a, T>(pub &'a T);
+
+// The answer to a report that was asked for, and the buffer after it.
+#[derive(Drop)]
+pub struct Filled<'a> {
+    pub answer: ReportAnswer,
+    pub buffer: &'a [u8],
 }
 
-// Prints none, never, a number, or a number behind a minus.
-fn print_figure(f: Figure) {
-    match f {
-        Figure::Missing => print(b"none"),
-        Figure::Never => print(b"never"),
-        Figure::Number(n) => print_number(n),
-        Figure::Minus(n) => {
-            print(b"-");
-            print_number(n);
+// The answer to a text, and what the docket then holds.
+impl fmt::Display for Shown<'_, Lodged> {
+    fn fmt<W: fmt::Write>(&self, f: &mut fmt::Formatter<W>) -> fmt::Result {
+        write!(f, "{}{}", Shown(&self.0.answer), Shown(&self.0.docket))
+    }
+}
+
+// Number, line, unit, period.
+impl fmt::Display for Shown<'_, Refusal> {
+    fn fmt<W: fmt::Write>(&self, f: &mut fmt::Formatter<W>) -> fmt::Result {
+        let r = self.0;
+        write!(f, "refused,{},{},{},{}", r.number, r.line, r.unit, r.period)
+    }
+}
+
+// The bound, the splits and the leaves.
+impl fmt::Display for Shown<'_, TreeFigures> {
+    fn fmt<W: fmt::Write>(&self, f: &mut fmt::Formatter<W>) -> fmt::Result {
+        match self.0.bound {
+            None => write!(f, "never")?,
+            Some(z) => write!(f, "{z}")?,
+        }
+        write!(f, ",{},{}", self.0.splits, self.0.leaves)
+    }
+}
+
+impl fmt::Display for Shown<'_, Answer> {
+    fn fmt<W: fmt::Write>(&self, f: &mut fmt::Formatter<W>) -> fmt::Result {
+        match self.0 {
+            Answer::Refused(r) => write!(f, "{}", Shown(r)),
+            Answer::TextHeld => write!(f, "held"),
+            Answer::ScheduleHeld(cost) => write!(f, "held,{cost}"),
+            Answer::SchedulePassed(cost) => write!(f, "passed,{cost}"),
+            Answer::TreeHeld(figures) => write!(f, "held,{}", Shown(figures)),
+            Answer::TreePassed(figures) => write!(f, "passed,{}", Shown(figures)),
         }
     }
 }
 
-// Prints a refusal: number, line, unit, period.
-fn print_refusal(r: Refusal) {
-    print(b"refused");
-    print_value(r.number);
-    print_value(r.line as u64);
-    print_value(r.unit as u64);
-    print_value(r.period as u64);
-}
-
-// Prints a tree's bound, its splits and its leaves.
-fn print_tree(figures: TreeFigures) {
-    print(b",");
-    let bound = figures.bound;
-    match bound {
-        None => print(b"never"),
-        Some(z) => print_figure(Figure::from(z)),
-    }
-    print_value(figures.splits as u64);
-    print_value(figures.leaves as u64);
-}
-
-// Prints the answer to a text.
-fn print_answer(answer: Answer) {
-    match answer {
-        Answer::Refused(r) => print_refusal(r),
-        Answer::TextHeld => print(b"held"),
-        Answer::ScheduleHeld(cost) => {
-            print(b"held");
-            print_value(cost);
-        }
-        Answer::SchedulePassed(cost) => {
-            print(b"passed");
-            print_value(cost);
-        }
-        Answer::TreeHeld(figures) => {
-            print(b"held");
-            print_tree(figures);
-        }
-        Answer::TreePassed(figures) => {
-            print(b"passed");
-            print_tree(figures);
+// The held cost and its writer, or none.
+impl fmt::Display for Shown<'_, HeldCost> {
+    fn fmt<W: fmt::Write>(&self, f: &mut fmt::Formatter<W>) -> fmt::Result {
+        match self.0 {
+            HeldCost::Nothing => write!(f, "none"),
+            HeldCost::Number(by) => write!(f, "{},{}", by.cost, by.writer),
         }
     }
 }
 
-// Prints the periods and the units of the problem, or none.
-fn print_problem(known: bool, problem: Problem) {
-    print(b"; problem=");
-    if known {
-        print_number(problem.periods as u64);
-        print_value(problem.units as u64);
-    } else {
-        print(b"none");
-    }
-}
-
-// Prints the held cost and its writer, or none.
-fn print_cost(cost: HeldCost) {
-    print(b" cost=");
-    match cost {
-        HeldCost::Nothing => print(b"none"),
-        HeldCost::Number(n) => {
-            print_number(n.cost);
-            print_value(n.writer);
+// The held bound and its writer, or none.
+impl fmt::Display for Shown<'_, HeldBound> {
+    fn fmt<W: fmt::Write>(&self, f: &mut fmt::Formatter<W>) -> fmt::Result {
+        match self.0 {
+            HeldBound::Nothing => write!(f, "none"),
+            HeldBound::Number(by) => write!(f, "{},{}", by.value, by.writer),
+            HeldBound::Never(by) => write!(f, "never,{}", by.writer),
         }
     }
 }
 
-// Prints the held bound and its writer, or none.
-fn print_bound(bound: HeldBound) {
-    print(b" bound=");
-    match bound {
-        HeldBound::Nothing => print(b"none"),
-        HeldBound::Number(n) => {
-            print_figure(Figure::from(n.value));
-            print_value(n.writer);
+// The periods and the units of the problem, or none, what is held, and the first five outputs: of two units in two periods all four and the one after them.
+impl fmt::Display for Shown<'_, Docket> {
+    fn fmt<W: fmt::Write>(&self, f: &mut fmt::Formatter<W>) -> fmt::Result {
+        let Docket {
+            known,
+            problem,
+            held,
+            rows: [a, b, c, d, e, ..],
+        } = self.0;
+        if *known {
+            write!(f, "; problem={},{}", problem.periods, problem.units)?;
+        } else {
+            write!(f, "; problem=none")?;
         }
-        HeldBound::Never(n) => {
-            print(b"never");
-            print_value(n.writer);
+        write!(
+            f,
+            " cost={} bound={}",
+            Shown(&held.cost),
+            Shown(&held.bound)
+        )?;
+        write!(f, " rows={a},{b},{c},{d},{e}")
+    }
+}
+
+impl fmt::Display for Filled<'_> {
+    fn fmt<W: fmt::Write>(&self, f: &mut fmt::Formatter<W>) -> fmt::Result {
+        match self.answer {
+            ReportAnswer::Refused(r) => write!(f, "{} [", Shown(&r))?,
+            ReportAnswer::Written(n) => write!(f, "{n} [")?,
+        }
+        for b in self.buffer {
+            f.write_char(if *b == b'\n' { '/' } else { char::from(*b) })?;
+        }
+        write!(f, "]")
+    }
+}
+
+// Whether the units are short or enough, and how many were taken.
+impl fmt::Display for Shown<'_, TakenAnswer> {
+    fn fmt<W: fmt::Write>(&self, f: &mut fmt::Formatter<W>) -> fmt::Result {
+        match self.0 {
+            TakenAnswer::NoProblem => write!(f, "no problem"),
+            TakenAnswer::Unfit => write!(f, "unfit"),
+            TakenAnswer::Taken(taken) => {
+                let word = if taken.short { "short" } else { "enough" };
+                write!(f, "{word},{}", taken.units)
+            }
         }
     }
-}
-
-// An output as a wider number.
-fn wide(output: u16) -> u64 {
-    output as u64
-}
-
-// Prints the first five outputs of the rows: of two units in two periods, all four and the one after them.
-fn print_rows(rows: [u16; 1536]) {
-    print(b" rows=");
-    print_number(wide(rows[0]));
-    print_value(wide(rows[1]));
-    print_value(wide(rows[2]));
-    print_value(wide(rows[3]));
-    print_value(wide(rows[4]));
-}
-
-// Prints what the docket holds.
-fn print_docket(d: Docket) {
-    let problem = d.problem;
-    let held = d.held;
-    let cost = held.cost;
-    let bound = held.bound;
-    let rows = d.rows;
-    print_problem(d.known, problem);
-    print_cost(cost);
-    print_bound(bound);
-    print_rows(rows);
-}
-
-// Prints a line: the case's name, the answer, and what the docket then holds.
-fn print_lodged(name: &[u8], lodged: Lodged) {
-    let answer = lodged.answer;
-    let after = lodged.docket;
-    print(name);
-    print(b": ");
-    print_answer(answer);
-    print_docket(after);
-    print(b"\n");
-}
-
-// The docket after the text was lodged in it; prints the line of the case.
-pub fn lodge(name: &[u8], d: Docket, text: &[u8]) -> Docket
-    ensures { result ≡ (lodge_of d text.now).docket }
-{
-    let lodged = d.lodge(text);
-    print_lodged(name, lodged);
-    lodged.docket
-}
-
-// A small letter for a place.
-fn letter(i: usize) -> u8 {
-    (97 + i % 26) as u8
-}
-
-// Fills the buffer with letters, each by its place.
-fn fill(buffer: &mut [u8]) {
-    let mut i = 0;
-    while i < buffer.len() {
-        buffer[i] = letter(i);
-        i += 1;
-    }
-}
-
-// Prints a byte, a slash for byte 10.
-fn print_byte(b: u8) {
-    if b == 10 {
-        print(b"/");
-    } else {
-        let one = [b];
-        print(&one);
-    }
-}
-
-// Prints bytes on one line.
-fn print_bytes(s: &[u8]) {
-    let mut i = 0;
-    while i < s.len() {
-        print_byte(s[i]);
-        i += 1;
-    }
-}
-
-// Prints the answer to a report that was asked for.
-fn print_report(answer: ReportAnswer) {
-    match answer {
-        ReportAnswer::Refused(r) => print_refusal(r),
-        ReportAnswer::Written(n) => print_number(n as u64),
-    }
-}
-
-// Prints a line: the case's name, the answer, and the buffer.
-fn print_reported(name: &[u8], answer: ReportAnswer, buffer: &[u8]) {
-    print(name);
-    print(b": ");
-    print_report(answer);
-    print(b" [");
-    print_bytes(buffer);
-    print(b"]\n");
-}
-
-// The docket after a report was asked for; prints the line of the case.
-fn ask_in(name: &[u8], d: Docket, buffer: &mut [u8], at: usize) -> Docket
-    ensures { result ≡ d }
-{
-    let reported = d.report(buffer, at);
-    let answer = reported.answer;
-    print_reported(name, answer, buffer);
-    reported.docket
-}
-
-// The docket after a report was asked for in a buffer of n letters; prints the line of the case.
-pub fn ask(name: &[u8], d: Docket, n: usize, at: usize) -> Docket
-    requires { n ≤ 160 }
-    ensures { result ≡ d }
-{
-    let mut buffer = [0u8; 160];
-    fill(&mut buffer);
-    ask_in(name, d, &mut buffer[..n], at)
-}
-
-// Prints whether the units are short or enough, and how many were taken.
-fn print_units(taken: Taken) {
-    if taken.short {
-        print(b"short");
-    } else {
-        print(b"enough");
-    }
-    print_value(taken.units as u64);
-}
-
-// Prints the answer to a question about units.
-fn print_taken(answer: TakenAnswer) {
-    match answer {
-        TakenAnswer::NoProblem => print(b"no problem"),
-        TakenAnswer::Unfit => print(b"unfit"),
-        TakenAnswer::Taken(taken) => print_units(taken),
-    }
-}
-
-// Prints a line: the case's name and the answer.
-pub fn taken(name: &[u8], answer: TakenAnswer) {
-    print(name);
-    print(b": ");
-    print_taken(answer);
-    print(b"\n");
 }

@@ -6,35 +6,27 @@ ghost use Rattle.std.specs.Prelude.{◌≡◌, length};
 
 use list::Listed;
 
-// The file number of standard input.
+// The file number of standard input. It is read by its number, and what is listed is written so: by the runtime both can fail, and rest on more of the C library than `read` and
+// `write`.
 const STDIN: i32 = 0;
 
 // The file number of standard output.
 const STDOUT: i32 = 1;
 
-// Zeros: room for the most bytes that are listed and one more, which tells that there are too many.
-fn input_room() -> [u8; 65537]
-    ensures { 65537 ≡ length result }
+// Room for N bytes: zeros. Written in `main` at its length, such an array is too long for the check.
+fn room<const N: usize>() -> [u8; N]
+    ensures { N ≡ length result }
 {
-    [0; 65537]
-}
-
-// Zeros: room for every listing.
-fn output_room() -> [u8; 1048576]
-    ensures { 1048576 ≡ length result }
-{
-    [0; 1048576]
+    [0; N]
 }
 
 fn main() {
-    let mut input = input_room();
-    let mut output = output_room();
+    // the most bytes that are listed and one more, which tells that there are too many
+    let mut input = room::<65_537>();
+    // every listing
+    let mut output = room::<1_048_576>();
     let n = io::read_full(STDIN, &mut input);
-    let listed = list::list(&input[..n], &mut output);
-    match listed {
-        Listed::TooSmall => {}
-        Listed::Written(k) => {
-            io::write_all(STDOUT, &output[..k]);
-        }
+    if let Listed::Written(k) = list::list(&input[..n], &mut output) {
+        io::write_all(STDOUT, &output[..k]);
     }
 }

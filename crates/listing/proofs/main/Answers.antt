@@ -1,7 +1,6 @@
 -- `main` meets its contract: what the listing wrote lies within the output.
 use Prim.Native.Nat.{◌≤◌}
 use native.Mathlib.Omega.{arith}
-use borrow.Author.Rules.{rules}
 use mathlib.Core.Path.{sym, ap, ◌∙◌}
 use lib.ListN.{length, length-take}
 use Rattle.list.proofs.ListedCases.{written_within}
@@ -11,9 +10,9 @@ use Rattle.listing.proofs.main.Reads as reads
 use Rattle.listing.proofs.main.Lts as lts
 
 module _ (c : lts.Past-After-known_told tie.the-claims reads.Pre reads.Post tie.handed_clauses) where
-  within : c.in-Written.k ≤ length c.list-listed.new.output
+  within : c.in-Written.k ≤ length c.list.new.output
   within =
-      let l = c.list-listed in
+      let l = c.list in
       omega (arith, written_within _ _ _ (sym l.ensures.answer ∙ c.in-Written.is), ap length l.ensures.bytes)
 
 pub slice_bounds-output-end : goal.slice_bounds-output-end

@@ -1,26 +1,22 @@
-use Rattle.std.proofs.Common.{◌≡◌, ℕ, ◌-◌, ◌≤◌, List, map, length, set, sym, ap, ◌∙◌, arith, length-set, rules}
+use Rattle.std.proofs.Common.{ℕ, ◌<◌, map, set, get_or, sym, ap, ◌∙◌, arith}
 use lib.ListN.{length-map, get_or-map}
-use lib.Seq.{paste, paste-zero}
-use Rattle.edges.specs.Texts.{byte_of}
+use lib.Seq.{paste-zero}
 use Rattle.edges.proofs.Copies.{paste_on, paste_end}
 use Rattle.edges.proofs.texts.put.Goals as goal
 
 pub loop-i-init : goal.loop-i-init
-loop-i-init c =
-    let a = c.args in
-    (omega arith, omega arith, paste-zero a.buf.now 0 (map byte_of a.s.now))
+loop-i-init g c = λ h k. paste-zero c.args.buf.now 0 (map h c.args.s.now)
 
 pub loop-i-preserved : goal.loop-i-preserved
-loop-i-preserved c =
-    let a = c.args in
-    let b = c.loop-i.buf in
-    let s = a.s.now in
+loop-i-preserved g c = λ h k.
+    let s = c.args.s.now in
     let i = c.loop-i.i in
-    let e = c.byte_of.ensures ∙ sym (get_or-map byte_of s i 0) in
-    let on = paste_on a.buf.now (map byte_of s) i 0 (omega arith) (omega (arith, length-map s byte_of)) in
-    (omega arith, simp length-set (omega arith), ap (λ (v : ℕ). set b i v) e ∙ rw c.loop-i.invariant.2 on)
+    let small : get_or s i 0 < 256 = omega (arith, c.type_inv.s i) in
+    let e = k (get_or s i 0) c.f.result small c.f.ensures ∙ sym (get_or-map h s i 0) in
+    let on = paste_on c.args.buf.now (map h s) i (h 0) (omega arith) (omega (arith, length-map s h)) in
+    ap (λ (v : ℕ). set c.loop-i.buf i v) e ∙ rw (c.loop-i.invariant h k) on
 
 pub returns : goal.returns
-returns c =
-    let a = c.args in
-    c.loop-i.invariant.2 ∙ paste_end a.buf.now (map byte_of a.s.now) c.loop-i.i (omega (arith, length-map a.s.now byte_of))
+returns g c = λ h k.
+    let s = c.args.s.now in
+    c.loop-i.invariant h k ∙ paste_end c.args.buf.now (map h s) c.loop-i.i (omega (arith, length-map s h))

@@ -1,13 +1,8 @@
--- `put` meets its contract. The loop's invariant: the bytes that the first i of s stand for are pasted at the front.
-use Rattle.std.proofs.Common.{◌≡◌, ℕ, ◌-◌, ◌≤◌, List, map, length, set, sym, ap, ◌∙◌, arith, length-set, rules}
-use lib.ListN.{length-map, get_or-map}
-use lib.Seq.{paste, paste-zero}
-use Rattle.edges.specs.Texts.{byte_of}
-use Rattle.edges.proofs.Copies.{paste_on, paste_end}
+-- `put` meets its contract. The loop's invariant: whatever f computes, what it makes of the first bytes of s is pasted at the front.
+use Rattle.std.proofs.Common.{◌≡◌, ℕ, ◌<◌, map}
+use lib.Seq.{paste}
 use Rattle.edges.proofs.texts.put.Given as goal
 
 abbrev pub invariant-loop-i : goal.invariant-loop-i
-invariant-loop-i l = (l.i ≤ length l.s) × (length l.buf ≡ length l.initial.buf) × (l.buf ≡ paste l.initial.buf 0 (map byte_of l.s) l.i)
-
-abbrev pub decreases-loop-i : goal.decreases-loop-i
-decreases-loop-i l = length l.s - l.i
+invariant-loop-i g l =
+    (h : ℕ → ℕ) → ((b : ℕ) (r : ℕ) → b < 256 → goal.F-post g l.f b r → r ≡ h b) → l.buf ≡ paste l.initial.buf 0 (map h l.s) l.i

@@ -1,8 +1,0 @@
--- `input_room` meets its contract, by the law of the length and without the list.
-use Prim.Native.Nat.{ℕ}
-use mathlib.Core.Path.{sym}
-use lib.ListN.{length-replicate}
-use Rattle.listing.proofs.input_room.Goals as goal
-
-pub returns : goal.returns
-returns c = sym (length-replicate {0} {A = ℕ} 65537 0)
