@@ -104,11 +104,11 @@ module _ (known : Bool) (text : List ℕ) where
 -- ---- what is done with the answers
 
 module _ (d : Docket) (text : List ℕ) where
-  pub problem_held : (e : Docket) → hold d e (by_problem (problem_judged text)) ≡ hold_problem d (problem_read text).answer (problem_read text).problem
+  pub problem_held : (e : Docket) → hold d e (by_problem (problem_judged text)) ≡ hold_problem d (problem_read text)
   unfolding problem_read problems.read_as
   problem_held e = go (problem_judged text)
     where
-      go : (j : Judged Instance) → hold d e (by_problem j) ≡ hold_problem d (problems.read_as j).answer (problems.read_as j).problem
+      go : (j : Judged Instance) → hold d e (by_problem j) ≡ hold_problem d (problems.read_as j)
       go (refused_at n l) = refl
       go (accepted P) = refl
 
@@ -200,7 +200,7 @@ module _ (d : Docket) (text : List ℕ) where
   pub screened_lodged : sound d ≡ true → (r : Refusal) → admit d.known text ≡ Err r → lodge_of d text ≡ lodged d (Refused r)
   screened_lodged s r e = refused_lodged r (ap (λ (x : Docket). admit x.known text) (itself d s) ∙ e)
 
-  pub problem_lodged : admit (trusted d).known text ≡ Ok admission.Problem → lodge_of d text ≡ hold_problem d (problem_read text).answer (problem_read text).problem
+  pub problem_lodged : admit (trusted d).known text ≡ Ok admission.Problem → lodge_of d text ≡ hold_problem d (problem_read text)
   problem_lodged e = by_admission (Ok admission.Problem) e ∙ problem_held d text (trusted d)
 
   -- under a known problem

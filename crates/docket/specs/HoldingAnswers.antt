@@ -1,23 +1,19 @@
 -- What the code of lodging follows: what is done with the answers of the readers of problems, schedules and trees.
-use Rattle.std.specs.Prelude.{cond, List, ℕ, Some}
-use Rattle.problem.specs.declared.ProblemAnswer.{ProblemAnswer}
-use Rattle.problem.specs.declared.ProblemAnswer.TheVariants as problem_answer
+use Rattle.std.specs.Prelude.{cond, List, ℕ, Some, Result, Ok, Err}
 use Rattle.model.specs.declared.arrays.Problem.{Problem}
 use Rattle.model.specs.declared.figures.TreeFigures.{TreeFigures}
-use Rattle.schedule.specs.declared.ScheduleAnswer.{ScheduleAnswer}
-use Rattle.schedule.specs.declared.ScheduleAnswer.TheVariants as schedule_answer
+use Rattle.refusal.specs.declared.Refusal.{Refusal}
 use Rattle.schedule.specs.declared.Priced.{Priced}
 use Rattle.tree.specs.declared.TreeRead.{TreeRead}
-use Rattle.tree.specs.declared.TreeRead.TheVariants as tree_answer
 use Rattle.docket.specs.declared.Docket.{Docket}
 use Rattle.docket.specs.declared.Lodged.{Lodged}
 use Rattle.answer.specs.declared.Answer.TheVariants.{Refused, TextHeld, ScheduleHeld, SchedulePassed, TreeHeld, TreePassed}
 use Rattle.docket.specs.Lodging.{lodged, with_held, with_problem, is_less, is_higher, bound_by}
 
 -- a problem's text, read
-abbrev pub hold_problem : Docket → ProblemAnswer → Problem → Lodged
-hold_problem was (problem_answer.Refused r) p = lodged was (Refused r)
-hold_problem was problem_answer.Accepted p = lodged (with_problem p) TextHeld
+abbrev pub hold_problem : Docket → Result Problem Refusal → Lodged
+hold_problem was (Err r) = lodged was (Refused r)
+hold_problem was (Ok p) = lodged (with_problem p) TextHeld
 
 -- a schedule's, with its rows in an array
 abbrev pub hold_rows : Docket → Priced → List ℕ → Lodged
@@ -26,9 +22,9 @@ hold_rows d s rows =
     (lodged (with_held d (record { cost = Some (record { cost = s.cost; writer = s.writer }); bound = d.held.bound }) rows) (ScheduleHeld s.cost))
     (lodged d (SchedulePassed s.cost))
 
-abbrev pub hold_schedule : Docket → ScheduleAnswer → List ℕ → Lodged
-hold_schedule d (schedule_answer.Refused r) rows = lodged d (Refused r)
-hold_schedule d (schedule_answer.Accepted s) rows = hold_rows d s rows
+abbrev pub hold_schedule : Docket → Result Priced Refusal → List ℕ → Lodged
+hold_schedule d (Err r) rows = lodged d (Refused r)
+hold_schedule d (Ok s) rows = hold_rows d s rows
 
 -- a tree's, with its figures
 abbrev pub hold_figures : Docket → ℕ → TreeFigures → Lodged
@@ -37,6 +33,6 @@ hold_figures d w f =
     (lodged (with_held d (record { cost = d.held.cost; bound = bound_by f.bound w }) d.rows) (TreeHeld f))
     (lodged d (TreePassed f))
 
-abbrev pub hold_tree : Docket → TreeRead → Lodged
-hold_tree d (tree_answer.Refused r) = lodged d (Refused r)
-hold_tree d (tree_answer.Accepted w f) = hold_figures d w f
+abbrev pub hold_tree : Docket → Result TreeRead Refusal → Lodged
+hold_tree d (Err r) = lodged d (Refused r)
+hold_tree d (Ok t) = hold_figures d t.writer t.figures

@@ -8,8 +8,8 @@ use crate::{Docket, Lodged};
 use answer::Answer;
 use model::arrays::Problem;
 use model::figures::TreeFigures;
-use problem::ProblemAnswer;
-use schedule::{Priced, ScheduleAnswer};
+use refusal::Refusal;
+use schedule::Priced;
 use tree::TreeRead;
 
 // Whether no cost is held or this one is less.
@@ -44,15 +44,15 @@ fn bound_by(bound: Option<i64>, writer: u64) -> HeldBound
 }
 
 // The docket after a problem's text: its problem and nothing under it, or what was given.
-pub fn hold_problem(was: Docket, answer: ProblemAnswer, problem: Problem) -> Lodged
-    ensures { result ≡ hold_problem was answer problem }
+pub fn hold_problem(was: Docket, read: Result<Problem, Refusal>) -> Lodged
+    ensures { result ≡ hold_problem was read }
 {
-    match answer {
-        ProblemAnswer::Refused(refusal) => Lodged {
+    match read {
+        Err(refusal) => Lodged {
             docket: was,
             answer: Answer::Refused(refusal),
         },
-        ProblemAnswer::Accepted => Lodged {
+        Ok(problem) => Lodged {
             docket: Docket {
                 known: true,
                 problem,
@@ -85,15 +85,15 @@ fn hold_rows(d: Docket, priced: Priced, rows: [u16; 1536]) -> Lodged
 }
 
 // The docket after a schedule's text.
-pub fn hold_schedule(d: Docket, answer: ScheduleAnswer, rows: [u16; 1536]) -> Lodged
+pub fn hold_schedule(d: Docket, answer: Result<Priced, Refusal>, rows: [u16; 1536]) -> Lodged
     ensures { result ≡ hold_schedule d answer rows }
 {
     match answer {
-        ScheduleAnswer::Refused(refusal) => Lodged {
+        Err(refusal) => Lodged {
             docket: d,
             answer: Answer::Refused(refusal),
         },
-        ScheduleAnswer::Accepted(priced) => hold_rows(d, priced, rows),
+        Ok(priced) => hold_rows(d, priced, rows),
     }
 }
 
@@ -116,14 +116,14 @@ fn hold_figures(d: Docket, writer: u64, figures: TreeFigures) -> Lodged
 }
 
 // The docket after a tree's text.
-pub fn hold_tree(d: Docket, read: TreeRead) -> Lodged
+pub fn hold_tree(d: Docket, read: Result<TreeRead, Refusal>) -> Lodged
     ensures { result ≡ hold_tree d read }
 {
     match read {
-        TreeRead::Refused(refusal) => Lodged {
+        Err(refusal) => Lodged {
             docket: d,
             answer: Answer::Refused(refusal),
         },
-        TreeRead::Accepted { writer, figures } => hold_figures(d, writer, figures),
+        Ok(tree) => hold_figures(d, tree.writer, tree.figures),
     }
 }

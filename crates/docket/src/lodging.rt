@@ -12,10 +12,9 @@ use crate::{Docket, Lodged, holding};
 // The docket after a problem's text, and the answer to it.
 pub fn lodge_problem(docket: Docket, text: &[u8]) -> Lodged
     requires { IsProblem text.now }
-    ensures { result ≡ hold_problem docket (problem_read text.now).answer (problem_read text.now).problem }
+    ensures { result ≡ hold_problem docket (problem_read text.now) }
 {
-    let read = problem::read_problem(text);
-    holding::hold_problem(docket, read.answer, read.problem)
+    holding::hold_problem(docket, problem::read_problem(text))
 }
 
 // The docket after a schedule's text, read under the problem that it knows, and the answer to it.
