@@ -5,7 +5,8 @@
 ghost use Rattle.std.specs.Prelude.{◌≤◌};
 
 use docket::Docket;
-use runs::drafting::RunsAnswer;
+use runs::drafting::NoRuns;
+use runs::question::Unanswered;
 use writer::Figure;
 
 // The file number of standard output.
@@ -45,17 +46,17 @@ fn print_numbers(numbers: &[u64]) {
 }
 
 // Prints the answer.
-fn print_answer(answer: RunsAnswer) {
+fn print_answer(answer: Result<i64, NoRuns>) {
     match answer {
-        RunsAnswer::NoProblem => print(b"no problem"),
-        RunsAnswer::Unfit => print(b"unfit"),
-        RunsAnswer::Stuck(unit) => {
-            print(b"stuck ");
-            print_number(unit as u64);
-        }
-        RunsAnswer::Found(value) => {
+        Ok(value) => {
             print(b"found ");
             print_figure(writer::figure_of(value));
+        }
+        Err(NoRuns::Question(Unanswered::NoProblem)) => print(b"no problem"),
+        Err(NoRuns::Question(Unanswered::Unfit)) => print(b"unfit"),
+        Err(NoRuns::Stuck(unit)) => {
+            print(b"stuck ");
+            print_number(unit as u64);
         }
     }
 }

@@ -4,13 +4,13 @@ ghost use Rattle.docket.specs.Lodging.{lodge_of};
 
 use answer::Answer;
 use docket::held::{HeldBound, HeldCost};
-use docket::taking::TakenAnswer;
 use docket::{Docket, Lodged};
 use leaves::short::Taken;
 use model::arrays::Problem;
 use model::figures::{Bound, TreeFigures};
 use refusal::Refusal;
 use report::ReportAnswer;
+use runs::question::Unanswered;
 use writer::Figure;
 
 // The file number of standard output.
@@ -266,16 +266,16 @@ fn print_units(taken: Taken) {
 }
 
 // Prints the answer to a question about units.
-fn print_taken(answer: TakenAnswer) {
+fn print_taken(answer: Result<Taken, Unanswered>) {
     match answer {
-        TakenAnswer::NoProblem => print(b"no problem"),
-        TakenAnswer::Unfit => print(b"unfit"),
-        TakenAnswer::Taken(taken) => print_units(taken),
+        Ok(taken) => print_units(taken),
+        Err(Unanswered::NoProblem) => print(b"no problem"),
+        Err(Unanswered::Unfit) => print(b"unfit"),
     }
 }
 
 // Prints a line: the case's name and the answer.
-pub fn taken(name: &[u8], answer: TakenAnswer) {
+pub fn taken(name: &[u8], answer: Result<Taken, Unanswered>) {
     print(name);
     print(b": ");
     print_taken(answer);

@@ -6,7 +6,7 @@
 ghost use Rattle.std.specs.Prelude.{◌≤◌};
 
 use docket::Docket;
-use forced::answering::ForcedAnswer;
+use runs::question::Unanswered;
 use writer::Figure;
 
 // The file number of standard output.
@@ -56,11 +56,11 @@ fn print_bytes(bytes: &[u8]) {
 }
 
 // Prints the answer.
-fn print_answer(answer: ForcedAnswer) {
+fn print_answer(answer: Result<(), Unanswered>) {
     match answer {
-        ForcedAnswer::NoProblem => print(b"no problem"),
-        ForcedAnswer::Unfit => print(b"unfit"),
-        ForcedAnswer::Found => print(b"found"),
+        Ok(()) => print(b"found"),
+        Err(Unanswered::NoProblem) => print(b"no problem"),
+        Err(Unanswered::Unfit) => print(b"unfit"),
     }
 }
 
