@@ -20,8 +20,10 @@ use Rattle.docket.specs.declared.Reported.{Reported}
 use Rattle.docket.specs.Lodging.{lodge_of}
 use Rattle.docket.specs.Report.{report_of, buffer_of}
 use Rattle.docket.specs.Demand3.{Unheld}
-use Rattle.docket.specs.declared.taking.TakenAnswer.{TakenAnswer}
-use Rattle.docket.specs.declared.taking.TakenAnswer.TheVariants.{NoProblem, Unfit, Taken}
+use Rattle.std.specs.Prelude.{Result, Ok, Err}
+use Rattle.leaves.specs.declared.short.Taken.{Taken}
+use Rattle.runs.specs.declared.question.Unanswered.{Unanswered}
+use Rattle.runs.specs.declared.question.Unanswered.TheVariants.{NoProblem, Unfit}
 use Rattle.docket.specs.Taking.{taken_of}
 use Rattle.list.proofs.AnswerSizes.{answer_fits}
 use Rattle.state.specs.Layout.{docket_in}
@@ -220,14 +222,14 @@ module _ (v w : List ℕ) (period most : ℕ) (fixed o : List ℕ) where
     pub taken_apart : taken_answer v w period most fixed o ≤ 2
     taken_apart = omega (arith, taken_by.0, go (taken_of (docket_in v w) period most fixed))
       where
-        go : (a : TakenAnswer) → taken_number a ≤ 2
-        go NoProblem = omega arith
-        go Unfit = omega arith
-        go (Taken t) = omega arith
+        go : (a : Result Taken Unanswered) → taken_number a ≤ 2
+        go (Ok t) = omega arith
+        go (Err NoProblem) = omega arith
+        go (Err Unfit) = omega arith
 
-    pub taken_done : (d : Docket) → d ≡ docket_in v w → (a : TakenAnswer) → a ≡ taken_of d period most fixed → (r : ℕ) → r ≡ taken_number a
+    pub taken_done : (d : Docket) → d ≡ docket_in v w → (a : Result Taken Unanswered) → a ≡ taken_of d period most fixed → (r : ℕ) → r ≡ taken_number a
         → (o' : List ℕ) → o' ≡ taken_written a o → Counts r o'
     taken_done d ed a ea r er o' eo =
         let s = taken_by in
         let k : a ≡ taken_of (docket_in v w) period most fixed = ea ∙ ap (λ (x : Docket). taken_of x period most fixed) ed in
-        (er ∙ ap taken_number k ∙ s.0, eo ∙ ap (λ (x : TakenAnswer). taken_written x o) k ∙ s.1)
+        (er ∙ ap taken_number k ∙ s.0, eo ∙ ap (λ (x : Result Taken Unanswered). taken_written x o) k ∙ s.1)

@@ -7,10 +7,10 @@ use lib.ListN.{replicate}
 use Rattle.docket_host.specs.HostAnswer.{too_little_room}
 use Rattle.state.specs.Layout.{numbers_count, rows_count, docket_in}
 use mathlib.Core.List.{List, [], ◌∷◌}
-use Rattle.docket.specs.declared.taking.TakenAnswer.TheVariants.{NoProblem, Unfit, Taken}
-use Rattle.runs.specs.declared.drafting.RunsAnswer.TheVariants as runs
+use Rattle.std.specs.Prelude.{Ok, Err}
+use Rattle.runs.specs.declared.question.Unanswered.TheVariants.{NoProblem, Unfit}
+use Rattle.runs.specs.declared.drafting.NoRuns.TheVariants.{Question, Stuck}
 use Rattle.runs.specs.Drafts.{unwritten}
-use Rattle.forced.specs.declared.answering.ForcedAnswer.TheVariants as forced
 use Rattle.docket_host.specs.Calls.{rules, no_docket, lodge_room, outputs_room, taken_room, taken_number, taken_written, runs_number, value_told, runs_there, forced_number}
 
 lodge_enough : lodge_room (replicate 618 0) (replicate 1536 0) (replicate 128 0) (replicate 16 0) ≡ true
@@ -46,26 +46,26 @@ taken_few : taken_room (replicate 618 0) (replicate 1536 0) (replicate 1 0) ≡ 
 taken_few = refl
 
 -- the numbers of enum docket_taken_answer, and the places of enum docket_taken
-the_answers : (taken_number NoProblem ≡ 1) × ((taken_number Unfit ≡ 2) × (taken_number (Taken (record { short = true; units = 5 })) ≡ 0))
+the_answers : (taken_number (Err NoProblem) ≡ 1) × ((taken_number (Err Unfit) ≡ 2) × (taken_number (Ok (record { short = true; units = 5 })) ≡ 0))
 the_answers = (refl, (refl, refl))
 
-the_places : (taken_written (Taken (record { short = true; units = 5 })) (7 ∷ 7 ∷ 7 ∷ []) ≡ 1 ∷ 5 ∷ 7 ∷ [])
-    × (taken_written (Taken (record { short = false; units = 5 })) (7 ∷ 7 ∷ 7 ∷ []) ≡ 0 ∷ 5 ∷ 7 ∷ [])
+the_places : (taken_written (Ok (record { short = true; units = 5 })) (7 ∷ 7 ∷ 7 ∷ []) ≡ 1 ∷ 5 ∷ 7 ∷ [])
+    × (taken_written (Ok (record { short = false; units = 5 })) (7 ∷ 7 ∷ 7 ∷ []) ≡ 0 ∷ 5 ∷ 7 ∷ [])
 the_places = (refl, refl)
 
 -- the numbers of enum docket_runs_answer, and the value that is told
-the_runs : (runs_number runs.NoProblem ≡ 1) × ((runs_number runs.Unfit ≡ 2) × ((runs_number (runs.Stuck 1) ≡ 101) × ((runs_number (runs.Stuck 32) ≡ 132) × (runs_number (runs.Found (neg_ℤ (pos 5))) ≡ 0))))
+the_runs : (runs_number (Err (Question NoProblem)) ≡ 1) × ((runs_number (Err (Question Unfit)) ≡ 2) × ((runs_number (Err (Stuck 1)) ≡ 101) × ((runs_number (Err (Stuck 32)) ≡ 132) × (runs_number (Ok (neg_ℤ (pos 5))) ≡ 0))))
 the_runs = (refl, (refl, (refl, (refl, refl))))
 
-the_value : (value_told (runs.Found (neg_ℤ (pos 5))) (pos 7 ∷ []) ≡ neg_ℤ (pos 5) ∷ []) × (value_told (runs.Stuck 1) (pos 7 ∷ []) ≡ pos 7 ∷ [])
+the_value : (value_told (Ok (neg_ℤ (pos 5))) (pos 7 ∷ []) ≡ neg_ℤ (pos 5) ∷ []) × (value_told (Err (Stuck 1)) (pos 7 ∷ []) ≡ pos 7 ∷ [])
 the_value = (refl, refl)
 
 -- room for no value and for two
-the_room : (v w q s f r h : List ℕ) → (runs_there v w q s f r h [] ≡ unwritten r h (cond (docket_in v w).known runs.Unfit runs.NoProblem))
-    × (runs_there v w q s f r h (pos 7 ∷ (pos 7 ∷ [])) ≡ unwritten r h (cond (docket_in v w).known runs.Unfit runs.NoProblem))
+the_room : (v w q s f r h : List ℕ) → (runs_there v w q s f r h [] ≡ unwritten r h (Err (Question (cond (docket_in v w).known Unfit NoProblem))))
+    × (runs_there v w q s f r h (pos 7 ∷ (pos 7 ∷ [])) ≡ unwritten r h (Err (Question (cond (docket_in v w).known Unfit NoProblem))))
 unfolding runs_there
 the_room v w q s f r h = (refl, refl)
 
 -- the numbers of enum docket_forced_answer
-the_forced : (forced_number forced.NoProblem ≡ 1) × ((forced_number forced.Unfit ≡ 2) × (forced_number forced.Found ≡ 0))
+the_forced : (forced_number (Err NoProblem) ≡ 1) × ((forced_number (Err Unfit) ≡ 2) × (forced_number (Ok tt) ≡ 0))
 the_forced = (refl, (refl, refl))

@@ -5,8 +5,9 @@ use mathlib.Core.List.{List}
 use Prim.Native.Nat.{ℕ, ◌≤◌}
 use native.Mathlib.Omega.{arith}
 use lib.IntN.{ℤ}
-use Rattle.forced.specs.declared.answering.ForcedAnswer.{ForcedAnswer}
-use Rattle.forced.specs.declared.answering.ForcedAnswer.TheVariants as forced
+use Rattle.std.specs.Prelude.{Result, Ok, Err}
+use Rattle.runs.specs.declared.question.Unanswered.{Unanswered}
+use Rattle.runs.specs.declared.question.Unanswered.TheVariants.{NoProblem, Unfit}
 use Rattle.forced.specs.Answers.{Told}
 use Rattle.docket.specs.declared.Docket.{Docket}
 use Rattle.docket.specs.Forcing.{forced_of}
@@ -33,7 +34,7 @@ module _ (v w q s fixed : List ℕ) (values : List ℤ) (stuck : List ℕ) where
     forced_by = (rw (e, i) refl, (rw (e, i) refl, rw (e, i) refl))
 
     -- as the docket tells
-    pub forced_done : (d : Docket) → d ≡ docket_in v w → (a : ForcedAnswer) → a ≡ (forced_of d q s fixed values stuck).answer
+    pub forced_done : (d : Docket) → d ≡ docket_in v w → (a : Result (Unit {0}) Unanswered) → a ≡ (forced_of d q s fixed values stuck).answer
         → (values' : List ℤ) → values' ≡ (forced_of d q s fixed values stuck).values → (stuck' : List ℕ) → stuck' ≡ (forced_of d q s fixed values stuck).stuck
         → (r : ℕ) → r ≡ forced_number a → Forces v w q s fixed values stuck r values' stuck'
     forced_done d ed a ea values' ev stuck' es r en =
@@ -46,7 +47,7 @@ module _ (v w q s fixed : List ℕ) (values : List ℤ) (stuck : List ℕ) where
     pub forced_apart : forced_answer v w q s fixed values stuck ≤ 2
     forced_apart = omega (arith, forced_by.0, at_most there.answer)
       where
-        at_most : (a : ForcedAnswer) → forced_number a ≤ 2
-        at_most forced.NoProblem = omega arith
-        at_most forced.Unfit = omega arith
-        at_most forced.Found = omega arith
+        at_most : (a : Result (Unit {0}) Unanswered) → forced_number a ≤ 2
+        at_most (Ok u) = omega arith
+        at_most (Err NoProblem) = omega arith
+        at_most (Err Unfit) = omega arith

@@ -28,7 +28,9 @@ use Rattle.docket.specs.Demand3.{Unheld}
 use Rattle.docket.specs.ReportDue.{ReportDue}
 use Rattle.docket.specs.Promised.{after, answer, given, Long}
 use Rattle.docket.specs.Taking.{taken_of}
-use Rattle.runs.specs.declared.drafting.RunsAnswer.TheVariants as runs
+use Rattle.std.specs.Prelude.{Err}
+use Rattle.runs.specs.declared.drafting.NoRuns.TheVariants.{Question}
+use Rattle.runs.specs.declared.question.Unanswered.TheVariants.{NoProblem, Unfit}
 use Rattle.docket.specs.Drafting.{runs_of}
 use Rattle.docket.specs.Forcing.{forced_of}
 use Rattle.docket.proofs.Promises as promised
@@ -173,7 +175,7 @@ runs_any v w q s fixed rows short value e i one =
     (value_told told.answer value) refl
 
 pub runs_other : (v w q s fixed rows short : List ℕ) (value : List ℤ) → long v w ≡ true → holds v w ≡ true → (length value ≡ 1 → ⊥)
-    → Tells v w q s fixed rows short value (runs_number (cond (docket_in v w).known runs.Unfit runs.NoProblem)) rows short value
+    → Tells v w q s fixed rows short value (runs_number (Err (Question (cond (docket_in v w).known Unfit NoProblem)))) rows short value
 runs_other v w q s fixed rows short value e i other = runs_call.runs_other v w q s fixed rows short value e i other (docket_in v w) refl (docket_in v w).known refl
 
 pub runs_apart : (v w q s fixed rows short : List ℕ) (value : List ℤ) → long v w ≡ true → holds v w ≡ true → runs_answer v w q s fixed rows short value ≤ 132

@@ -2,7 +2,7 @@
 use mathlib.Core.Path.{◌≡◌, refl, sym, ap, subst, ◌∙◌}
 use mathlib.Core.Bool.{Bool, true, false, cond}
 use mathlib.Core.List.{List, [], ◌∷◌, flatten}
-use Prim.Native.Nat.{ℕ, zero, suc, ◌≤◌}
+use Prim.Native.Nat.{ℕ, suc, ◌≤◌}
 use native.Mathlib.Omega.{arith}
 use borrow.Author.Tests.{eq-eqb, ne_eqb}
 use lib.Dec.{eqb}
@@ -15,8 +15,10 @@ use Rattle.model.specs.Leaf.{any_stuck, leaf_value}
 use Rattle.model.specs.Runs.{first_stuck, shortfalls}
 use Rattle.layout.specs.Numbers.{generators_in, problem_in}
 use Rattle.layout.proofs.Readings.{generators_long}
-use Rattle.runs.specs.declared.drafting.RunsAnswer.{RunsAnswer}
-use Rattle.runs.specs.declared.drafting.RunsAnswer.TheVariants as runs
+use Rattle.std.specs.Prelude.{Result, Ok, Err}
+use Rattle.runs.specs.declared.drafting.NoRuns.{NoRuns}
+use Rattle.runs.specs.declared.drafting.NoRuns.TheVariants.{Question, Stuck}
+use Rattle.runs.specs.declared.question.Unanswered.TheVariants.{NoProblem, Unfit}
 use Rattle.runs.specs.Drafts.{fits, Drafted, unwritten, marks_asked, runs_asked, drafted, draft_under}
 use Rattle.runs.proofs.FirstStuck.{first_stuck_found}
 use Rattle.docket.specs.declared.Docket.{Docket}
@@ -36,13 +38,13 @@ few_under P h q s fixed rows short = go (fits P q s fixed (length rows) (length 
   where
     found : Drafted
     found = record {
-      answer = runs.Found (leaf_value P (marks_asked P fixed) (λ t. q at t) (λ t. s at t));
+      answer = Ok (leaf_value P (marks_asked P fixed) (λ t. q at t) (λ t. s at t));
       rows = flatten (runs_asked P q s fixed rows short);
       short = shortfalls P (runs_asked P q s fixed rows short);
     }
 
     go : (b c : Bool) → any_stuck P.periods P.units (marks_asked P fixed) ≡ c
-        → Few (cond b (cond c (unwritten rows short (runs.Stuck (suc (first_stuck P.periods P.units (marks_asked P fixed))))) found) (unwritten rows short runs.Unfit)).answer
+        → Few (cond b (cond c (unwritten rows short (Err (Stuck (suc (first_stuck P.periods P.units (marks_asked P fixed)))))) found) (unwritten rows short (Err (Question Unfit)))).answer
     go true true e = omega (arith, (first_stuck_found P.periods P.units (marks_asked P fixed) e).1)
     go true false e = tt
     go false c e = tt
@@ -88,7 +90,7 @@ module _ (v w q s fixed rows short : List ℕ) (value : List ℤ) where
     by x k = subst (λ (y : Drafted). Tells v w q s fixed rows short value (runs_number y.answer) y.rows y.short (value_told y.answer value)) (sym k) runs_by
 
     -- with room for one value: the docket's
-    pub runs_done : length value ≡ 1 → (d : Docket) → d ≡ docket_in v w → (a : RunsAnswer) → a ≡ (runs_of d q s fixed rows short).answer
+    pub runs_done : length value ≡ 1 → (d : Docket) → d ≡ docket_in v w → (a : Result ℤ NoRuns) → a ≡ (runs_of d q s fixed rows short).answer
         → (rows' : List ℕ) → rows' ≡ (runs_of d q s fixed rows short).rows → (short' : List ℕ) → short' ≡ (runs_of d q s fixed rows short).short
         → (r : ℕ) → r ≡ runs_number a → (value' : List ℤ) → value' ≡ value_told a value → Tells v w q s fixed rows short value r rows' short' value'
     unfolding runs_there
@@ -96,29 +98,29 @@ module _ (v w q s fixed rows short : List ℕ) (value : List ℤ) where
         let x : Drafted = runs_of d q s fixed rows short in
         let k : x ≡ there = ap (λ (y : Docket). runs_of y q s fixed rows short) ed ∙ rw (eq-eqb (length value) 1 one) refl in
         let t = by x k in
-        (en ∙ ap runs_number ea ∙ t.0, (er ∙ t.1.0, (es ∙ t.1.1.0, ev ∙ ap (λ (y : RunsAnswer). value_told y value) ea ∙ t.1.1.1)))
+        (en ∙ ap runs_number ea ∙ t.0, (er ∙ t.1.0, (es ∙ t.1.1.0, ev ∙ ap (λ (y : Result ℤ NoRuns). value_told y value) ea ∙ t.1.1.1)))
 
     -- with room for another number of values: unfit, or no problem
-    pub runs_other : (length value ≡ 1 → ⊥) → (d : Docket) → d ≡ docket_in v w → (k : Bool) → d.known ≡ k → Tells v w q s fixed rows short value (runs_number (cond k runs.Unfit runs.NoProblem)) rows short value
+    pub runs_other : (length value ≡ 1 → ⊥) → (d : Docket) → d ≡ docket_in v w → (k : Bool) → d.known ≡ k → Tells v w q s fixed rows short value (runs_number (Err (Question (cond k Unfit NoProblem)))) rows short value
     unfolding runs_there
     runs_other none d ed k ek = go k (ap (λ (y : Docket). y.known) (sym ed) ∙ ek)
       where
-        go : (k : Bool) → (docket_in v w).known ≡ k → Tells v w q s fixed rows short value (runs_number (cond k runs.Unfit runs.NoProblem)) rows short value
-        go true j = by (unwritten rows short runs.Unfit) (rw (ne_eqb (length value) 1 none, j) refl)
-        go false j = by (unwritten rows short runs.NoProblem) (rw (ne_eqb (length value) 1 none, j) refl)
+        go : (k : Bool) → (docket_in v w).known ≡ k → Tells v w q s fixed rows short value (runs_number (Err (Question (cond k Unfit NoProblem)))) rows short value
+        go true j = by (unwritten rows short (Err (Question Unfit))) (rw (ne_eqb (length value) 1 none, j) refl)
+        go false j = by (unwritten rows short (Err (Question NoProblem))) (rw (ne_eqb (length value) 1 none, j) refl)
 
     -- none of what is told is one of the two numbers
     pub runs_apart : runs_answer v w q s fixed rows short value ≤ 132
     unfolding runs_there
     runs_apart = omega (arith, runs_by.0, told (eqb (length value) 1) (docket_in v w).known)
       where
-        at_most : (a : RunsAnswer) → Few a → runs_number a ≤ 132
-        at_most runs.NoProblem f = omega arith
-        at_most runs.Unfit f = omega arith
-        at_most (runs.Stuck u) f = omega arith
-        at_most (runs.Found z) f = omega arith
+        at_most : (a : Result ℤ NoRuns) → Few a → runs_number a ≤ 132
+        at_most (Ok z) f = omega arith
+        at_most (Err (Question NoProblem)) f = omega arith
+        at_most (Err (Question Unfit)) f = omega arith
+        at_most (Err (Stuck u)) f = omega arith
 
-        told : (b k : Bool) → runs_number (cond b (runs_of (docket_in v w) q s fixed rows short) (unwritten rows short (cond k runs.Unfit runs.NoProblem))).answer ≤ 132
+        told : (b k : Bool) → runs_number (cond b (runs_of (docket_in v w) q s fixed rows short) (unwritten rows short (Err (Question (cond k Unfit NoProblem))))).answer ≤ 132
         told true k = at_most (runs_of (docket_in v w) q s fixed rows short).answer (few_there v w q s fixed rows short)
         told false true = omega arith
         told false false = omega arith

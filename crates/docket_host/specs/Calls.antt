@@ -1,5 +1,5 @@
 -- What the calls on an open docket answer, and what every slice that they are lent then holds. v and w are the two slices of its state.
-use Rattle.std.specs.Prelude.{◌≡◌, Bool, false, cond, List, [], ◌∷◌, ℕ, ◌+◌, ◌≤◌, eqb, ltb, leb, ℤ, length}
+use Rattle.std.specs.Prelude.{◌≡◌, Bool, false, cond, Result, Ok, Err, List, [], ◌∷◌, ℕ, ◌+◌, ◌≤◌, eqb, ltb, leb, ℤ, length}
 use Rattle.writer.specs.Written.{over}
 use Rattle.answer.specs.StatedAnswers.{Stated, stated}
 use Rattle.answer.specs.AnswerLines.{answer_line}
@@ -10,14 +10,13 @@ use Rattle.docket.specs.declared.Lodged.{Lodged}
 use Rattle.docket.specs.Docket.{fresh_docket}
 use Rattle.docket.specs.Lodging.{lodge_of}
 use Rattle.docket.specs.Report.{report_of, buffer_of}
-use Rattle.docket.specs.declared.taking.TakenAnswer.{TakenAnswer}
-use Rattle.docket.specs.declared.taking.TakenAnswer.TheVariants.{NoProblem, Unfit, Taken}
+use Rattle.leaves.specs.declared.short.Taken.{Taken}
 use Rattle.docket.specs.Taking.{taken_of}
-use Rattle.runs.specs.declared.drafting.RunsAnswer.{RunsAnswer}
-use Rattle.runs.specs.declared.drafting.RunsAnswer.TheVariants as runs
+use Rattle.runs.specs.declared.question.Unanswered.{Unanswered}
+use Rattle.runs.specs.declared.question.Unanswered.TheVariants.{NoProblem, Unfit}
+use Rattle.runs.specs.declared.drafting.NoRuns.{NoRuns}
+use Rattle.runs.specs.declared.drafting.NoRuns.TheVariants.{Question, Stuck}
 use Rattle.runs.specs.Drafts.{Drafted, unwritten}
-use Rattle.forced.specs.declared.answering.ForcedAnswer.{ForcedAnswer}
-use Rattle.forced.specs.declared.answering.ForcedAnswer.TheVariants as forced
 use Rattle.forced.specs.Answers.{Told}
 use Rattle.docket.specs.Drafting.{runs_of}
 use Rattle.docket.specs.Forcing.{forced_of}
@@ -106,22 +105,26 @@ outputs_answer v w o = guarded (outputs_room v w o) (holds v w) too_little_room 
 unfoldable pub outputs_rows : List ℕ → List ℕ → List ℕ → List ℕ
 outputs_rows v w o = guarded (outputs_room v w o) (holds v w) o o (over (outputs_of (docket_in v w)) o)
 
+-- ---- why a question has no answer: 1 where no problem is known, 2 where the question does not fit it
+
+abbrev pub unanswered_number : Unanswered → ℕ
+unanswered_number NoProblem = 1
+unanswered_number Unfit = 2
+
 -- ---- how many units `short` takes: room for two numbers is asked for
 
 abbrev pub taken_room : List ℕ → List ℕ → List ℕ → Bool
 taken_room v w o = cond (long v w) (leb 2 (length o)) false
 
 -- 0 where units were taken, 1 where no problem is known, 2 where the question does not fit it
-abbrev pub taken_number : TakenAnswer → ℕ
-taken_number NoProblem = 1
-taken_number Unfit = 2
-taken_number (Taken t) = 0
+abbrev pub taken_number : Result Taken Unanswered → ℕ
+taken_number (Ok t) = 0
+taken_number (Err why) = unanswered_number why
 
 -- 1 for short or 0, and how many were taken, at the front of what is lent; in the other cases it stays
-abbrev pub taken_written : TakenAnswer → List ℕ → List ℕ
-taken_written NoProblem o = o
-taken_written Unfit o = o
-taken_written (Taken t) o = over (cond t.short 1 0 ∷ (t.units ∷ [])) o
+abbrev pub taken_written : Result Taken Unanswered → List ℕ → List ℕ
+taken_written (Err why) o = o
+taken_written (Ok t) o = over (cond t.short 1 0 ∷ (t.units ∷ [])) o
 
 module _ (v w : List ℕ) (period most : ℕ) (fixed o : List ℕ) where
   unfoldable pub taken_answer : ℕ
@@ -133,30 +136,26 @@ module _ (v w : List ℕ) (period most : ℕ) (fixed o : List ℕ) where
 -- ---- the runs of a price leaf: the lengths of all slices but the state's are exact
 
 -- 0 where they were found, 1 where no problem is known, 2 where the question does not fit it, 100 + u for the stuck unit u
-abbrev pub runs_number : RunsAnswer → ℕ
-runs_number runs.NoProblem = 1
-runs_number runs.Unfit = 2
-runs_number (runs.Stuck u) = 100 + u
-runs_number (runs.Found z) = 0
+abbrev pub runs_number : Result ℤ NoRuns → ℕ
+runs_number (Ok z) = 0
+runs_number (Err (Question why)) = unanswered_number why
+runs_number (Err (Stuck u)) = 100 + u
 
 -- a stuck unit is one of 32
-abbrev pub Few : RunsAnswer → Type 0
-Few runs.NoProblem = Unit {0}
-Few runs.Unfit = Unit {0}
-Few (runs.Stuck u) = u ≤ 32
-Few (runs.Found z) = Unit {0}
+abbrev pub Few : Result ℤ NoRuns → Type 0
+Few (Ok z) = Unit {0}
+Few (Err (Question why)) = Unit {0}
+Few (Err (Stuck u)) = u ≤ 32
 
 -- the leaf's value, where it was found; in the other cases what is lent for it stays
-abbrev pub value_told : RunsAnswer → List ℤ → List ℤ
-value_told runs.NoProblem l = l
-value_told runs.Unfit l = l
-value_told (runs.Stuck u) l = l
-value_told (runs.Found z) l = z ∷ []
+abbrev pub value_told : Result ℤ NoRuns → List ℤ → List ℤ
+value_told (Ok z) l = z ∷ []
+value_told (Err why) l = l
 
 module _ (v w q s fixed rows short : List ℕ) (value : List ℤ) where
   -- under a known problem a question with room for another number of values than one is unfit too
   unfoldable pub runs_there : Drafted
-  runs_there = cond (eqb (length value) 1) (runs_of (docket_in v w) q s fixed rows short) (unwritten rows short (cond (docket_in v w).known runs.Unfit runs.NoProblem))
+  runs_there = cond (eqb (length value) 1) (runs_of (docket_in v w) q s fixed rows short) (unwritten rows short (Err (Question (cond (docket_in v w).known Unfit NoProblem))))
 
   abbrev pub drafting : {A : Type 0} → A → A → A → A
   drafting few none done = guarded (long v w) (holds v w) few none done
@@ -180,10 +179,9 @@ module _ (v w q s fixed rows short : List ℕ) (value : List ℤ) where
 -- ---- forced statuses: the lengths of all slices but the state's are exact
 
 -- 0 where the entries are written, 1 where no problem is known, 2 where the question does not fit it
-abbrev pub forced_number : ForcedAnswer → ℕ
-forced_number forced.NoProblem = 1
-forced_number forced.Unfit = 2
-forced_number forced.Found = 0
+abbrev pub forced_number : Result (Unit {0}) Unanswered → ℕ
+forced_number (Ok u) = 0
+forced_number (Err why) = unanswered_number why
 
 module _ (v w q s fixed : List ℕ) (values : List ℤ) (stuck : List ℕ) where
   abbrev pub forced_there : Told

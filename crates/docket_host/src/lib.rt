@@ -6,14 +6,14 @@ ghost use Rattle.std.specs.Prelude.{◌≡◌, cond, ◌≤◌, length};
 ghost use Rattle.list.specs.Listing.{listed_of, output_of};
 ghost use Rattle.state.specs.Layout.{numbers_count, rows_count};
 ghost use Rattle.docket_host.specs.HostAnswer.{host_answer};
-ghost use Rattle.docket_host.specs.Calls.{rules, fresh_answer, fresh_numbers, fresh_rows, lodge_room, lodge_answer, lodge_numbers, lodge_rows, lodge_line, lodge_values, report_number, report_answer, report_bytes, outputs_room, outputs_answer, outputs_rows, taken_room, taken_number, taken_written, taken_answer, taken_numbers, Few, runs_number, value_told, runs_answer, runs_rows, runs_short, runs_value, forced_number, forced_answer, forced_values, forced_stuck};
+ghost use Rattle.docket_host.specs.Calls.{rules, fresh_answer, fresh_numbers, fresh_rows, lodge_room, lodge_answer, lodge_numbers, lodge_rows, lodge_line, lodge_values, report_number, report_answer, report_bytes, outputs_room, outputs_answer, outputs_rows, taken_room, unanswered_number, taken_number, taken_written, taken_answer, taken_numbers, Few, runs_number, value_told, runs_answer, runs_rows, runs_short, runs_value, forced_number, forced_answer, forced_values, forced_stuck};
 
 use docket::Docket;
-use docket::taking::TakenAnswer;
-use forced::answering::ForcedAnswer;
+use leaves::short::Taken;
 use list::Listed;
 use report::ReportAnswer;
-use runs::drafting::RunsAnswer;
+use runs::drafting::NoRuns;
+use runs::question::Unanswered;
 
 // What a call answers where it does nothing (hosts/c/docket.h): too little is lent; the state holds no docket.
 pub const TOO_SMALL: usize = 18446744073709551615;
@@ -176,30 +176,29 @@ fn has_taken_room(numbers: &[u64], rows: &[u16], taken: &[u64]) -> bool
     false
 }
 
-// 1 for short, 0 for enough.
-fn short_number(short: bool) -> u64
-    ensures { result ≡ cond short 1 0 }
+// Why a question has no answer, as one number.
+fn unanswered_number(why: Unanswered) -> usize
+    ensures { result ≡ unanswered_number why }
 {
-    if short {
-        return 1;
+    match why {
+        Unanswered::NoProblem => 1,
+        Unanswered::Unfit => 2,
     }
-    0
 }
 
 // The answer as one number; where units were taken, `taken` begins with whether they are short and how many they are.
-fn tell_taken(answer: TakenAnswer, taken: &mut [u64]) -> usize
+fn tell_taken(answer: Result<Taken, Unanswered>, taken: &mut [u64]) -> usize
     requires { 2 ≤ length taken.old }
     ensures number { result ≡ taken_number answer }
     ensures taken { taken.new ≡ taken_written answer taken.old }
 {
     match answer {
-        TakenAnswer::NoProblem => 1,
-        TakenAnswer::Unfit => 2,
-        TakenAnswer::Taken(found) => {
-            taken[0] = short_number(found.short);
+        Ok(found) => {
+            taken[0] = u64::from(found.short);
             taken[1] = found.units as u64;
             0
         }
+        Err(why) => unanswered_number(why),
     }
 }
 
@@ -231,20 +230,19 @@ pub extern "C" fn docket_units_taken(
 }
 
 // The answer as one number; where the runs were found, `value` is the leaf's value.
-fn tell_runs(answer: RunsAnswer, value: &mut [i64]) -> usize
+fn tell_runs(answer: Result<i64, NoRuns>, value: &mut [i64]) -> usize
     requires few { Few answer }
     requires value_len { length value.old ≡ 1 }
     ensures number { result ≡ runs_number answer }
     ensures value { value.new ≡ value_told answer value.old }
 {
     match answer {
-        RunsAnswer::NoProblem => 1,
-        RunsAnswer::Unfit => 2,
-        RunsAnswer::Stuck(unit) => 100 + unit,
-        RunsAnswer::Found(found) => {
+        Ok(found) => {
             value[0] = found;
             0
         }
+        Err(NoRuns::Question(why)) => unanswered_number(why),
+        Err(NoRuns::Stuck(unit)) => 100 + unit,
     }
 }
 
@@ -286,13 +284,12 @@ pub extern "C" fn docket_cheapest_runs(
 }
 
 // The answer as one number.
-fn forced_number(answer: ForcedAnswer) -> usize
+fn forced_number(answer: Result<(), Unanswered>) -> usize
     ensures { result ≡ forced_number answer }
 {
     match answer {
-        ForcedAnswer::NoProblem => 1,
-        ForcedAnswer::Unfit => 2,
-        ForcedAnswer::Found => 0,
+        Ok(()) => 0,
+        Err(why) => unanswered_number(why),
     }
 }
 

@@ -6,7 +6,8 @@ use Rattle.model.specs.Instance.{Instance}
 use Rattle.model.specs.Held.{view, valid_problem}
 use Rattle.model.proofs.Valid.{valid_sizes}
 use Rattle.docket.specs.declared.Docket.{Docket}
-use Rattle.docket.specs.declared.taking.TakenAnswer.TheVariants.{Unfit}
+use Rattle.std.specs.Prelude.{Err}
+use Rattle.runs.specs.declared.question.Unanswered.TheVariants.{Unfit}
 use Rattle.docket.specs.Lodging.{trusted}
 use Rattle.docket.specs.Taking.{fits, taken_under, taken_of}
 use Rattle.docket.proofs.HoldingAnswers.{knows_valid}
@@ -20,12 +21,12 @@ statuses_few p v =
     let units : length (take p.units p.generators) ≤ 32 = simp length-take (omega (arith, sizes.1)) in
     omega (arith, mul-le-mul units sizes.0)
 
-unfit : (P : Instance) (period most : ℕ) (s : List ℕ) → fits P period most s ≡ false → taken_under P period most s ≡ Unfit
+unfit : (P : Instance) (period most : ℕ) (s : List ℕ) → fits P period most s ≡ false → taken_under P period most s ≡ Err Unfit
 unfolding taken_under
 unfit P period most s e = rw e refl
 
 module _ (d : Docket) (period most : ℕ) where
-  long_unfit : (trusted d).known ≡ true → (s : List ℕ) → 1536 < length s → taken_of d period most s ≡ Unfit
+  long_unfit : (trusted d).known ≡ true → (s : List ℕ) → 1536 < length s → taken_of d period most s ≡ Err Unfit
   long_unfit k s h = told_known d k period most s ∙ unfit (view d.problem) period most s (go (fits (view d.problem) period most s) refl)
     where
       go : (b : Bool) → fits (view d.problem) period most s ≡ b → fits (view d.problem) period most s ≡ false

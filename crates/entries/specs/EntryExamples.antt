@@ -1,12 +1,12 @@
 -- Document 02, [5]: what is told of forced statuses, on numbers: document 01's problem, and each end of each range of a question. Every line is found by computing.
-use Rattle.std.specs.Prelude.{◌≡◌, refl, true, false, List, [], ◌∷◌, map, ℕ, ℤ, pos, neg_ℤ, replicate}
+use Rattle.std.specs.Prelude.{◌≡◌, refl, true, false, Ok, Err, List, [], ◌∷◌, map, ℕ, ℤ, pos, neg_ℤ, replicate}
 use Rattle.model.specs.Instance.{Instance}
 use Rattle.model.specs.Cost.{row_cost}
 use Rattle.model.specs.Leaf.{rows_of, is_stuck, revenue, value, unit_least}
 use Rattle.model.specs.Forced.{forced_table, forced_tables}
 use Rattle.model.specs.Examples.{line, example, unit1}
 use Rattle.walk.specs.Marks.{mark_of, marks_in}
-use Rattle.forced.specs.declared.answering.ForcedAnswer.TheVariants.{Unfit, Found}
+use Rattle.runs.specs.declared.question.Unanswered.TheVariants.{Unfit}
 use Rattle.forced.specs.Answers.{Told, untold, told_under}
 
 -- asked with room for k values and j bytes, sevens in it
@@ -14,7 +14,7 @@ abbrev asked : Instance → List ℕ → List ℕ → List ℕ → ℕ → ℕ �
 asked P q s fixed k j = told_under P q s fixed (replicate k (pos 7)) (replicate j 7)
 
 abbrev found : List ℤ → List ℕ → Told
-found values stuck = record { answer = Found; values = values; stuck = stuck }
+found values stuck = record { answer = Ok tt; values = values; stuck = stuck }
 
 abbrev minus : ℕ → ℤ
 minus n = neg_ℤ (pos n)
@@ -55,7 +55,7 @@ abbrev tiny : Instance
 tiny = record { periods = 2; demand = 3 ∷ 3 ∷ []; spare = 1 ∷ 1 ∷ []; units = line 0 5 0 2 4 1 1 true 1 10 10 0 0 0 0 2 ∷ [] }
 
 abbrev left : Told
-left = untold (pos 7 ∷ pos 7 ∷ pos 7 ∷ pos 7 ∷ []) (7 ∷ 7 ∷ 7 ∷ 7 ∷ []) Unfit
+left = untold (pos 7 ∷ pos 7 ∷ pos 7 ∷ pos 7 ∷ []) (7 ∷ 7 ∷ 7 ∷ 7 ∷ []) (Err Unfit)
 
 -- the highest multiplier, and one more, of either kind
 multipliers : (asked tiny (1_000_000_000 ∷ 0 ∷ []) none none 4 4 ≡ found (pos 0 ∷ minus 3_999_999_980 ∷ minus 3_999_999_980 ∷ minus 3_999_999_970 ∷ []) (0 ∷ 0 ∷ 0 ∷ 0 ∷ []))
@@ -79,7 +79,7 @@ statuses = refl
 lengths : (map (λ q. asked tiny q none none 4 4) ((0 ∷ []) ∷ (0 ∷ 0 ∷ 0 ∷ []) ∷ []) ≡ left ∷ left ∷ [])
     × (map (λ s. asked tiny none s none 4 4) ((0 ∷ []) ∷ (0 ∷ 0 ∷ 0 ∷ []) ∷ []) ≡ left ∷ left ∷ [])
     × (map (λ f. asked tiny none none f 4 4) ((0 ∷ []) ∷ (0 ∷ 0 ∷ 0 ∷ []) ∷ []) ≡ left ∷ left ∷ [])
-    × (map (λ k. asked tiny none none none k 4) (3 ∷ 5 ∷ []) ≡ map (λ k. untold (replicate k (pos 7)) (replicate 4 7) Unfit) (3 ∷ 5 ∷ []))
-    × (map (λ j. asked tiny none none none 4 j) (3 ∷ 5 ∷ []) ≡ map (λ j. untold (replicate 4 (pos 7)) (replicate j 7) Unfit) (3 ∷ 5 ∷ []))
+    × (map (λ k. asked tiny none none none k 4) (3 ∷ 5 ∷ []) ≡ map (λ k. untold (replicate k (pos 7)) (replicate 4 7) (Err Unfit)) (3 ∷ 5 ∷ []))
+    × (map (λ j. asked tiny none none none 4 j) (3 ∷ 5 ∷ []) ≡ map (λ j. untold (replicate 4 (pos 7)) (replicate j 7) (Err Unfit)) (3 ∷ 5 ∷ []))
 unfolding told_under
 lengths = (refl, refl, refl, refl, refl)

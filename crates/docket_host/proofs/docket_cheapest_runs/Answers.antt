@@ -1,6 +1,5 @@
 -- `docket_cheapest_runs` meets its contract.
-use mathlib.Core.Path.{◌≡◌, refl, sym, ap, subst, ◌∙◌}
-use borrow.Author.Rules.{rules}
+use mathlib.Core.Path.{◌≡◌, sym, ap, subst, ◌∙◌}
 use Rattle.docket.specs.declared.Docket.{Docket}
 use Rattle.docket.specs.Drafting.{runs_of}
 use Rattle.state.specs.declared.Opened.{Opened}

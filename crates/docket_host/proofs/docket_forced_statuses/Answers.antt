@@ -1,6 +1,5 @@
 -- `docket_forced_statuses` meets its contract.
 use mathlib.Core.Path.{sym, ap, ◌∙◌}
-use borrow.Author.Rules.{rules}
 use Rattle.state.specs.declared.Opened.{Opened}
 use Rattle.state.proofs.Room.{long_room}
 use Rattle.docket_host.proofs.ForcedCalls.{forced_small, forced_empty, forced_done}

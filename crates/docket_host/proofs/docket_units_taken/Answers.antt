@@ -3,7 +3,6 @@ use mathlib.Core.Path.{sym, ap, ◌∙◌}
 use Rattle.state.specs.declared.Opened.{Opened}
 use Rattle.state.proofs.Room.{long_room}
 use Rattle.docket_host.proofs.Calls.{taken_lent, taken_short, taken_none, taken_done}
-use borrow.Author.Rules.{rules}
 use Rattle.docket_host.proofs.docket_units_taken.Goals as goal
 
 pub opened_in-opened-requires : goal.opened_in-opened-requires
