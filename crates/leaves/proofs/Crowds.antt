@@ -1,23 +1,21 @@
 -- Crowd: what its test says (document 02, [1]), and how many units are fixed on and how many not fixed off, unit by unit, with their sizes.
 use mathlib.Core.Path.{◌≡◌, refl, sym, ◌∙◌, ap, ap₂}
-use mathlib.Core.Bool.{Bool, true, false, cond, ◌||◌}
+use mathlib.Core.Bool.{Bool, true, false, not, cond, ◌||◌}
 use mathlib.Core.List.{List, [], ◌∷◌}
 use mathlib.Core.Logic.{◌↔◌, ◌⊎◌, inl, inr}
 use mathlib.Core.Option.{Option, none, some}
-use Prim.Native.Nat.{ℕ, zero, suc, ◌+◌, ◌≤◌, ◌<◌}
+use Prim.Native.Nat.{ℕ, zero, suc, ◌+◌, ◌<◌}
 use native.Mathlib.Omega.{arith}
 use borrow.Author.Tests.{eqb-true, lt-ltb, ltb-true}
 use lib.Dec.{eqb, ltb}
-use mir.Val.{bool_byte}
-use lib.ListN.{length, take, length-take}
+use lib.ListN.{length, take}
 use Rattle.model.specs.declared.generator.Generator.{Generator}
 use Rattle.model.specs.Instance.{Instance, ◌at◌}
 use Rattle.model.specs.Above.{Mark, free, fixed, Marks, rest, Above, AboveMost}
 use Rattle.model.specs.Leaf.{unless_off, usable, if_fixed_on, fixed_on, not_off, Crowded}
 use Rattle.walk.specs.Marks.{mark_of, upper_begin, lower_begin, most_of, above_of}
 use Rattle.walk.proofs.AboveMarks.{most_here, least_here}
-use Rattle.leaves.specs.LeafLeasts.{above_most, crowd_at}
-use Rattle.leaves.proofs.MarkBytes.{usable_length}
+use Rattle.leaves.specs.LeafLeasts.{above_most, crowd_at, counted}
 
 -- ---- what the test says
 
@@ -53,63 +51,60 @@ crowd_is P A t = ((λ e. there (either over under e)), (λ h. back h))
 
 -- ---- one byte
 
--- 1 only for the byte that fixes on
-pub fixed_on_is : (x : ℕ) → bool_byte (eqb x 2) ≡ if_fixed_on (mark_of x)
+-- fixed on, and not fixed off
+abbrev pub is_on : Mark → Bool
+is_on free = false
+is_on (fixed d) = d
+
+pub on_byte : (x : ℕ) → eqb x 2 ≡ is_on (mark_of x)
 unfolding mark_of
-fixed_on_is x = go (eqb x 1) refl (eqb x 2) refl
+on_byte x = go (eqb x 1) refl (eqb x 2) refl
   where
-    go : (b : Bool) → eqb x 1 ≡ b → (c : Bool) → eqb x 2 ≡ c → bool_byte c ≡ if_fixed_on (cond b (fixed false) (cond c (fixed true) free))
+    go : (b : Bool) → eqb x 1 ≡ b → (c : Bool) → eqb x 2 ≡ c → c ≡ is_on (cond b (fixed false) (cond c (fixed true) free))
     go true e true h = absurd (omega (arith, eqb-true x 1 e, eqb-true x 2 h))
     go true e false h = refl
     go false e true h = refl
     go false e false h = refl
 
+abbrev pub may_be_on : Mark → Bool
+may_be_on free = true
+may_be_on (fixed d) = d
+
+pub may_byte : (x : ℕ) → not (eqb x 1) ≡ may_be_on (mark_of x)
+unfolding mark_of
+may_byte x = go (eqb x 1) (eqb x 2)
+  where
+    go : (b c : Bool) → not b ≡ may_be_on (cond b (fixed false) (cond c (fixed true) free))
+    go true c = refl
+    go false true = refl
+    go false false = refl
+
+pub fixed_on_counted : (l : List Generator) (m : Marks) (t : ℕ) → counted is_on l m t ≡ fixed_on l m t
+unfolding fixed_on
+fixed_on_counted [] m t = refl
+fixed_on_counted (g ∷ l) m t = ap₂ ◌+◌ (one (m 0 t)) (fixed_on_counted l (rest m) t)
+  where
+    one : (x : Mark) → cond (is_on x) 1 0 ≡ if_fixed_on x
+    one free = refl
+    one (fixed true) = refl
+    one (fixed false) = refl
+
+pub not_off_counted : (l : List Generator) (m : Marks) (t : ℕ) → counted may_be_on l m t ≡ not_off l m t
+unfolding usable
+not_off_counted [] m t = refl
+not_off_counted (g ∷ l) m t = omega (arith, one (m 0 t) g.pU (usable l (rest m) t), not_off_counted l (rest m) t)
+  where
+    one : (x : Mark) (v : ℕ) (k : List ℕ) → length (unless_off x v k) ≡ cond (may_be_on x) 1 0 + length k
+    one free v k = omega arith
+    one (fixed true) v k = omega arith
+    one (fixed false) v k = omega arith
+
 -- ---- one unit more
 
-pub fixed_on_more : (u : ℕ) (l : List Generator) (m : Marks) (t : ℕ) → u < length l
-    → fixed_on (take (suc u) l) m t ≡ fixed_on (take u l) m t + if_fixed_on (m u t)
-unfolding fixed_on
-fixed_on_more u [] m t h = absurd (omega arith)
-fixed_on_more zero (g ∷ l) m t h = omega arith
-fixed_on_more (suc u) (g ∷ l) m t h = omega (arith, fixed_on_more u l (rest m) t (omega arith))
-
-length_unless_off : (x : Mark) (v : ℕ) (k : List ℕ) → length (unless_off x v k) ≡ length (unless_off x 0 []) + length k
-length_unless_off free v k = omega arith
-length_unless_off (fixed true) v k = omega arith
-length_unless_off (fixed false) v k = omega arith
-
-pub not_off_more : (u : ℕ) (l : List Generator) (m : Marks) (t : ℕ) → u < length l
-    → not_off (take (suc u) l) m t ≡ not_off (take u l) m t + length (unless_off (m u t) 0 [])
-unfolding usable
-not_off_more u [] m t h = absurd (omega arith)
-not_off_more zero (g ∷ l) m t h = omega (arith, length_unless_off (m 0 t) g.pU [])
-not_off_more (suc u) (g ∷ l) m t h =
-    omega (
-      arith,
-      length_unless_off (m 0 t) g.pU (usable (take (suc u) l) (rest m) t),
-      length_unless_off (m 0 t) g.pU (usable (take u l) (rest m) t),
-      not_off_more u l (rest m) t (omega arith),
-    )
-
--- ---- sizes
-
-if_fixed_on_most : (x : Mark) → if_fixed_on x ≤ 1
-if_fixed_on_most free = omega arith
-if_fixed_on_most (fixed true) = omega arith
-if_fixed_on_most (fixed false) = omega arith
-
-fixed_on_fits : (gs : List Generator) (m : Marks) (t : ℕ) → fixed_on gs m t ≤ length gs
-unfolding fixed_on
-fixed_on_fits [] m t = omega arith
-fixed_on_fits (g ∷ gs) m t = omega (arith, if_fixed_on_most (m 0 t), fixed_on_fits gs (rest m) t)
-
--- of the first u units
-module _ (u : ℕ) (l : List Generator) (h : length l ≤ 32) (m : Marks) (t : ℕ) where
-  pub fixed_on_front_fits : fixed_on (take u l) m t ≤ 32
-  fixed_on_front_fits = omega (arith, fixed_on_fits (take u l) m t, length-take u l)
-
-  pub not_off_front_fits : not_off (take u l) m t ≤ 32
-  not_off_front_fits = omega (arith, usable_length (take u l) m t, length-take u l)
+pub counted_more : (p : Mark → Bool) (u : ℕ) (l : List Generator) (m : Marks) (t : ℕ) → u < length l → counted p (take (suc u) l) m t ≡ counted p (take u l) m t + cond (p (m u t)) 1 0
+counted_more p u [] m t h = absurd (omega arith)
+counted_more p zero (g ∷ l) m t h = omega arith
+counted_more p (suc u) (g ∷ l) m t h = omega (arith, counted_more p u l (rest m) t (omega arith))
 
 -- ---- both tests
 

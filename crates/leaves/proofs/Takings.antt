@@ -155,11 +155,14 @@ module _ (p : ℕ → Bool) (f : ℕ → ℕ) (c : List ℕ) (K d : ℕ) where
         ended (record { fewer = P.fewer; enough = λ h. omega (arith, h, all, P.sum); all = λ h. e }) (ap (λ (x : ℕ). ltb x d) all)
 
     -- they reach d
-    pub passed_enough : d ≤ s → record { short = ltb s d; units = k } ≡ taken_from (values p f c K) d
+    passed_enough : d ≤ s → record { short = ltb s d; units = k } ≡ taken_from (values p f c K) d
     passed_enough h =
         let most : s ≤ total all_taken = omega (arith, P.sum, take_total k all_taken) in
         ended (record { fewer = P.fewer; enough = λ j. omega (arith, h, P.sum); all = λ j. absurd (omega (arith, j, h, most)) })
         (le-ltb s d h ∙ sym (le-ltb (total all_taken) d (omega arith)))
+
+    pub passed_reached : d ≤ s → record { short = false; units = k } ≡ taken_from (values p f c K) d
+    passed_reached h = ap (λ (b : Bool). record { short = b; units = k }) (sym (le-ltb s d h)) ∙ passed_enough h
 
     -- K are taken
     pub passed_most : K ≤ k → record { short = ltb s d; units = k } ≡ taken_from (values p f c K) d

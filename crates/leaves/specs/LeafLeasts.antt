@@ -1,10 +1,10 @@
 -- What a leaf answers: that a unit is stuck, or a least value, which only a leaf without a stuck unit has; whether the units are short and how many were taken, or
 -- whether they are a crowd (document 01, Rules for a leaf; document 02, [1], [2] and [6]).
-use Rattle.std.specs.Prelude.{Bool, false, cond, ◌||◌, List, ℕ, ◌+◌, ltb, pos, ◌+ℤ◌, None, Some}
+use Rattle.std.specs.Prelude.{Bool, false, cond, ◌||◌, List, [], ◌∷◌, ℕ, ◌+◌, ltb, pos, ◌+ℤ◌, None, Some}
 use Rattle.std.proofs.Math.Option.{Option, none, some}
 use Rattle.model.specs.declared.generator.Generator.{Generator}
 use Rattle.model.specs.Instance.{Instance, ◌at◌}
-use Rattle.model.specs.Above.{Marks, Above}
+use Rattle.model.specs.Above.{Mark, Marks, rest, Above}
 use Rattle.model.specs.Largest.{total}
 use Rattle.model.specs.Turns.{in_turn, took}
 use Rattle.model.specs.Leaf.{available, fixed_on, not_off, any_stuck, units_least, requirement, leaf_value}
@@ -45,6 +45,11 @@ short_at P A t = ltb (available P A t) (P.demand at t + P.spare at t)
 -- whether `short` holds in period t, and how many units it takes
 abbrev pub taken_in : Instance → Above → ℕ → Taken
 taken_in P A t = record { short = short_at P A t; units = took (in_turn P A t) (P.demand at t + P.spare at t) }
+
+-- how many units have a mark in period t of which p holds
+abbrev pub counted : (Mark → Bool) → List Generator → Marks → ℕ → ℕ
+counted p [] m t = 0
+counted p (g ∷ gs) m t = cond (p (m 0 t)) 1 0 + counted p gs (rest m) t
 
 -- what is answered where the numbers of l are taken from its front until they reach d: whether they do not, and how many were taken
 abbrev pub taken_from : List ℕ → ℕ → Taken

@@ -31,7 +31,10 @@ fn take_by_number(numbers: &[u64], t: usize, above: &[u8], need: u64) -> Taken
     let mut taken = 0;
     for u in 0..units_in(numbers) {
         if need <= sum {
-            break;
+            return Taken {
+                short: false,
+                units: taken,
+            };
         }
         let mark = above[u * n + t];
         sum += usable_of(mark, pU_at(numbers, u));
@@ -54,8 +57,14 @@ fn take_largest(numbers: &[u64], t: usize, above: &[u8], need: u64, most: usize)
     let mut sum = 0;
     let mut taken = 0;
     for i in 0..units_in(numbers) {
-        if taken == most || need <= sum {
+        if taken == most {
             break;
+        }
+        if need <= sum {
+            return Taken {
+                short: false,
+                units: taken,
+            };
         }
         let mark = above[place_at(numbers, i) + t];
         sum += usable_of(mark, size_at(numbers, i));

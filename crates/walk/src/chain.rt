@@ -27,6 +27,19 @@ fn lesser_plus<const VALUED: bool>(early: u64, k: u64, v: u64) -> u64
     }
 }
 
+// The same of two coded values.
+pub fn lesser_coded<const VALUED: bool>(x: u64, k: u64, v: u64) -> u64
+    requires good { GoodCost k × GoodValue v }
+    requires valued { VALUED ≡ true → (0 < x) × (0 < v) }
+    ensures { result ≡ lesser x (plus k v) }
+{
+    if !VALUED && x == 0 {
+        plus_value::<VALUED>(k, v)
+    } else {
+        lesser_plus::<VALUED>(x, k, v)
+    }
+}
+
 // The place of the first state that may be left after need periods, where the last one is at end.
 pub fn first_early(need: usize, end: usize) -> usize
     ensures { result ≡ min (need - 1) end }

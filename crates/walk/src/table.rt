@@ -8,7 +8,7 @@ ghost use Rattle.walk.specs.Marks.{mark_of};
 ghost use Rattle.walk.specs.Limits.{GoodCost, GoodValue};
 ghost use Rattle.walk.specs.GoingBack.{Back, Backed, Valued, Rising, is_open};
 
-use crate::chain::{fill_states, first_early, keep_states, leave_or_keep_states, plus_value};
+use crate::chain::{fill_states, first_early, keep_states, leave_or_keep_states, lesser_coded};
 use model::generator::Generator;
 
 // A coded value with k added, where it is allowed.
@@ -43,13 +43,13 @@ fn keep_back<const VALUED: bool>(
 )
     requires begin_le_end { (begin ≤ end) × (length states.old ≡ end + 1) }
     requires good_cost { GoodCost cost × ((k : ℕ) → GoodValue (states.old at k)) }
-    requires valued { VALUED ≡ true → (0 < early) × Valued states.old }
+    requires valued { VALUED ≡ true → (0 < early) × (0 < last) × Valued states.old }
     ensures { Backed states.old states.new begin early last true cost }
 {
     let final_state = states[end];
     keep_states::<VALUED>(states, 0, begin, cost);
     leave_or_keep_states::<VALUED>(states, begin, end, early, cost);
-    states[end] = lesser_value(last, plus_value::<VALUED>(cost, final_state));
+    states[end] = lesser_coded::<VALUED>(last, cost, final_state);
 }
 
 // The same where the status is not allowed: it can only be left.
@@ -73,7 +73,7 @@ fn chain_back<const VALUED: bool>(
 )
     requires by_index { (k : ℕ) → GoodValue (states.old at k) }
     requires good_cost { GoodCost cost }
-    requires valued { VALUED ≡ true → (0 < early) × Valued states.old }
+    requires valued { VALUED ≡ true → (0 < early) × (0 < last) × Valued states.old }
     ensures { Chained states.old states.new need early last allowed cost }
 {
     if states.is_empty() {
@@ -92,14 +92,14 @@ fn chain_back<const VALUED: bool>(
 fn on_back<const VALUED: bool>(states: &mut [u64], leaving: u64, allowed: bool, cost: u64)
     requires in_bounds { (1 ≤ length states.old) × ((k : ℕ) → GoodValue (states.old at k)) }
     requires good_cost { GoodCost cost }
-    requires valued { VALUED ≡ true → Valued states.old }
+    requires valued { VALUED ≡ true → (0 < leaving) × Valued states.old }
     ensures { (need : ℕ) → length states.old ≤ need → Chained states.old states.new need leaving leaving allowed cost }
 {
     let end = states.len() - 1;
     if allowed {
         let final_state = states[end];
         keep_states::<VALUED>(states, 0, end, cost);
-        states[end] = lesser_value(leaving, plus_value::<VALUED>(cost, final_state));
+        states[end] = lesser_coded::<VALUED>(leaving, cost, final_state);
     } else {
         fill_states(states, 0, end, 0);
         states[end] = leaving;

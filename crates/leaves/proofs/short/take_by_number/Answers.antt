@@ -10,10 +10,9 @@ use Rattle.walk.specs.Marks.{mark_of, above_of}
 use Rattle.walk.proofs.AboveMarks.{marks_same}
 use Rattle.least.proofs.UnitParts.{part_within}
 use Rattle.leaves.specs.LeafLeasts.{taken_from}
-use Rattle.leaves.proofs.Takings.{Passed, passed_few, passed_more, passed_enough, passed_all}
+use Rattle.leaves.proofs.Takings.{Passed, passed_few, passed_more, passed_reached, passed_all}
 use Rattle.leaves.proofs.Shorts.{usable_rank, rank_may, rank_value, adds_most, pU_small, by_number}
 use Rattle.leaves.proofs.short.take_by_number.Goals as goal
-use Rattle.leaves.proofs.short.take_by_number.Goals.{else-loop-u-test, then-loop-u-test+then-need-sum}
 use Rattle.leaves.proofs.short.take_by_number.Tie as tie
 use Rattle.leaves.proofs.short.take_by_number.Reads as reads
 use Rattle.leaves.proofs.short.take_by_number.Lts as lts
@@ -76,12 +75,14 @@ overflow_add-taken c =
 pub loop-u-preserved : goal.loop-u-preserved
 loop-u-preserved c = rw (add-one c.loop-u.u) (more c.before)
 
+pub returns-then-need-sum : goal.returns-then-need-sum
+returns-then-need-sum c =
+    let P = instance_in c.args.numbers.now in
+    passed_reached _ _ _ _ _ _ _ _ c.loop-u.invariant c.if-need-sum.true
+    ∙ ap (λ (v : List ℕ). taken_from v c.args.need) (by_number P.units c.requires.laid.well_formed.units_in.1 (above_of P c.args.above.now).marks c.args.t)
+
 pub returns : goal.returns
 returns c =
     let P = instance_in c.args.numbers.now in
-    let passed = c.loop-u.invariant in
-    elim c.loop-u-test.branch [
-      | else-loop-u-test w ↦ passed_all _ _ _ _ _ _ _ _ passed (omega (arith, w.loop-u-test.false, c.units_in-u-end.ensures, ranks_long 0 P.units))
-      | then-loop-u-test+then-need-sum w ↦ passed_enough _ _ _ _ _ _ _ _ passed w.if-need-sum.true
-    ]
+    passed_all _ _ _ _ _ _ _ _ c.loop-u.invariant (omega (arith, c.loop-u-test.false, c.units_in-u-end.ensures, ranks_long 0 P.units))
     ∙ ap (λ (v : List ℕ). taken_from v c.args.need) (by_number P.units c.requires.laid.well_formed.units_in.1 (above_of P c.args.above.now).marks c.args.t)

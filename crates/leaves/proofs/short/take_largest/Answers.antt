@@ -10,10 +10,10 @@ use Rattle.walk.specs.Marks.{mark_of, above_of}
 use Rattle.walk.proofs.AboveMarks.{marks_same}
 use Rattle.least.proofs.UnitParts.{part_within}
 use Rattle.leaves.specs.LeafLeasts.{taken_from}
-use Rattle.leaves.proofs.Takings.{Passed, passed_few, passed_more, passed_enough, passed_most, passed_all}
+use Rattle.leaves.proofs.Takings.{Passed, passed_few, passed_more, passed_reached, passed_most, passed_all}
 use Rattle.leaves.proofs.Shorts.{usable_rank, by_size, adds_most}
 use Rattle.leaves.proofs.short.take_largest.Goals as goal
-use Rattle.leaves.proofs.short.take_largest.Goals.{else-loop-i-test, then-loop-i-test+then-taken-most, then-taken-most-via-then-taken-most, then-taken-most-via-else-taken-most+then-need-sum}
+use Rattle.leaves.proofs.short.take_largest.Goals.{else-loop-i-test, then-loop-i-test+then-taken-most}
 use Rattle.leaves.proofs.short.take_largest.Tie as tie
 use Rattle.leaves.proofs.short.take_largest.Reads as reads
 use Rattle.leaves.proofs.short.take_largest.Lts as lts
@@ -72,15 +72,18 @@ overflow_add-taken c =
 pub loop-i-preserved : goal.loop-i-preserved
 loop-i-preserved c = rw (add-one c.loop-i.i) (more c.before)
 
+pub returns-then-need-sum : goal.returns-then-need-sum
+returns-then-need-sum c =
+    let P = instance_in c.args.numbers.now in
+    passed_reached _ _ _ _ _ _ _ _ c.loop-i.invariant c.if-need-sum.true
+    ∙ ap (λ (v : List ℕ). taken_from v c.args.need) (by_size P.units c.requires.laid.well_formed.units_in.1 (above_of P c.args.above.now).marks c.args.t c.args.most)
+
 pub returns : goal.returns
 returns c =
     let P = instance_in c.args.numbers.now in
     let passed = c.loop-i.invariant in
     elim c.loop-i-test.branch [
       | else-loop-i-test w ↦ passed_all _ _ _ _ _ _ _ _ passed (omega (arith, w.loop-i-test.false, c.units_in-i-end.ensures, ranked_long P.units))
-      | then-loop-i-test+then-taken-most w ↦ elim w.then-taken-most.branch [
-        | then-taken-most-via-then-taken-most w' ↦ passed_most _ _ _ _ _ _ _ _ passed (omega (arith, w'.if-taken-most.true))
-        | then-taken-most-via-else-taken-most+then-need-sum w' ↦ passed_enough _ _ _ _ _ _ _ _ passed w'.if-need-sum.true
-      ]
+      | then-loop-i-test+then-taken-most w ↦ passed_most _ _ _ _ _ _ _ _ passed (omega (arith, w.if-taken-most.true))
     ]
     ∙ ap (λ (v : List ℕ). taken_from v c.args.need) (by_size P.units c.requires.laid.well_formed.units_in.1 (above_of P c.args.above.now).marks c.args.t c.args.most)

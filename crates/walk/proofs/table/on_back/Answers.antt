@@ -9,11 +9,11 @@ use Rattle.walk.proofs.table.on_back.Goals as goal
 
 pub keep_states-requires : goal.keep_states-requires
 keep_states-requires g c =
-    record { from_le_to = omega arith; good_cost = (c.requires.good_cost, λ k h. c.requires.in_bounds.1 k); valued = λ e k h i. c.requires.valued e k (omega arith) }
+    record { from_le_to = omega arith; good_cost = (c.requires.good_cost, λ k h. c.requires.in_bounds.1 k); valued = λ e k h i. (c.requires.valued e).1 k (omega arith) }
 
-pub plus_value-requires : goal.plus_value-requires
-plus_value-requires g c =
-    record { good = (c.requires.good_cost, c.requires.in_bounds.1 _); valued = λ e. c.requires.valued e _ (omega arith) }
+pub lesser_coded-requires : goal.lesser_coded-requires
+lesser_coded-requires g c =
+    record { good = (c.requires.good_cost, c.requires.in_bounds.1 _); valued = λ e. ((c.requires.valued e).0, (c.requires.valued e).1 _ (omega arith)) }
 
 pub returns-then-allowed : goal.returns-then-allowed
 returns-then-allowed g c need h =
@@ -21,7 +21,7 @@ returns-then-allowed g c need h =
     rw c.if-allowed.true
     (backed_chained _ _ need _ a.leaving a.leaving true a.cost (omega arith) (omega arith)
     (backed_is _ _ _ _ _ a.leaving a.leaving true a.cost _ (omega arith) (omega arith) c.keep_states.ensures (written_none _ _ _)
-    (c.lesser_value.ensures ∙ ap (lesser a.leaving) c.plus_value.ensures)))
+    c.lesser_coded.ensures))
 
 pub returns-else-allowed : goal.returns-else-allowed
 returns-else-allowed g c need h =
