@@ -1,13 +1,19 @@
 -- A test of every member, taken from the front: what is left to test from place i on decides, as long as those before it passed.
-use mathlib.Core.Path.{◌≡◌, sym, ap, ◌∙◌}
+use mathlib.Core.Path.{◌≡◌, refl, sym, ap, ◌∙◌}
 use mathlib.Core.Bool.{Bool, true, false, ◌&&◌}
-use mathlib.Core.List.{List, ◌∷◌}
+use mathlib.Core.List.{List, [], ◌∷◌}
 use Prim.Native.Nat.{ℕ, suc, ◌+◌, ◌≤◌, ◌<◌}
 use native.Mathlib.Omega.{arith}
 use native.Mathlib.Numerals.{add-one}
 use lib.ListN.{length, take, drop, get_or, drop_of_length-le}
 use lib.Seq.{length-take-le, drop-cons, get_or-take}
+use Rattle.std.specs.List.{list_all}
 use Rattle.model.specs.Ranges.{every}
+
+-- the same as the library's word
+pub every_all : {A : Type 0} (test : A → Bool) (l : List A) → every test l ≡ list_all test l
+every_all test [] = refl
+every_all test (x ∷ l) = ap (λ (b : Bool). test x && b) (every_all test l)
 
 module _ {A : Type 0} (test : A → Bool) (z : A) (l : List A) (n : ℕ) (fits : n ≤ length l) where
   -- from place i on

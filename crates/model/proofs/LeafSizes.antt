@@ -5,14 +5,14 @@ use mathlib.Core.List.{List, [], ◌∷◌}
 use Prim.Native.Nat.{ℕ, zero, suc, ◌+◌, ◌*◌, ◌≤◌, ◌<◌}
 use native.Mathlib.Nat.{mul-le-mul}
 use native.Mathlib.Omega.{arith}
-use lib.ListN.{length, get_or}
+use lib.ListN.{length}
 use lib.IntN.{ℤ, pos, negsuc, ◌+ℤ◌}
 use Rattle.model.specs.declared.generator.Generator.{Generator}
 use Rattle.model.specs.Instance.{Instance, ◌at◌}
 use Rattle.model.specs.Ranges.{Between, All, GoodUnit, GoodPrice, WellFormed}
 use Rattle.model.specs.Above.{Marks, rest, Above}
 use Rattle.model.specs.Leaf.{unit_least, units_least, requirement, leaf_value}
-use Rattle.model.specs.Ramps.{RampPrices, unpriced, ramp_least, Steps, rest_steps, ups, downs, ramp_leasts, ramp_leaf_value}
+use Rattle.model.specs.Ramps.{RampPrices, ramp_least, Steps, rest_steps, ups, downs, ramp_leasts, ramp_leaf_value}
 use Rattle.model.specs.declared.figures.Bound.{Bound}
 use Rattle.model.specs.declared.figures.Bound.TheVariants.{Never as never, Number as number}
 use Rattle.model.specs.Tree.{Leaf, short, crowd, stuck, price, ramp, StepMultipliers, GoodLeaf, leaf_bound}

@@ -11,7 +11,7 @@ use native.Mathlib.Omega.{arith}
 use lib.Dec.{T}
 use lib.IntN.{ℤ, pos, ◌-ℤ◌}
 use lib.ListN.{length, length-map, get_or}
-use lib.Signed.{le_z, ◌≤ℤ◌, ≤ℤ_refl}
+use lib.Signed.{le_z, ≤ℤ_refl}
 use Rattle.model.specs.declared.generator.Generator.{Generator}
 use Rattle.model.specs.Instance.{◌at◌}
 use Rattle.model.specs.Ranges.{GoodUnit}

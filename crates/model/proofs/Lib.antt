@@ -6,6 +6,7 @@ pub mod Largest
 pub mod FallingOrders
 pub mod Members
 pub mod Every
+pub mod MadeArrays
 pub mod RangeTests
 pub mod Held
 pub mod Valid

@@ -1,11 +1,11 @@
 -- What a ramp leaf's walk reads: the multipliers of its periods and of their steps, and no others.
-use mathlib.Core.Path.{◌≡◌, refl, ap₂}
-use mathlib.Core.Bool.{Bool, true, false}
-use Prim.Native.Nat.{ℕ, zero, suc, pred, ◌+◌, ◌*◌, ◌<◌}
+use mathlib.Core.Path.{◌≡◌, refl}
+use mathlib.Core.Bool.{Bool}
+use Prim.Native.Nat.{ℕ, zero, suc, pred, ◌<◌}
 use native.Mathlib.Omega.{arith}
 use Rattle.model.specs.declared.generator.Generator.{Generator}
 use Rattle.model.specs.Above.{Mark}
-use Rattle.model.specs.RampCosts.{after, before, dearer, gainful, off_cost, added, ramp_worth, ramp_offset, ramp_walk}
+use Rattle.model.specs.RampCosts.{after, before, added, ramp_worth, ramp_offset, ramp_walk}
 use Rattle.model.proofs.PeriodSums.{sum_eq}
 use Rattle.model.proofs.WalkPeriods.{walk_ext}
 

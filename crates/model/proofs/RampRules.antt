@@ -7,7 +7,7 @@ use lib.Dec.{T}
 use lib.IntN.{pos}
 use lib.Signed.{◌≤ℤ◌}
 use Rattle.model.specs.declared.generator.Generator.{Generator}
-use Rattle.model.specs.Instance.{Instance, Schedule, ◌at◌, sum, Each}
+use Rattle.model.specs.Instance.{Instance, Schedule, ◌at◌, Each}
 use Rattle.model.specs.Rules.{on, Within, Row, MeetsPrinted}
 use Rattle.model.specs.Ramps.{over_rise, over_fall, ramp_charge}
 use Rattle.model.proofs.Integers.{nat→le}

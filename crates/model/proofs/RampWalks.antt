@@ -1,10 +1,10 @@
 -- Document 02, [6]: a ramp leaf's value separates by period, so that the walk of a price leaf, with other costs, finds each unit's true least. With
 -- up_1 = down_1 = up_{T+1} = down_{T+1} = 0: each unit of output in t costs b + up_t + down_{t+1}, each unit short of pU q_t + up_{t+1} + down_t.
 use mathlib.Core.Path.{◌≡◌, refl, sym, ◌∙◌, ap, ap₂}
-use mathlib.Core.Bool.{Bool, true, false, not, cond}
+use mathlib.Core.Bool.{not, cond}
 use mathlib.Core.List.{List}
 use mathlib.Core.Option.{none, some}
-use Prim.Native.Nat.{ℕ, zero, suc, pred, ◌+◌, ◌*◌, ◌-◌, ◌≤◌, ◌<◌}
+use Prim.Native.Nat.{ℕ, zero, suc, pred, ◌+◌, ◌*◌, ◌-◌, ◌<◌}
 use native.Mathlib.Nat.{mul-add, sub-add_cancel}
 use native.Mathlib.Omega.{arith}
 use lib.Dec.{eqb, eqb-suc-zero}

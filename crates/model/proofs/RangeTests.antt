@@ -1,5 +1,5 @@
 -- The tests of the code are the ranges of document 01: a test holds exactly where the record does. A joined test is the product of its parts.
-use mathlib.Core.Path.{◌≡◌, refl, sym, ap, subst, ◌∙◌}
+use mathlib.Core.Path.{◌≡◌, refl, sym, ap, ◌∙◌}
 use mathlib.Core.Bool.{Bool, true, false, not, cond, ◌&&◌}
 use mathlib.Core.List.{List, [], ◌∷◌}
 use mathlib.Core.Logic.{◌↔◌}
@@ -19,10 +19,6 @@ leb_is m n = (leb→le m n, le→leb m n)
 
 pub between_is : (least v most : ℕ) → T (between least v most) ↔ Between least v most
 between_is l v m = and_is (leb l v) (leb v m) (leb_is l v) (leb_is v m)
-
--- what lies from least to most is at most that
-pub between_most : (least v most : ℕ) → between least v most ≡ true → v ≤ most
-between_most l v m e = ((between_is l v m).0 (true_T (between l v m) e)).1
 
 module _ {A : Type 0} (test : A → Bool) (R : A → Type 0) (is : (x : A) → T (test x) ↔ R x) where
   pub every_is : (l : List A) → T (every test l) ↔ All R l
@@ -122,15 +118,6 @@ module _ (g : Generator) where
     λ t. let p = orders_are.0 t in record { limits = p.0; starts = p.1.0; midnight = p.1.1 },
     λ R. orders_are.1 (R.limits, (R.starts, R.midnight)),
   )
-
-  -- the test of p0 that the status chooses
-  pub midnight_on : g.on ≡ true → midnight_ordered g ≡ between g.pL g.p0 g.pU
-  unfolding midnight_ordered
-  midnight_on e = ap (λ (c : Bool). cond c (between g.pL g.p0 g.pU) (eqb g.p0 0)) e
-
-  pub midnight_off : g.on ≡ false → midnight_ordered g ≡ eqb g.p0 0
-  unfolding midnight_ordered
-  midnight_off e = ap (λ (c : Bool). cond c (between g.pL g.p0 g.pU) (eqb g.p0 0)) e
 
   -- a unit line that both tests let through
   pub good_unit : T (in_range g) → T (ordered g) → GoodUnit g

@@ -1,7 +1,7 @@
 -- A fork puts a schedule on one side: what agrees above a fork agrees with the side that the schedule takes, and what agrees with a side of a good fork
 -- agrees above it and takes that side.
 use mathlib.Core.Path.{◌≡◌, refl, subst}
-use mathlib.Core.Bool.{Bool, true, false, cond, ◌&&◌, beq}
+use mathlib.Core.Bool.{Bool, true, false, cond, ◌&&◌}
 use mathlib.Core.Logic.{◌↔◌}
 use mathlib.Core.Option.{Option, none, some}
 use Prim.Native.Nat.{ℕ, suc, ◌≤◌, ◌<◌}

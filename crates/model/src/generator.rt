@@ -3,8 +3,6 @@ ghost use Rattle.std.specs.Prelude.{◌≡◌};
 ghost use Rattle.model.specs.Ranges.{costs_in_range, outputs_in_range, times_in_range, in_range, midnight_ordered, ordered, good_generator};
 ghost use Rattle.model.specs.Held.{blank_generator};
 
-use crate::ranges::{holds_both, is_between};
-
 // Document 01's unit, with the source's names for its numbers. Tini is on and since: before period 1 the generator has
 // been on, or off, for since periods. p0 is its output at midnight (document 02, [3]).
 #[derive(Clone, Copy)]
@@ -73,74 +71,66 @@ impl Generator {
     }
 
     // Whether every number is in its range (13).
+    #[tactic(auto, unfolding(crate::specs::Ranges::in_range))]
     pub fn in_range(self) -> bool
         ensures { result ≡ in_range self }
     {
-        let costs = self.has_costs_in_range();
-        let outputs = self.has_outputs_in_range();
-        let times = self.has_times_in_range();
-        holds_both(costs, holds_both(outputs, times))
+        self.has_costs_in_range() && self.has_outputs_in_range() && self.has_times_in_range()
     }
 
     // Whether a, b, c, Hsc, Csc and Dc are in range.
+    #[tactic(auto, unfolding(crate::specs::Ranges::costs_in_range))]
     fn has_costs_in_range(self) -> bool
         ensures { result ≡ costs_in_range self }
     {
-        let a = is_between(0, self.a, Self::MOST_COST);
-        let b = is_between(0, self.b, Self::MOST_B);
-        let c = is_between(0, self.c, Self::MOST_C);
-        let hot = is_between(0, self.Hsc, Self::MOST_COST);
-        let cold = is_between(0, self.Csc, Self::MOST_COST);
-        let stop = is_between(0, self.Dc, Self::MOST_COST);
-        holds_both(
-            a,
-            holds_both(b, holds_both(c, holds_both(hot, holds_both(cold, stop)))),
-        )
+        self.a <= Self::MOST_COST
+            && self.b <= Self::MOST_B
+            && self.c <= Self::MOST_C
+            && self.Hsc <= Self::MOST_COST
+            && self.Csc <= Self::MOST_COST
+            && self.Dc <= Self::MOST_COST
     }
 
     // Whether pL, pU, DR, UR and p0 are in range.
+    #[tactic(auto, unfolding(crate::specs::Ranges::outputs_in_range))]
     fn has_outputs_in_range(self) -> bool
         ensures { result ≡ outputs_in_range self }
     {
-        let low = is_between(Self::LEAST_OUTPUT, self.pL, Self::MOST_OUTPUT);
-        let high = is_between(Self::LEAST_OUTPUT, self.pU, Self::MOST_OUTPUT);
-        let down = is_between(Self::LEAST_OUTPUT, self.DR, Self::MOST_OUTPUT);
-        let up = is_between(Self::LEAST_OUTPUT, self.UR, Self::MOST_OUTPUT);
-        let midnight = is_between(0, self.p0, Self::MOST_OUTPUT);
-        holds_both(
-            low,
-            holds_both(high, holds_both(down, holds_both(up, midnight))),
-        )
+        let outputs = Self::LEAST_OUTPUT..=Self::MOST_OUTPUT;
+        outputs.contains(&self.pL)
+            && outputs.contains(&self.pU)
+            && outputs.contains(&self.DR)
+            && outputs.contains(&self.UR)
+            && self.p0 <= Self::MOST_OUTPUT
     }
 
     // Whether TU, TD, Tini and Tcold are in range.
+    #[tactic(auto, unfolding(crate::specs::Ranges::times_in_range))]
     fn has_times_in_range(self) -> bool
         ensures { result ≡ times_in_range self }
     {
-        let up = is_between(Self::LEAST_TIME, self.TU as u64, Self::MOST_TIME);
-        let down = is_between(Self::LEAST_TIME, self.TD as u64, Self::MOST_TIME);
-        let before = is_between(Self::LEAST_SINCE, self.since as u64, Self::MOST_SINCE);
-        let cold = is_between(0, self.Tcold as u64, Self::MOST_TIME);
-        holds_both(up, holds_both(down, holds_both(before, cold)))
+        let times = Self::LEAST_TIME..=Self::MOST_TIME;
+        times.contains(&(self.TU as u64))
+            && times.contains(&(self.TD as u64))
+            && (Self::LEAST_SINCE..=Self::MOST_SINCE).contains(&(self.since as u64))
+            && self.Tcold as u64 <= Self::MOST_TIME
     }
 
     // Whether pL is at most pU, Hsc at most Csc, and p0 as Tini has it (15).
+    #[tactic(auto, unfolding(crate::specs::Ranges::ordered))]
     pub fn is_ordered(self) -> bool
         ensures { result ≡ ordered self }
     {
-        let midnight = self.has_midnight();
-        holds_both(
-            self.pL <= self.pU,
-            holds_both(self.Hsc <= self.Csc, midnight),
-        )
+        self.pL <= self.pU && self.Hsc <= self.Csc && self.has_midnight()
     }
 
     // Whether p0 is from pL to pU after periods on, and 0 after periods off.
+    #[tactic(auto, unfolding(crate::specs::Ranges::midnight_ordered))]
     fn has_midnight(self) -> bool
         ensures { result ≡ midnight_ordered self }
     {
         if self.on {
-            is_between(self.pL, self.p0, self.pU)
+            (self.pL..=self.pU).contains(&self.p0)
         } else {
             self.p0 == 0
         }
@@ -150,8 +140,6 @@ impl Generator {
     pub fn is_good(self) -> bool
         ensures { result ≡ good_generator self }
     {
-        let in_range = self.in_range();
-        let ordered = self.is_ordered();
-        holds_both(in_range, ordered)
+        self.in_range() && self.is_ordered()
     }
 }

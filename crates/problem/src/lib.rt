@@ -12,7 +12,7 @@ ghost use Rattle.problem.specs.Storing.{FilledTo, read_from};
 
 use model::arrays::Problem;
 use model::generator::Generator;
-use model::ranges::{Fleet, Horizon, Load};
+use model::ranges::{FLEET, HORIZON, LOAD};
 use refusal::Refusal;
 use text::{End, Verdict};
 
@@ -55,8 +55,8 @@ pub fn read_problem(s: &[u8]) -> ProblemRead
         SECOND_LINE,
         b"periods=",
         1,
-        Horizon::LEAST,
-        Horizon::MOST,
+        HORIZON.least,
+        HORIZON.most,
     );
     let verdict = row.verdict;
     match verdict {
@@ -73,7 +73,7 @@ fn read_from_units(s: &[u8], at: usize, periods: usize) -> ProblemRead
     requires { periods ≤ 48 }
     ensures { result ≡ read_from s.now at 3 (units_due periods) }
 {
-    let row = text::read_row(s, at, b"units=", 1, Fleet::LEAST, Fleet::MOST);
+    let row = text::read_row(s, at, b"units=", 1, FLEET.least, FLEET.most);
     let verdict = row.verdict;
     match verdict {
         Verdict::Refused { number } => refuse_text(number, 3),
@@ -89,7 +89,7 @@ fn read_from_demand(s: &[u8], at: usize, periods: usize, units: usize) -> Proble
     requires { (periods ≤ 48) × (units ≤ 32) }
     ensures { result ≡ read_from s.now at 4 (demand_due periods units) }
 {
-    let row = text::read_row(s, at, b"demand=", periods, Load::LEAST, Load::MOST);
+    let row = text::read_row(s, at, b"demand=", periods, LOAD.least, LOAD.most);
     let verdict = row.verdict;
     match verdict {
         Verdict::Refused { number } => refuse_text(number, 4),
@@ -111,7 +111,7 @@ fn read_from_spare(
     requires { (periods ≤ 48) × ((units ≤ 32) × FilledTo periods demand) }
     ensures { result ≡ read_from s.now at 5 (spare_due periods units (take periods demand)) }
 {
-    let row = text::read_row(s, at, b"spare=", periods, Load::LEAST, Load::MOST);
+    let row = text::read_row(s, at, b"spare=", periods, LOAD.least, LOAD.most);
     let verdict = row.verdict;
     match verdict {
         Verdict::Refused { number } => refuse_text(number, 5),

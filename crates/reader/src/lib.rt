@@ -7,7 +7,7 @@ ghost use Rattle.text.specs.Ends.{end_of};
 ghost use Rattle.reader.specs.Places.{placed, lines_left};
 ghost use Rattle.reader.specs.Written.{writer_line, writer_read};
 
-use model::ranges::Writer;
+use model::ranges::WRITER;
 use text::{End, Kind, Verdict, is_line};
 
 // A lent text, and the start of its next line.
@@ -121,7 +121,7 @@ fn end_at(s: &[u8], at: usize, word: &[u8]) -> End
 fn writer_at(s: &[u8], at: usize) -> WriterLine
     ensures { result ≡ writer_line (line_at s.now at) at }
 {
-    let row = text::read_row(s, at, b"writer=", 1, Writer::LEAST, Writer::MOST);
+    let row = text::read_row(s, at, b"writer=", 1, WRITER.least, WRITER.most);
     let verdict = row.verdict;
     match verdict {
         Verdict::Refused { number } => WriterLine {

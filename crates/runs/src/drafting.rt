@@ -12,7 +12,7 @@ use least::unit::Least;
 use leaves::marks::are_statuses;
 use leaves::price::leaf_value;
 use model::arrays::Problem;
-use model::ranges::Price;
+use model::ranges::PRICE;
 
 // That no problem is known, that the question does not fit the problem, the first stuck unit, from 1, or the leaf's value.
 #[derive(Clone, Copy)]
@@ -29,7 +29,7 @@ pub fn are_prices(prices: &[u64]) -> bool
 {
     let mut i = 0;
     while i < prices.len() {
-        if Price::MOST < prices[i] {
+        if PRICE.most < prices[i] {
             return false;
         }
         i += 1;

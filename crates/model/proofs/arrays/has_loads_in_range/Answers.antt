@@ -1,33 +1,13 @@
-use mathlib.Core.Path.{◌≡◌, refl, sym, ◌∙◌}
-use Prim.Native.Nat.{◌-◌, ◌≤◌}
-use native.Mathlib.Omega.{arith}
-use lib.ListN.{length, take, drop}
-use borrow.Author.Rules.{rules}
-use Rattle.model.specs.Ranges.{every, load_in_range}
-use Rattle.model.proofs.Every.{one_passes, one_fails, all_pass}
+-- `has_loads_in_range` meets its contract: the chain tests every member.
+use mathlib.Core.Path.{sym, ◌∙◌}
+use Rattle.std.proofs.Common.{rules, tests}
+use Rattle.std.proofs.lemmas.Iterator.{YieldsList-from_slice}
+use Rattle.std.proofs.lemmas.Iterator.Search.{all_from_yields_List}
+use Rattle.model.specs.Ranges.{load_in_range}
+use Rattle.model.proofs.Every.{every_all}
 use Rattle.model.proofs.arrays.has_loads_in_range.Goals as goal
 
-pub loop-i-init : goal.loop-i-init
-loop-i-init c = (let long : length c.args.loads ≡ 48 = search rules in omega (arith, c.requires), refl)
-
-pub bounds-loads-i : goal.bounds-loads-i
-bounds-loads-i c = omega arith
-
-pub overflow_add-i : goal.overflow_add-i
-overflow_add-i c = omega arith
-
-pub loop-i-smaller : goal.loop-i-smaller
-loop-i-smaller c = omega arith
-
-pub loop-i-preserved : goal.loop-i-preserved
-loop-i-preserved c =
-    let v = c.loop-i.invariant in
-    (v.0, one_passes load_in_range 0 _ _ v.0 _ (omega arith) (sym c.is_between.ensures ∙ c.if-is_between.true) v.1)
-
-pub returns-else-is_between : goal.returns-else-is_between
-returns-else-is_between c =
-    let v = c.loop-i.invariant in
-    one_fails load_in_range 0 _ _ v.0 _ (omega arith) (sym c.is_between.ensures ∙ c.if-is_between.false) v.1
-
 pub returns : goal.returns
-returns c = let v = c.loop-i.invariant in all_pass load_in_range 0 _ _ v.0 c.loop-i.i (omega arith) v.1
+returns c =
+    all_from_yields_List load_in_range _ _ _ c.all.ensures.ran (YieldsList-from_slice c.args.loads.now (cc)) (λ x b q k. search (rules, tests))
+    ∙ sym (every_all load_in_range c.args.loads.now)

@@ -1,8 +1,0 @@
--- `has_times_in_range` meets its contract: what its calls ensure, put together.
-use Rattle.model.specs.Ranges.{times_in_range}
-use borrow.Author.Rules.{rules}
-use Rattle.model.proofs.generator.Generator.has_times_in_range.Goals as goal
-
-pub returns : goal.returns
-unfolding times_in_range
-returns c = cc

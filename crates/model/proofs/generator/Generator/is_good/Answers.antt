@@ -1,6 +1,0 @@
--- `is_good` meets its contract: what its calls ensure, put together.
-use borrow.Author.Rules.{rules}
-use Rattle.model.proofs.generator.Generator.is_good.Goals as goal
-
-pub returns : goal.returns
-returns c = cc
