@@ -64,9 +64,6 @@ module _ (b : Bool) (n : ℕ) (r : List ℕ) where
     pub joins : status_at k ≡ d → spent_at t ≡ spent_at k + (t - k)
     pub starts : (status_at k ≡ d → ⊥) → spent_at t ≡ t - k
 
-  pub back_none : (d : Bool) (t : ℕ) → d ≡ status_at t → Back d t t
-  back_none d t e = record { joins = λ h. omega arith; starts = λ h. absurd (h (sym e)) }
-
   module _ (d : Bool) (t : ℕ) where
     -- one period further back
     one_back : (k : ℕ) → suc k ≤ t → k < length r → Back d t (suc k) → on (r at k) ≡ d → Back d t k
@@ -93,16 +90,6 @@ module _ (b : Bool) (n : ℕ) (r : List ℕ) where
         let e' : on (r at k) ≡ d → ⊥ = rw i at e in
         w.starts (λ s. e' (sym (status_next b r k (omega arith)) ∙ s))
 
-    -- the stretch reaches back to period 1, and no further ..
-    pub back_ends : (k : ℕ) → k ≤ 0 → Back d t k → (b ≡ d → ⊥) → spent_at t ≡ t
-    back_ends zero h w e = omega (arith, w.starts e)
-    back_ends (suc k) h w e = absurd (omega arith)
-
-    -- .. or as far as Tini says
-    pub back_joins : (k : ℕ) → k ≤ 0 → Back d t k → b ≡ d → spent_at t ≡ n + t
-    back_joins zero h w e = omega (arith, w.joins e)
-    back_joins (suc k) h w e = absurd (omega arith)
-
 -- the status before a period is that of the period before, or, before period 1, the one that Tini gives
 pub status_later : (b : Bool) (r : List ℕ) (t : ℕ) → (t ≡ 0 → ⊥) → t ≤ length r → status_before b (statuses r) t ≡ on (r at (t - 1))
 status_later b r zero h l = absurd (h refl)
@@ -111,13 +98,6 @@ status_later b r (suc t) h l = let i : suc t - 1 ≡ t = omega arith in rw i (st
 -- ---- the output before a period, m being that at midnight
 
 module _ (m : ℕ) (r : List ℕ) where
-  pub output_first : (t : ℕ) → t ≡ 0 → output_before m r t ≡ m
-  output_first t e = rw e refl
-
   pub output_later : (t : ℕ) → (t ≡ 0 → ⊥) → output_before m r t ≡ r at (t - 1)
   output_later zero h = absurd (h refl)
   output_later (suc t) h = let i : suc t - 1 ≡ t = omega arith in rw i refl
-
-  pub output_most : (k : ℕ) → m ≤ k → ((t : ℕ) → r at t ≤ k) → (t : ℕ) → output_before m r t ≤ k
-  output_most k h l zero = h
-  output_most k h l (suc t) = l t

@@ -7,19 +7,18 @@ use Prim.Native.Nat.{ℕ, zero, suc, ◌+◌, ◌-◌, ◌*◌, ◌≤◌, ◌<�
 use native.Mathlib.Omega.{arith}
 use lib.Dec.{leb}
 use lib.ListN.{length}
-use borrow.Author.Tests.{lt-leb, le-leb}
 use Rattle.model.specs.declared.generator.Generator.{Generator}
 use Rattle.model.specs.declared.arrays.Problem.{Problem}
 use Rattle.model.specs.Instance.{◌at◌, sum}
 use Rattle.model.specs.Ranges.{GoodUnit}
-use Rattle.model.specs.Rules.{on, permits}
+use Rattle.model.specs.Rules.{on}
 use Rattle.model.specs.Breach.{off_ramp, first_place}
 use Rattle.model.proofs.PeriodSums.{sum_eq, sum_most}
 use Rattle.judge.specs.Rows.{Fitting}
 use Rattle.judge.specs.Counts.{bit, breaches, all_breaches}
 use Rattle.judge.specs.Before.{output_before}
 use Rattle.judge.proofs.Before.{output_later}
-use Rattle.judge.proofs.Tests.{is_off, is_on, ramp_is}
+use Rattle.judge.proofs.Tests.{ramp_is}
 use Rattle.judge.proofs.Sums.{sum_next}
 use Rattle.judge.proofs.Units.{unit, part, periods_most}
 use Rattle.judge.proofs.Search.{Clear, first_in, search_ends}
@@ -62,33 +61,6 @@ pub none_found : (q : ℕ → Generator → List ℕ → Bool) (p : Problem) (l 
     → all_breaches q p l p.units ≡ 0 → first_place p.periods (first_in q p l) ≡ none
 none_found q p l F many e = search_ends q p l F many (clear q p l e)
 
--- ---- (4), at one output
-
-module _ (low high p : ℕ) (is : p ≡ 0 → ⊥) where
-  pub off_low : p < low → 1 ≡ bit (on p && not (leb low p && leb p high))
-  off_low h = rw (is_on p is, lt-leb low p h) refl
-
-  pub off_high : low ≤ p → high < p → 1 ≡ bit (on p && not (leb low p && leb p high))
-  off_high k h = rw (is_on p is, le-leb low p k, lt-leb p high h) refl
-
-  pub off_none : low ≤ p → p ≤ high → 0 ≡ bit (on p && not (leb low p && leb p high))
-  off_none k h = rw (is_on p is, le-leb low p k, le-leb p high h) refl
-
--- ---- (5) to (10), at a status that changes after k periods
-
-module _ (g : Generator) (b : Bool) (k : ℕ) where
-  pub barred_off : b ≡ true → k < g.TU → 1 ≡ bit (not (permits g b k (not b)))
-  barred_off e h = rw (e, lt-leb g.TU k h) refl
-
-  pub allowed_off : b ≡ true → g.TU ≤ k → 0 ≡ bit (not (permits g b k (not b)))
-  allowed_off e h = rw (e, le-leb g.TU k h) refl
-
-  pub barred_on : b ≡ false → k < g.TD → 1 ≡ bit (not (permits g b k (not b)))
-  barred_on e h = rw (e, lt-leb g.TD k h) refl
-
-  pub allowed_on : b ≡ false → g.TD ≤ k → 0 ≡ bit (not (permits g b k (not b)))
-  allowed_on e h = rw (e, le-leb g.TD k h) refl
-
 -- ---- (11), (12), at one period
 
 -- as a number, whether an output leaves its ramp from b to p
@@ -96,23 +68,6 @@ abbrev pub steep_bit : ℕ → ℕ → ℕ → ℕ → ℕ
 steep_bit up down b p = bit ((on b && on p) && not (leb p (b + up) && leb b (p + down)))
 
 module _ (up down b p : ℕ) where
-  pub steep_was_off : b ≡ 0 → 0 ≡ steep_bit up down b p
-  steep_was_off e = rw (is_off b e) refl
-
-  module _ (was : b ≡ 0 → ⊥) where
-    pub steep_is_off : p ≡ 0 → 0 ≡ steep_bit up down b p
-    steep_is_off e = rw (is_on b was, is_off p e) refl
-
-    module _ (is : p ≡ 0 → ⊥) where
-      pub steep_rises : b + up < p → 1 ≡ steep_bit up down b p
-      steep_rises h = rw (is_on b was, is_on p is, lt-leb p (b + up) h) refl
-
-      pub steep_falls : p ≤ b + up → p + down < b → 1 ≡ steep_bit up down b p
-      steep_falls k h = rw (is_on b was, is_on p is, le-leb p (b + up) k, lt-leb b (p + down) h) refl
-
-      pub steep_none : p ≤ b + up → b ≤ p + down → 0 ≡ steep_bit up down b p
-      steep_none k h = rw (is_on b was, is_on p is, le-leb p (b + up) k, le-leb b (p + down) h) refl
-
   pub steep_most : steep_bit up down b p ≤ 1
   steep_most = bit_most ((on b && on p) && not (leb p (b + up) && leb b (p + down)))
 

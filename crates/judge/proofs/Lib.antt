@@ -15,3 +15,4 @@ pub mod CostSize
 pub mod Tallied
 pub mod RuleByRule
 pub mod Examples
+pub mod UnitTallies

@@ -8,17 +8,16 @@ use Rattle.model.specs.Cost.{cost}
 use Rattle.model.specs.Breach.{Breach, numbered, first_breach, place21, place22, place23, place24, place25}
 use Rattle.model.specs.Breach as breach
 use Rattle.judge.specs.declared.Broken.{Broken}
-use Rattle.judge.specs.declared.Judgement.TheVariants.{Breaks, Costs}
-use Rattle.judge.specs.declared.place.Place.{Place}
-use Rattle.judge.specs.declared.place.Found.TheVariants.{Nothing, At}
-use Rattle.judge.specs.Judgement.{place_found, breaks_at, breach_or_cost, judgement}
+use Rattle.std.specs.Prelude.{Ok, Err}
+use Rattle.judge.specs.Judgement.{place_found, rule_kept, breach_or_cost, judgement}
 
 module _ (k : ℕ) (y : Option Breach) (c : ℕ) where
-  pub broken : (o : Option (breach.Place)) (x : Place) → place_found o ≡ At x → breach_or_cost (numbered k o y) c ≡ breaks_at k x
-  broken none x e = let z : ◌≡◌ {A = ℕ} 0 1 = cc in absurd (omega arith)
-  broken (some b) x e = let r : record { unit = b.unit; period = b.period } ≡ x = cc in ap (breaks_at k) r
+  pub broken : (o : Option (breach.Place)) (b : Broken) → rule_kept k (place_found o) ≡ Err b → breach_or_cost (numbered k o y) c ≡ Err b
+  broken none b e = let z : ◌≡◌ {A = ℕ} 0 1 = cc in absurd (omega arith)
+  broken (some x) b e =
+      let r : record { number = k; place = record { unit = x.unit; period = x.period } } ≡ b = cc in ap Err r
 
-  pub kept : (o : Option (breach.Place)) → place_found o ≡ Nothing → breach_or_cost (numbered k o y) c ≡ breach_or_cost y c
+  pub kept : (o : Option (breach.Place)) → rule_kept k (place_found o) ≡ Ok tt → breach_or_cost (numbered k o y) c ≡ breach_or_cost y c
   kept none e = refl
   kept (some b) e = let z : ◌≡◌ {A = ℕ} 0 1 = cc in absurd (omega arith)
 
@@ -26,12 +25,12 @@ module _ (k : ℕ) (y : Option Breach) (c : ℕ) where
 
 module _ (P : Instance) (s : Schedule) where
   -- a schedule is refused by its first breach ..
-  pub refused_is : (b : Broken) → judgement P s ≡ Breaks b
+  pub refused_is : (b : Broken) → judgement P s ≡ Err b
       → first_breach P s ≡ some (record { number = b.number; unit = b.place.unit; period = b.place.period })
   unfolding judgement
   refused_is b = go (first_breach P s)
     where
-      go : (o : Option Breach) → breach_or_cost o (cost P s) ≡ Breaks b
+      go : (o : Option Breach) → breach_or_cost o (cost P s) ≡ Err b
           → o ≡ some (record { number = b.number; unit = b.place.unit; period = b.place.period })
       go none e = let z : ◌≡◌ {A = ℕ} 0 1 = cc in absurd (omega arith)
       go (some x) e =
@@ -39,11 +38,11 @@ module _ (P : Instance) (s : Schedule) where
           ap (λ (y : Broken). some (record { number = y.number; unit = y.place.unit; period = y.place.period })) r
 
   -- .. and, if it has none, answered with its cost
-  pub accepted_is : (k : ℕ) → judgement P s ≡ Costs k → (first_breach P s ≡ none) × (cost P s ≡ k)
+  pub accepted_is : (k : ℕ) → judgement P s ≡ Ok k → (first_breach P s ≡ none) × (cost P s ≡ k)
   unfolding judgement
   accepted_is k = go (first_breach P s)
     where
-      go : (o : Option Breach) → breach_or_cost o (cost P s) ≡ Costs k → (o ≡ none) × (cost P s ≡ k)
+      go : (o : Option Breach) → breach_or_cost o (cost P s) ≡ Ok k → (o ≡ none) × (cost P s ≡ k)
       go none e = (refl, cc)
       go (some x) e = let z : ◌≡◌ {A = ℕ} 0 1 = cc in absurd (omega arith)
 
@@ -67,42 +66,42 @@ module _ (P : Instance) (s : Schedule) where
   abbrev pub Left : Option Breach → Type 0
   Left o = judgement P s ≡ breach_or_cost o (cost P s)
 
-  pub breaks21 : (x : Place) → place_found (place21 P s) ≡ At x → judgement P s ≡ breaks_at 21 x
+  pub breaks21 : (b : Broken) → rule_kept 21 (place_found (place21 P s)) ≡ Err b → judgement P s ≡ Err b
   unfolding judgement first_breach
-  breaks21 x e = broken 21 _ (cost P s) (place21 P s) x e
+  breaks21 b e = broken 21 _ (cost P s) (place21 P s) b e
 
-  pub keeps21 : place_found (place21 P s) ≡ Nothing → Left from22
+  pub keeps21 : rule_kept 21 (place_found (place21 P s)) ≡ Ok tt → Left from22
   unfolding judgement first_breach from22 from23 from24 from25
   keeps21 e = kept 21 from22 (cost P s) (place21 P s) e
 
-  pub breaks22 : Left from22 → (x : Place) → place_found (place22 P s) ≡ At x → judgement P s ≡ breaks_at 22 x
+  pub breaks22 : Left from22 → (b : Broken) → rule_kept 22 (place_found (place22 P s)) ≡ Err b → judgement P s ≡ Err b
   unfolding from22
-  breaks22 l x e = l ∙ broken 22 from23 (cost P s) (place22 P s) x e
+  breaks22 l b e = l ∙ broken 22 from23 (cost P s) (place22 P s) b e
 
-  pub keeps22 : Left from22 → place_found (place22 P s) ≡ Nothing → Left from23
+  pub keeps22 : Left from22 → rule_kept 22 (place_found (place22 P s)) ≡ Ok tt → Left from23
   unfolding from22
   keeps22 l e = l ∙ kept 22 from23 (cost P s) (place22 P s) e
 
-  pub breaks23 : Left from23 → (x : Place) → place_found (place23 P s) ≡ At x → judgement P s ≡ breaks_at 23 x
+  pub breaks23 : Left from23 → (b : Broken) → rule_kept 23 (place_found (place23 P s)) ≡ Err b → judgement P s ≡ Err b
   unfolding from23
-  breaks23 l x e = l ∙ broken 23 from24 (cost P s) (place23 P s) x e
+  breaks23 l b e = l ∙ broken 23 from24 (cost P s) (place23 P s) b e
 
-  pub keeps23 : Left from23 → place_found (place23 P s) ≡ Nothing → Left from24
+  pub keeps23 : Left from23 → rule_kept 23 (place_found (place23 P s)) ≡ Ok tt → Left from24
   unfolding from23
   keeps23 l e = l ∙ kept 23 from24 (cost P s) (place23 P s) e
 
-  pub breaks24 : Left from24 → (x : Place) → place_found (place24 P s) ≡ At x → judgement P s ≡ breaks_at 24 x
+  pub breaks24 : Left from24 → (b : Broken) → rule_kept 24 (place_found (place24 P s)) ≡ Err b → judgement P s ≡ Err b
   unfolding from24
-  breaks24 l x e = l ∙ broken 24 from25 (cost P s) (place24 P s) x e
+  breaks24 l b e = l ∙ broken 24 from25 (cost P s) (place24 P s) b e
 
-  pub keeps24 : Left from24 → place_found (place24 P s) ≡ Nothing → Left from25
+  pub keeps24 : Left from24 → rule_kept 24 (place_found (place24 P s)) ≡ Ok tt → Left from25
   unfolding from24
   keeps24 l e = l ∙ kept 24 from25 (cost P s) (place24 P s) e
 
-  pub breaks25 : Left from25 → (x : Place) → place_found (place25 P s) ≡ At x → judgement P s ≡ breaks_at 25 x
+  pub breaks25 : Left from25 → (b : Broken) → rule_kept 25 (place_found (place25 P s)) ≡ Err b → judgement P s ≡ Err b
   unfolding from25
-  breaks25 l x e = l ∙ broken 25 none (cost P s) (place25 P s) x e
+  breaks25 l b e = l ∙ broken 25 none (cost P s) (place25 P s) b e
 
-  pub costs : Left from25 → place_found (place25 P s) ≡ Nothing → judgement P s ≡ Costs (cost P s)
+  pub costs : Left from25 → rule_kept 25 (place_found (place25 P s)) ≡ Ok tt → judgement P s ≡ Ok (cost P s)
   unfolding from25
   costs l e = l ∙ kept 25 none (cost P s) (place25 P s) e

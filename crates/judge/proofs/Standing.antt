@@ -1,13 +1,12 @@
--- (2) and (3) over the rows in a list: what stands there, and how large it is; the units' pU in a list, and filling it.
+-- (2) and (3) over the rows in a list: what stands there, and how large it is; the units' pU in a list.
 use mathlib.Core.Path.{◌≡◌, sym, ap, ◌∙◌}
 use mathlib.Core.Bool.{Bool}
-use mathlib.Core.List.{List, [], ◌∷◌, ◌++◌, map}
+use mathlib.Core.List.{List, [], ◌∷◌}
 use Prim.Native.Nat.{ℕ, suc, ◌+◌, ◌*◌, ◌≤◌, ◌<◌}
-use native.Mathlib.Numerals.{add-one}
 use native.Mathlib.Nat.{mul-le-mul_right}
 use native.Mathlib.Omega.{arith}
-use lib.ListN.{length, get_or, set, take, length-map, length-set, get_or-map}
-use lib.Seq.{take-suc, take-suc-set, take_all, length-take-le, get_or-take}
+use lib.ListN.{length, take, length-map, get_or-map}
+use lib.Seq.{length-take-le, get_or-take}
 use Rattle.model.specs.declared.generator.Generator.{Generator}
 use Rattle.model.specs.declared.arrays.Problem.{Problem}
 use Rattle.model.specs.Instance.{◌at◌, sum}
@@ -21,29 +20,7 @@ use Rattle.judge.proofs.Rows.{all_at}
 use Rattle.judge.proofs.Units.{unit, units_most, unit_in}
 use Rattle.judge.proofs.Sums.{capacities_are, if_on_most}
 
--- ---- the list fills up
-
-module _ (gs : List Generator) (many : length gs ≡ 32) where
-  abbrev pUs : List ℕ
-  pUs = map (λ (g : Generator). g.pU) gs
-
-  abbrev pub Listed : ℕ → List ℕ → Type 0
-  Listed u l = (length l ≡ 32) × (take u l ≡ take u pUs)
-
-  pub listed_more : (u : ℕ) (l : List ℕ) → u < 32 → Listed u l → Listed (u + 1) (set l u (get_or gs u blank_generator).pU)
-  listed_more u l h p =
-      let v = (get_or gs u blank_generator).pU in
-      let e : get_or pUs u 0 ≡ v = get_or-map (λ (g : Generator). g.pU) gs u blank_generator in
-      let k : u < length pUs = omega (arith, length-map gs (λ (g : Generator). g.pU)) in (
-        length-set l u v ∙ p.0,
-        rw add-one (take-suc-set l u v (omega (arith, p.0)) ∙ ap (λ (x : List ℕ). x ++ (v ∷ [])) p.1 ∙ sym (take-suc pUs u 0 k ∙ ap (λ (x : ℕ). take u pUs ++ (x ∷ [])) e)),
-      )
-
-  pub listed_all : (u : ℕ) (l : List ℕ) → 32 ≤ u → Listed u l → l ≡ pUs
-  listed_all u l h p =
-      sym (take_all u l (omega (arith, p.0))) ∙ p.1 ∙ take_all u pUs (omega (arith, length-map gs (λ (g : Generator). g.pU)))
-
--- ---- the part of it that the problem's units have
+-- ---- the pU of the problem's units
 
 pub standing : {p : Problem} {l : List ℕ} → Fitting p l → Standing p.units p.periods l
 standing {p} {l} F = record { few = units_most p l F; long = F.long; outputs_in = F.outputs_in }

@@ -1,13 +1,11 @@
 -- Starts and stops, and the periods spent in a status, as the code tells the cases apart.
 use mathlib.Core.Path.{◌≡◌, refl}
-use mathlib.Core.Bool.{Bool, true, false, not}
-use Prim.Native.Nat.{ℕ, ◌+◌, ◌≤◌, ◌<◌}
+use mathlib.Core.Bool.{Bool, true, false}
+use Prim.Native.Nat.{ℕ, ◌+◌}
 use native.Mathlib.Omega.{arith}
-use borrow.Author.Tests.{le-leb, lt-leb}
 use lib.Dec.{leb}
 use Rattle.model.specs.declared.generator.Generator.{Generator}
 use Rattle.model.specs.Rules.{permits, spent}
-use Rattle.model.specs.Cost.{switch_cost}
 
 pub spent_same : (b d : Bool) (k : ℕ) → b ≡ d → spent b k d ≡ k + 1
 spent_same true true k e = omega arith
@@ -21,31 +19,7 @@ spent_other true false k h = refl
 spent_other false true k h = refl
 spent_other false false k h = absurd (h refl)
 
--- a status that changes becomes the other
-pub other_is : (b d : Bool) → (b ≡ d → ⊥) → not b ≡ d
-other_is true true h = absurd (h refl)
-other_is true false h = refl
-other_is false true h = refl
-other_is false false h = absurd (h refl)
-
 module _ (g : Generator) where
-  -- (13) to (19)
-  pub switch_none : (b d : Bool) (k : ℕ) → b ≡ d → switch_cost g b k d ≡ 0
-  switch_none true true k e = refl
-  switch_none true false k e = let z : ◌≡◌ {A = ℕ} 0 1 = cc in absurd (omega arith)
-  switch_none false true k e = let z : ◌≡◌ {A = ℕ} 0 1 = cc in absurd (omega arith)
-  switch_none false false k e = refl
-
-  module _ (b : Bool) (k : ℕ) where
-    pub switch_stop : b ≡ true → switch_cost g b k (not b) ≡ g.Dc
-    switch_stop e = rw e refl
-
-    pub switch_hot : b ≡ false → k ≤ g.TD + g.Tcold → switch_cost g b k (not b) ≡ g.Hsc
-    switch_hot e l = rw (e, le-leb k (g.TD + g.Tcold) l) refl
-
-    pub switch_cold : b ≡ false → g.TD + g.Tcold < k → switch_cost g b k (not b) ≡ g.Csc
-    switch_cold e l = rw (e, lt-leb k (g.TD + g.Tcold) l) refl
-
   -- (5) to (10)
   pub permits_same : (b d : Bool) (k : ℕ) → b ≡ d → permits g b k d ≡ true
   permits_same true true k e = refl

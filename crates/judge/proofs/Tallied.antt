@@ -6,7 +6,7 @@ use lib.ListN.{length}
 use Rattle.model.specs.declared.arrays.Problem.{Problem}
 use Rattle.model.specs.Held.{view}
 use Rattle.judge.specs.declared.breach.Rule.{Rule}
-use Rattle.judge.specs.declared.place.Found.TheVariants.{Nothing}
+use Rattle.std.specs.Prelude.{None}
 use Rattle.judge.specs.declared.tallies.Tallies.{Tallies}
 use Rattle.judge.specs.Judgement.{place_found}
 use Rattle.judge.specs.Rows.{schedule_of, Fitting}
@@ -22,6 +22,6 @@ pub tallies_same : {a a' b b' c c' d d' : ℕ} → a ≡ a' → b ≡ b' → c �
 tallies_same p q u v = cc
 
 module _ (p : Problem) (l : List ℕ) (F : Fitting p l) (many : length p.generators ≡ 32) where
-  pub none_broken : (rule : Rule) → all_breaches (broken_by rule) p l p.units ≡ 0 → place_found (place_of rule (view p) (schedule_of p l)) ≡ Nothing
+  pub none_broken : (rule : Rule) → all_breaches (broken_by rule) p l p.units ≡ 0 → place_found (place_of rule (view p) (schedule_of p l)) ≡ None
   unfolding view
   none_broken rule e = ap place_found (none_found (broken_by rule) p l F many e)

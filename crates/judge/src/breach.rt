@@ -2,11 +2,12 @@
 ghost use Rattle.std.specs.Prelude.{◌≡◌, ◌<◌, ◌≤◌, length};
 ghost use Rattle.model.specs.Held.{view};
 ghost use Rattle.model.specs.Ranges.{GoodUnit};
+ghost use Rattle.judge.specs.Counts.{all_breaches};
 ghost use Rattle.judge.specs.Judgement.{place_found};
 ghost use Rattle.judge.specs.Rows.{schedule_of, Fitting};
 ghost use Rattle.judge.specs.Rule.{broken_by, place_of};
 
-use crate::place::{Found, Place};
+use crate::place::Place;
 use crate::{limits, ramps, updown};
 use model::arrays::Problem;
 use model::generator::Generator;
@@ -32,20 +33,18 @@ fn breaks(rule: Rule, g: Generator, row: &[u16], t: usize) -> bool
 }
 
 // The first period, and in it the first unit, that breaks the rule.
-pub fn find_breach(problem: Problem, rows: &[u16], rule: Rule) -> Found
+fn find_breach(problem: Problem, rows: &[u16], rule: Rule) -> Option<Place>
     requires { Fitting problem rows.now }
     ensures { result ≡ place_found (place_of rule (view problem) (schedule_of problem rows.now)) }
 {
     let periods = problem.periods;
-    let units = problem.units;
-    let mut first = Found::Nothing;
+    let mut first = None;
     'search: for t in 0..periods {
-        for u in 0..units {
-            let g = problem.generators[u];
+        for u in 0..problem.units {
             let from = u * periods;
-            let to = from + periods;
-            if breaks(rule, g, &rows[from..to], t) {
-                first = Found::At(Place {
+            let row = &rows[from..from + periods];
+            if breaks(rule, problem.generators[u], row, t) {
+                first = Some(Place {
                     unit: u + 1,
                     period: t + 1,
                 });
@@ -54,4 +53,16 @@ pub fn find_breach(problem: Problem, rows: &[u16], rule: Rule) -> Found
         }
     }
     first
+}
+
+// The first place that breaks the rule, which so many do: where none does it is not sought.
+pub fn first_breach(problem: Problem, rows: &[u16], rule: Rule, places: u16) -> Option<Place>
+    requires fitting { Fitting problem rows.now }
+    requires counted { places ≡ all_breaches (broken_by rule) problem rows.now problem.units }
+    ensures { result ≡ place_found (place_of rule (view problem) (schedule_of problem rows.now)) }
+{
+    if places == 0 {
+        return None;
+    }
+    find_breach(problem, rows, rule)
 }

@@ -12,10 +12,7 @@ use model::generator::Generator;
 fn count_on(output: u16) -> u32
     ensures { result ≡ bit (on output) }
 {
-    if output == 0 {
-        return 0;
-    }
-    1
+    u32::from(output != 0)
 }
 
 // What the row's outputs cost: a for each period on, b times their sum and c times the sum of their squares.
@@ -26,16 +23,13 @@ pub fn sum_fuel(g: Generator, row: &[u16]) -> u64
     let mut periods: u32 = 0;
     let mut outputs: u32 = 0;
     let mut squares: u64 = 0;
-    for t in 0..row.len() {
-        let p = row[t] as u32;
-        periods += count_on(row[t]);
+    for output in row {
+        let p = u32::from(*output);
+        periods += count_on(*output);
         outputs += p;
-        squares += (p * p) as u64;
+        squares += u64::from(p * p);
     }
-    let a = g.a;
-    let b = g.b;
-    let c = g.c;
-    a * periods as u64 + b * outputs as u64 + c * squares
+    g.a * u64::from(periods) + g.b * u64::from(outputs) + g.c * squares
 }
 
 // The cost of changing the status after k periods in it.
@@ -43,13 +37,11 @@ pub fn charge_switch(g: Generator, status: bool, k: usize) -> u64
     requires { InRange g }
     ensures { result ≡ switch_cost g status k (not status) }
 {
-    let down = g.TD;
-    let cold = g.Tcold;
     if status {
-        return g.Dc;
+        g.Dc
+    } else if k <= g.TD + g.Tcold {
+        g.Hsc
+    } else {
+        g.Csc
     }
-    if k <= down + cold {
-        return g.Hsc;
-    }
-    g.Csc
 }

@@ -4,7 +4,7 @@
 
 ghost use Rattle.std.specs.Prelude.{◌≡◌};
 ghost use Rattle.model.specs.Held.{view};
-ghost use Rattle.judge.specs.Judgement.{judgement};
+ghost use Rattle.judge.specs.Judgement.{rule_kept, judgement};
 ghost use Rattle.judge.specs.Rows.{schedule_of, Fitting};
 
 mod breach;
@@ -17,7 +17,7 @@ mod tallies;
 mod updown;
 
 use crate::breach::Rule;
-use crate::place::{Found, Place};
+use crate::place::Place;
 use model::arrays::Problem;
 
 // A broken rule's number, 21 to 25, and the place of its first breach.
@@ -27,39 +27,35 @@ pub struct Broken {
     pub place: Place,
 }
 
-// The first rule that a schedule breaks, or its cost.
-#[derive(Clone, Copy)]
-pub enum Judgement {
-    Breaks(Broken),
-    Costs(u64),
+// The broken rule, where a place was found.
+fn keep_rule(number: u64, first: Option<Place>) -> Result<(), Broken>
+    ensures { result ≡ rule_kept number first }
+{
+    match first {
+        Some(place) => Err(Broken { number, place }),
+        None => Ok(()),
+    }
 }
 
-// The judgement of the schedule whose rows stand one after the other in rows.
-pub fn judge(problem: Problem, rows: &[u16]) -> Judgement
+// The cost of the schedule whose rows stand one after the other in rows, or the first rule that it breaks.
+pub fn judge(problem: Problem, rows: &[u16]) -> Result<u64, Broken>
     requires { Fitting problem rows.now }
     ensures { result ≡ judgement (view problem) (schedule_of problem rows.now) }
 {
     let tallies = tallies::tally(problem, rows);
-    if tallies.limits != 0 {
-        if let Found::At(place) = breach::find_breach(problem, rows, Rule::Limits) {
-            return Judgement::Breaks(Broken { number: 21, place });
-        }
-    }
-    if let Found::At(place) = loads::find_unmet_demand(problem, rows) {
-        return Judgement::Breaks(Broken { number: 22, place });
-    }
-    if let Found::At(place) = loads::find_unmet_spare(problem, rows) {
-        return Judgement::Breaks(Broken { number: 23, place });
-    }
-    if tallies.updown != 0 {
-        if let Found::At(place) = breach::find_breach(problem, rows, Rule::UpDown) {
-            return Judgement::Breaks(Broken { number: 24, place });
-        }
-    }
-    if tallies.ramps != 0 {
-        if let Found::At(place) = breach::find_breach(problem, rows, Rule::Ramps) {
-            return Judgement::Breaks(Broken { number: 25, place });
-        }
-    }
-    Judgement::Costs(tallies.cost)
+    keep_rule(
+        21,
+        breach::first_breach(problem, rows, Rule::Limits, tallies.limits),
+    )?;
+    keep_rule(22, loads::find_unmet_demand(problem, rows))?;
+    keep_rule(23, loads::find_unmet_spare(problem, rows))?;
+    keep_rule(
+        24,
+        breach::first_breach(problem, rows, Rule::UpDown, tallies.updown),
+    )?;
+    keep_rule(
+        25,
+        breach::first_breach(problem, rows, Rule::Ramps, tallies.ramps),
+    )?;
+    Ok(tallies.cost)
 }

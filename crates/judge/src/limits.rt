@@ -12,32 +12,15 @@ pub fn is_off_limits(g: Generator, row: &[u16], t: usize) -> bool
     requires { t < length row.now }
     ensures { result ≡ off_limits t g row.now }
 {
-    let low = g.pL;
-    let high = g.pU;
-    let p = row[t] as u64;
-    if p == 0 {
-        return false;
-    }
-    if p < low {
-        return true;
-    }
-    high < p
+    let p = u64::from(row[t]);
+    p != 0 && !(g.pL..=g.pU).contains(&p)
 }
 
 // 1 if the output is above 0 and not from low to high, else 0.
 fn count_off(low: u16, high: u16, output: u16) -> u16
     ensures { result ≡ bit (on output && not (leb low output && leb output high)) }
 {
-    if output == 0 {
-        return 0;
-    }
-    if output < low {
-        return 1;
-    }
-    if high < output {
-        return 1;
-    }
-    0
+    u16::from(output != 0 && !(low..=high).contains(&output))
 }
 
 // In how many periods the row's output is off its limits.
@@ -48,8 +31,8 @@ pub fn count_off_limits(g: Generator, row: &[u16]) -> u16
     let low = g.pL as u16;
     let high = g.pU as u16;
     let mut n: u16 = 0;
-    for t in 0..row.len() {
-        n += count_off(low, high, row[t]);
+    for output in row {
+        n += count_off(low, high, *output);
     }
     n
 }

@@ -8,8 +8,9 @@ ghost use Rattle.judge.specs.Judgement.{place_found};
 ghost use Rattle.judge.specs.Rows.{schedule_of, Fitting};
 ghost use Rattle.judge.specs.Loads.{Standing, output_in, capacities, capacity_in};
 
-use crate::place::{Found, Place};
+use crate::place::Place;
 use model::arrays::Problem;
+use std::array;
 
 // What so many units give in period t, in rows of so many periods.
 fn sum_outputs(units: usize, periods: usize, rows: &[u16], t: usize) -> u64
@@ -18,8 +19,7 @@ fn sum_outputs(units: usize, periods: usize, rows: &[u16], t: usize) -> u64
 {
     let mut total = 0;
     for u in 0..units {
-        let from = u * periods;
-        total += rows[from + t] as u64;
+        total += u64::from(rows[u * periods + t]);
     }
     total
 }
@@ -28,22 +28,14 @@ fn sum_outputs(units: usize, periods: usize, rows: &[u16], t: usize) -> u64
 fn count_if_on(capacity: u64, output: u16) -> u64
     ensures { result ≡ if_on (on output) capacity }
 {
-    if output == 0 {
-        return 0;
-    }
-    capacity
+    if output == 0 { 0 } else { capacity }
 }
 
 // The pU of every unit.
 fn list_capacities(problem: Problem) -> [u64; 32]
     ensures { result ≡ capacities problem }
 {
-    let mut capacities = [0u64; 32];
-    for u in 0..32 {
-        let g = problem.generators[u];
-        capacities[u] = g.pU;
-    }
-    capacities
+    array::from_fn(|u| problem.generators[u].pU)
 }
 
 // The pU of the units that are on in period t, in rows of so many periods.
@@ -52,49 +44,44 @@ fn sum_capacities(capacities: &[u64], periods: usize, rows: &[u16], t: usize) ->
     ensures { result ≡ capacity_in capacities.now periods rows.now t }
 {
     let mut total = 0;
-    for u in 0..capacities.len() {
-        let from = u * periods;
-        total += count_if_on(capacities[u], rows[from + t]);
+    for (u, capacity) in capacities.iter().enumerate() {
+        total += count_if_on(*capacity, rows[u * periods + t]);
     }
     total
 }
 
 // The first period whose outputs are less than its demand.
-pub fn find_unmet_demand(problem: Problem, rows: &[u16]) -> Found
+pub fn find_unmet_demand(problem: Problem, rows: &[u16]) -> Option<Place>
     requires { Fitting problem rows.now }
     ensures { result ≡ place_found (place22 (view problem) (schedule_of problem rows.now)) }
 {
     let periods = problem.periods;
-    let units = problem.units;
     for t in 0..periods {
-        let demand = problem.demand[t];
-        if sum_outputs(units, periods, rows, t) < demand {
-            return Found::At(Place {
+        if sum_outputs(problem.units, periods, rows, t) < problem.demand[t] {
+            return Some(Place {
                 unit: 0,
                 period: t + 1,
             });
         }
     }
-    Found::Nothing
+    None
 }
 
 // The first period in which the units that are on could not give its demand and its spare.
-pub fn find_unmet_spare(problem: Problem, rows: &[u16]) -> Found
+pub fn find_unmet_spare(problem: Problem, rows: &[u16]) -> Option<Place>
     requires { Fitting problem rows.now }
     ensures { result ≡ place_found (place23 (view problem) (schedule_of problem rows.now)) }
 {
     let periods = problem.periods;
-    let units = problem.units;
     let capacities = list_capacities(problem);
     for t in 0..periods {
-        let demand = problem.demand[t];
-        let spare = problem.spare[t];
-        if sum_capacities(&capacities[..units], periods, rows, t) < demand + spare {
-            return Found::At(Place {
+        let asked = problem.demand[t] + problem.spare[t];
+        if sum_capacities(&capacities[..problem.units], periods, rows, t) < asked {
+            return Some(Place {
                 unit: 0,
                 period: t + 1,
             });
         }
     }
-    Found::Nothing
+    None
 }

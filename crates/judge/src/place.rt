@@ -6,10 +6,3 @@ pub struct Place {
     pub unit: usize,
     pub period: usize,
 }
-
-// The place of a rule's first breach, if there is one.
-#[derive(Clone, Copy)]
-pub enum Found {
-    Nothing,
-    At(Place),
-}

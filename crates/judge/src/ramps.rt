@@ -13,10 +13,7 @@ fn look_back(g: Generator, row: &[u16], t: usize) -> u64
     requires { t < length row.now }
     ensures { result ≡ output_before g.p0 row.now t }
 {
-    if t == 0 {
-        return g.p0;
-    }
-    row[t - 1] as u64
+    if t == 0 { g.p0 } else { u64::from(row[t - 1]) }
 }
 
 // Whether the output, on in the period before t and in t, rises by more than UR or falls by more than DR.
@@ -24,20 +21,9 @@ pub fn is_off_ramp(g: Generator, row: &[u16], t: usize) -> bool
     requires { GoodUnit g × (t < length row.now) }
     ensures { result ≡ off_ramp t g row.now }
 {
-    let up = g.UR;
-    let down = g.DR;
     let before = look_back(g, row, t);
-    let after = row[t] as u64;
-    if before == 0 {
-        return false;
-    }
-    if after == 0 {
-        return false;
-    }
-    if before + up < after {
-        return true;
-    }
-    after + down < before
+    let after = u64::from(row[t]);
+    before != 0 && after != 0 && (before + g.UR < after || after + g.DR < before)
 }
 
 // 1 if the output and the one before it are above 0 and it rises by more than up or falls by more than down, else 0.
@@ -45,19 +31,7 @@ fn count_steep(up: u16, down: u16, previous: u16, output: u16) -> u16
     requires { (up ≤ 10000) × ((down ≤ 10000) × ((previous ≤ 10000) × (output ≤ 10000))) }
     ensures { result ≡ bit ((on previous && on output) && not (leb output (previous + up) && leb previous (output + down))) }
 {
-    if previous == 0 {
-        return 0;
-    }
-    if output == 0 {
-        return 0;
-    }
-    if previous + up < output {
-        return 1;
-    }
-    if output + down < previous {
-        return 1;
-    }
-    0
+    u16::from(previous != 0 && output != 0 && (previous + up < output || output + down < previous))
 }
 
 // In how many periods the row's output leaves its ramp.

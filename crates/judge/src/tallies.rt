@@ -33,21 +33,17 @@ fn pass(g: Generator, walk: Walk, after: bool) -> Walk
     requires { GoodUnit g × Room walk }
     ensures { result ≡ one_further g walk after }
 {
-    let before = walk.on;
-    let k = walk.spent;
-    if before == after {
+    if walk.on == after {
         return Walk {
-            on: after,
-            spent: k + 1,
-            barred: walk.barred,
-            cost: walk.cost,
+            spent: walk.spent + 1,
+            ..walk
         };
     }
     Walk {
         on: after,
         spent: 1,
-        barred: walk.barred + updown::count_barred(g, before, k),
-        cost: walk.cost + cost::charge_switch(g, before, k),
+        barred: walk.barred + updown::count_barred(g, walk.on, walk.spent),
+        cost: walk.cost + cost::charge_switch(g, walk.on, walk.spent),
     }
 }
 
@@ -62,8 +58,8 @@ fn walk_row(g: Generator, row: &[u16]) -> Walk
         barred: 0,
         cost: 0,
     };
-    for t in 0..row.len() {
-        walk = pass(g, walk, updown::is_on(row, t));
+    for output in row {
+        walk = pass(g, walk, *output != 0);
     }
     walk
 }
@@ -73,15 +69,12 @@ fn tally_row(g: Generator, row: &[u16]) -> Tallies
     requires { GoodUnit g × (length row.now ≤ 48) × (1 ≤ length row.now) × All GoodOutput row.now }
     ensures { result ≡ row_tallies (length row.now) g row.now }
 {
-    let limits = limits::count_off_limits(g, row);
-    let ramps = ramps::count_off_ramp(g, row);
     let walk = walk_row(g, row);
-    let fuel = cost::sum_fuel(g, row);
     Tallies {
-        limits,
+        limits: limits::count_off_limits(g, row),
         updown: walk.barred,
-        ramps,
-        cost: fuel + walk.cost,
+        ramps: ramps::count_off_ramp(g, row),
+        cost: cost::sum_fuel(g, row) + walk.cost,
     }
 }
 
@@ -91,25 +84,19 @@ pub fn tally(problem: Problem, rows: &[u16]) -> Tallies
     ensures { result ≡ tallies problem rows.now }
 {
     let periods = problem.periods;
-    let units = problem.units;
-    let mut limits: u16 = 0;
-    let mut updown: u16 = 0;
-    let mut ramps: u16 = 0;
-    let mut cost = 0;
-    for u in 0..units {
-        let g = problem.generators[u];
+    let mut all = Tallies {
+        limits: 0,
+        updown: 0,
+        ramps: 0,
+        cost: 0,
+    };
+    for u in 0..problem.units {
         let from = u * periods;
-        let to = from + periods;
-        let row = tally_row(g, &rows[from..to]);
-        limits += row.limits;
-        updown += row.updown;
-        ramps += row.ramps;
-        cost += row.cost;
+        let row = tally_row(problem.generators[u], &rows[from..from + periods]);
+        all.limits += row.limits;
+        all.updown += row.updown;
+        all.ramps += row.ramps;
+        all.cost += row.cost;
     }
-    Tallies {
-        limits,
-        updown,
-        ramps,
-        cost,
-    }
+    all
 }

@@ -13,10 +13,7 @@ pub fn is_on(row: &[u16], t: usize) -> bool
     requires { t < length row.now }
     ensures { result ≡ on (row.now at t) }
 {
-    if row[t] == 0 {
-        return false;
-    }
-    true
+    row[t] != 0
 }
 
 // Whether the unit is on in the period before t; before period 1 the generator says.
@@ -24,10 +21,7 @@ fn was_on(g: Generator, row: &[u16], t: usize) -> bool
     requires { t < length row.now }
     ensures { result ≡ status_before g.on (statuses row.now) t }
 {
-    if t == 0 {
-        return g.on;
-    }
-    is_on(row, t - 1)
+    if t == 0 { g.on } else { is_on(row, t - 1) }
 }
 
 // The periods just before t that the unit has spent in one status, those before period 1 with them.
@@ -36,18 +30,12 @@ fn count_back(g: Generator, row: &[u16], t: usize) -> usize
     ensures { result ≡ spent_before g.on g.since (statuses row.now) t }
 {
     let status = was_on(g, row, t);
-    let mut k = t;
-    while 0 < k {
-        if is_on(row, k - 1) != status {
-            return t - k;
+    for k in (0..t).rev() {
+        if is_on(row, k) != status {
+            return t - 1 - k;
         }
-        k -= 1;
     }
-    if g.on != status {
-        return t;
-    }
-    let since = g.since;
-    since + t
+    if g.on == status { g.since + t } else { t }
 }
 
 // Whether the up and down times permit the unit's status in period t.
@@ -61,28 +49,13 @@ pub fn is_permitted(g: Generator, row: &[u16], t: usize) -> bool
         return true;
     }
     let spent = count_back(g, row, t);
-    let up = g.TU;
-    let down = g.TD;
-    if before {
-        return up <= spent;
-    }
-    down <= spent
+    if before { g.TU <= spent } else { g.TD <= spent }
 }
 
 // 1 if the unit may not change its status after k periods in it, else 0.
 pub fn count_barred(g: Generator, status: bool, k: usize) -> u16
     ensures { result ≡ bit (not (permits g status k (not status))) }
 {
-    let up = g.TU;
-    let down = g.TD;
-    if status {
-        if k < up {
-            return 1;
-        }
-        return 0;
-    }
-    if k < down {
-        return 1;
-    }
-    0
+    let least = if status { g.TU } else { g.TD };
+    u16::from(k < least)
 }

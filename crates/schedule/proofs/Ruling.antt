@@ -5,7 +5,7 @@ use mathlib.Core.List.{List}
 use Rattle.model.specs.Instance.{Instance, Schedule}
 use Rattle.refusal.specs.Refusals.{refusal_of}
 use Rattle.judge.specs.declared.Broken.{Broken}
-use Rattle.judge.specs.declared.Judgement.TheVariants.{Breaks, Costs}
+use Rattle.std.specs.Prelude.{Ok, Err}
 use Rattle.judge.specs.Judgement.{judgement}
 use Rattle.judge.specs.Rows.{cut_rows}
 use Rattle.judge.proofs.RuleByRule.{refused_is, accepted_is}
@@ -16,11 +16,11 @@ use Rattle.schedule.specs.declared.ScheduleAnswer.TheVariants.{Accepted}
 use Rattle.schedule.proofs.Filling.{filled_joined}
 
 module _ (P : Instance) (s : Schedule) (w : ℕ) where
-  pub ruled_breaks : (b : Broken) → judgement P s ≡ Breaks b
+  pub ruled_breaks : (b : Broken) → judgement P s ≡ Err b
       → refused_by (refusal_of b.number 0 b.place.unit b.place.period) ≡ ruled P (written w s)
   ruled_breaks b e = sym (ap (by_rules P (written w s)) (refused_is P s b e))
 
-  pub ruled_costs : (c : ℕ) → judgement P s ≡ Costs c → accepted_as w c s ≡ ruled P (written w s)
+  pub ruled_costs : (c : ℕ) → judgement P s ≡ Ok c → accepted_as w c s ≡ ruled P (written w s)
   ruled_costs c e =
       let k = accepted_is P s c e in
       sym (ap (by_rules P (written w s)) k.0 ∙ ap (λ (x : ℕ). accepted_as w x s) k.1)

@@ -12,9 +12,8 @@ ghost use Rattle.schedule.specs.Storing.{read_from, Filled};
 
 mod rows;
 
-use judge::Judgement;
 use model::arrays::Problem;
-use model::ranges::Output;
+use model::ranges::OUTPUT;
 use reader::Written;
 use refusal::Refusal;
 use text::{End, Verdict};
@@ -80,8 +79,8 @@ fn read_from_runs(problem: Problem, text: &[u8], at: usize, writer: u64) -> Sche
             text,
             i,
             b"run=",
-            Output::LEAST,
-            Output::MOST,
+            OUTPUT.least,
+            OUTPUT.most,
             &mut values[..periods],
         );
         match verdict {
@@ -124,15 +123,11 @@ fn judge_rows(problem: Problem, writer: u64, rows: [u16; 1536]) -> ScheduleRead
     ensures { result ≡ in_arrays (ruled (view problem) (written writer (schedule_of problem rows))) }
 {
     let n = problem.units * problem.periods;
-    let judgement = judge::judge(problem, &rows[..n]);
-    match judgement {
-        Judgement::Breaks(broken) => {
-            let place = broken.place;
-            refuse_text(broken.number, 0, place.unit, place.period)
-        }
-        Judgement::Costs(cost) => ScheduleRead {
+    match judge::judge(problem, &rows[..n]) {
+        Ok(cost) => ScheduleRead {
             answer: ScheduleAnswer::Accepted(Priced { writer, cost }),
             rows,
         },
+        Err(broken) => refuse_text(broken.number, 0, broken.place.unit, broken.place.period),
     }
 }

@@ -8,9 +8,7 @@ pub fn store_row(rows: &mut [u16; 1536], from: usize, values: &[u64])
     requires { (from + length values.now ≤ 1536) × ((length rows.old ≡ 1536) × All GoodOutput values.now) }
     ensures { rows.new ≡ paste rows.old from values.now (length values.now) }
 {
-    let mut t: usize = 0;
-    while t < values.len() {
-        rows[from + t] = values[t] as u16;
-        t += 1;
+    for (t, value) in values.iter().enumerate() {
+        rows[from + t] = *value as u16;
     }
 }

@@ -11,17 +11,6 @@ use Rattle.schedule.proofs.CutRows.{cut_take}
 use Rattle.schedule.proofs.Ruling.{ruled_breaks, ruled_costs, accepted_held}
 use Rattle.schedule.proofs.Runs.{rows_fit}
 use Rattle.schedule.proofs.judge_rows.Goals as goal
-use Rattle.schedule.proofs.judge_rows.Tie as tie
-use Rattle.schedule.proofs.judge_rows.Reads as reads
-use Rattle.schedule.proofs.judge_rows.Lts as lts
-
--- what the rows are judged to be
-judged : (c : lts.After-judge tie.the-claims reads.Pre reads.Post) →
-    let a = c.args in
-    judgement (view a.problem) (schedule_of a.problem a.rows) ≡ c.judge-judgement.result
-judged c =
-    let a = c.args in
-    ap (judgement (view a.problem)) (sym (cut_take a.problem.units a.problem.periods a.rows)) ∙ sym c.judge-judgement.ensures
 
 pub overflow_mul-n : goal.overflow_mul-n
 overflow_mul-n c = omega (arith, rows_fit c.args.problem c.requires.0 c.args.problem.units (omega arith))
@@ -31,15 +20,15 @@ slice_bounds-rows-end c =
     let room : length c.args.rows ≡ 1536 = search rules in
     omega (arith, rows_fit c.args.problem c.requires.0 c.args.problem.units (omega arith))
 
-pub returns-in-Breaks : goal.returns-in-Breaks
-returns-in-Breaks c =
+pub returns-in-Err : goal.returns-in-Err
+returns-in-Err c =
     let a = c.args in
-    let e = judged c.before.before.before ∙ c.in-Breaks.is in
-    c.refuse_text.ensures ∙ ap in_arrays (ruled_breaks (view a.problem) (schedule_of a.problem a.rows) a.writer _ e)
+    let judged = ap (judgement (view a.problem)) (sym (cut_take a.problem.units a.problem.periods a.rows)) ∙ sym c.judge.ensures ∙ c.in-Err.is in
+    c.refuse_text.ensures ∙ ap in_arrays (ruled_breaks (view a.problem) (schedule_of a.problem a.rows) a.writer _ judged)
 
-pub returns-in-Costs : goal.returns-in-Costs
-returns-in-Costs c =
+pub returns-in-Ok : goal.returns-in-Ok
+returns-in-Ok c =
     let a = c.args in
-    let e = judged c.before ∙ c.in-Costs.is in
+    let judged = ap (judgement (view a.problem)) (sym (cut_take a.problem.units a.problem.periods a.rows)) ∙ sym c.judge.ensures ∙ c.in-Ok.is in
     accepted_held a.problem.units a.problem.periods a.rows a.writer _ c.requires.1
-    ∙ ap in_arrays (ruled_costs (view a.problem) (schedule_of a.problem a.rows) a.writer _ e)
+    ∙ ap in_arrays (ruled_costs (view a.problem) (schedule_of a.problem a.rows) a.writer _ judged)

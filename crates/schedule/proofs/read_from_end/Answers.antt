@@ -1,6 +1,5 @@
 use Prim.Native.Nat.{◌+◌}
 use mathlib.Core.Path.{sym, ◌∙◌}
-use borrow.Author.Rules.{rules}
 use Rattle.model.specs.Held.{view}
 use Rattle.text.specs.declared.End.TheVariants.{Missing, Followed, Last}
 use Rattle.schedule.proofs.Ends.{end_read}

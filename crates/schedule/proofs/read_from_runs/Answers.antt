@@ -1,7 +1,7 @@
-use Prim.Native.Nat.{ℕ, suc, ◌-◌, ◌*◌, ◌≤◌}
+use Prim.Native.Nat.{ℕ, suc, ◌*◌, ◌≤◌}
 use native.Mathlib.Omega.{arith}
 use mathlib.Core.Path.{◌≡◌, refl, sym, ap, ◌∙◌}
-use mathlib.Core.List.{List, [], ◌++◌}
+use mathlib.Core.List.{List, ◌++◌}
 use lib.ListN.{length, take, drop, length-append, length-drop}
 use lib.Seq.{length-take-le, take_at, paste}
 use borrow.Author.Rules.{rules}
@@ -11,10 +11,8 @@ use Rattle.text.specs.Forms.{row_of}
 use Rattle.text.proofs.Verdicts.{ruled_refused}
 use Rattle.text.proofs.Fills.{PlainFilled, plain_filled}
 use Rattle.schedule.specs.Rendering.{run_key}
-use Rattle.schedule.specs.Course.{runs_due}
-use Rattle.schedule.specs.Refusals.{written, run_form}
-use Rattle.schedule.specs.Storing.{read_from}
-use Rattle.schedule.proofs.Runs.{outputs_in, rows_fit, Reading, reading_none, reading_done, reading_filled, reading_stopped, reading_more}
+use Rattle.schedule.specs.Refusals.{run_form}
+use Rattle.schedule.proofs.Runs.{outputs_in, rows_fit, reading_none, reading_done, reading_filled, reading_stopped, reading_more}
 use Rattle.schedule.proofs.Filling.{filled_length}
 use Rattle.schedule.proofs.read_from_runs.Goals as goal
 use Rattle.schedule.proofs.read_from_runs.Tie as tie

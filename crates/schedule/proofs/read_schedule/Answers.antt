@@ -1,6 +1,5 @@
 use mathlib.Core.Path.{◌≡◌, sym, ◌∙◌}
-use lib.ListN.{length, length-map}
-use borrow.Author.Rules.{rules}
+use lib.ListN.{length}
 use Rattle.model.specs.Held.{view}
 use Rattle.text.specs.Lines.{line_at}
 use Rattle.reader.proofs.WriterLines.{line_refused, line_written}

@@ -1,5 +1,4 @@
 use mathlib.Core.Path.{ap}
-use borrow.Author.Rules.{rules}
 use Rattle.refusal.specs.declared.Refusal.{Refusal}
 use Rattle.schedule.specs.ReadAnswers.{in_arrays, refused_by}
 use Rattle.schedule.proofs.refuse_text.Goals as goal

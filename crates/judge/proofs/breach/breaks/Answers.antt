@@ -1,6 +1,5 @@
 -- Each rule's own test answers for it.
 use mathlib.Core.Bool.{not-not}
-use borrow.Author.Rules.{rules}
 use Rattle.judge.proofs.breach.breaks.Goals as goal
 
 pub returns-in-Limits : goal.returns-in-Limits
