@@ -1,7 +1,7 @@
 // A docket in two lent slices: 618 numbers, and the 1,536 outputs of its held schedule.
 #![tactic(auto)]
 
-ghost use Rattle.std.specs.Prelude.{◌≡◌, true, cond, ◌≤◌, length};
+ghost use Rattle.std.specs.Prelude.{◌≡◌, true, cond, ◌≤◌, length, take};
 ghost use Rattle.writer.specs.Written.{over};
 ghost use Rattle.docket.specs.Docket.{sound};
 ghost use Rattle.state.specs.Layout.{docket_in};
@@ -33,6 +33,14 @@ pub fn is_long(numbers: &[u64], rows: &[u16]) -> bool
     1536 <= rows.len()
 }
 
+// The first 1536 outputs.
+fn rows_in(rows: &[u16]) -> [u16; 1536]
+    requires { 1536 ≤ length rows.now }
+    ensures { result ≡ take 1536 rows.now }
+{
+    *rows.first_chunk().unwrap()
+}
+
 // The docket of a state's numbers, sound or not.
 fn docket_in(numbers: &[u64], rows: &[u16]) -> Docket
     requires in_bounds { 618 ≤ length numbers.now }
@@ -43,7 +51,7 @@ fn docket_in(numbers: &[u64], rows: &[u16]) -> Docket
     let cost = held::cost_in(numbers[2], numbers[3], numbers[4]);
     let bound = held::bound_in(numbers[5], numbers[6], numbers[7]);
     let held = Held { cost, bound };
-    let kept = layout::copies::rows_in(rows);
+    let kept = rows_in(rows);
     Docket {
         known: numbers[1] != 0,
         problem,
@@ -96,7 +104,7 @@ pub fn keep(docket: Docket, numbers: &mut [u64], rows: &mut [u16])
     layout::copies::store(numbers, 2, &cost);
     layout::copies::store(numbers, 5, &bound);
     layout::copies::store(numbers, 8, &laid);
-    layout::copies::store_rows(rows, &kept);
+    layout::copies::store(rows, 0, &kept);
 }
 
 // Whether the answer says that the text is held.
@@ -150,6 +158,6 @@ pub fn copy_outputs(docket: Docket, outputs: &mut [u16]) -> usize
 {
     let n = count_outputs(docket);
     let kept = docket.rows;
-    layout::copies::store_rows(outputs, &kept[0..n]);
+    layout::copies::store(outputs, 0, &kept[..n]);
     n
 }

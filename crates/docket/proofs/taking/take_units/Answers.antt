@@ -4,10 +4,11 @@ use mathlib.Core.List.{List}
 use Prim.Native.Nat.{ℕ, ◌+◌, ◌-◌}
 use native.Mathlib.Omega.{arith}
 use borrow.Author.Rules.{rules}
-use lib.ListN.{set}
+use lib.ListN.{set, replicate}
 use Rattle.model.specs.Instance.{Instance}
 use Rattle.model.specs.Held.{view}
 use Rattle.walk.specs.Marks.{above_of, upper_begin}
+use Rattle.layout.proofs.Fronts.{paste_front}
 use Rattle.leaves.specs.LeafLeasts.{taken_in}
 use Rattle.docket.specs.Taking.{FitQuestion}
 use Rattle.docket.proofs.Questions.{fits_is, t_within, statuses_first, taken_asked}
@@ -22,8 +23,8 @@ fit s = (fits_is (view s.args.problem) s.args.period s.args.most s.args.fixed.no
 pub overflow_sub-t : goal.overflow_sub-t
 overflow_sub-t c = omega (arith, (fit c.before.before).period_in)
 
-pub put_statuses-requires : goal.put_statuses-requires
-put_statuses-requires c =
+pub store-requires : goal.store-requires
+store-requires c =
     let room = statuses_first (view c.args.problem) c.requires.valid.well_formed c.args.period c.args.most c.args.fixed.now (fit c.before.before.before.before) in
     omega (arith, room)
 
@@ -45,7 +46,7 @@ returns c =
     let a = c.args in
     let P = view a.problem in
     let t = a.period - 1 in
-    let here = subst (λ (Q : Instance). c.sum_until.result ≡ taken_in Q (above_of Q (set c.put_statuses.new.above (upper_begin + t) a.most)) t) c.lay_out_ranked-numbers.ensures.read.1 c.sum_until.ensures in
+    let here = subst (λ (Q : Instance). c.sum_until.result ≡ taken_in Q (above_of Q (set c.store.new.numbers (upper_begin + t) a.most)) t) c.lay_out_ranked-numbers.ensures.read.1 c.sum_until.ensures in
     here
-    ∙ ap (λ (b : List ℕ). taken_in P (above_of P (set b (upper_begin + t) a.most)) t) c.put_statuses.ensures
+    ∙ ap (λ (b : List ℕ). taken_in P (above_of P (set b (upper_begin + t) a.most)) t) (c.store.ensures ∙ paste_front (replicate 1632 0) a.fixed.now)
     ∙ taken_asked P c.requires.valid.well_formed a.period a.most a.fixed.now (fit c.before.before.before.before.before.before.before.before.before)
