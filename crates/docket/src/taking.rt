@@ -1,9 +1,10 @@
 // How many units `short` takes in a period, under statuses and an upper count that are asked about.
-ghost use Rattle.std.specs.Prelude.{◌≡◌, true, ◌++◌, ◌-◌, ◌≤◌, length, drop};
+ghost use Rattle.std.specs.Prelude.{◌≡◌, true, ◌-◌, ◌≤◌};
 ghost use Rattle.model.specs.Held.{view, Valid};
 ghost use Rattle.leaves.specs.LeafLeasts.{taken_in};
 ghost use Rattle.docket.specs.Taking.{fits_in, fits, asked, taken_under};
 
+use layout::copies::store;
 use layout::ranking::lay_out_ranked;
 use leaves::counts::UPPER;
 use leaves::short::{Taken, sum_until};
@@ -19,16 +20,6 @@ fn is_fit(periods: usize, units: usize, period: usize, most: usize, fixed: &[u8]
     (1..=periods).contains(&period) && most <= units && has_statuses(periods, units, fixed)
 }
 
-// Puts the statuses at the front.
-fn put_statuses(above: &mut [u8], fixed: &[u8])
-    requires { length fixed.now ≤ length above.old }
-    ensures { above.new ≡ fixed.now ++ drop (length fixed.now) above.old }
-{
-    for (i, status) in fixed.iter().enumerate() {
-        above[i] = *status;
-    }
-}
-
 // What is taken under the problem, where the question fits it.
 fn take_units(problem: Problem, period: usize, most: usize, fixed: &[u8]) -> Taken
     requires valid { Valid problem }
@@ -38,7 +29,7 @@ fn take_units(problem: Problem, period: usize, most: usize, fixed: &[u8]) -> Tak
     let t = period - 1;
     let numbers = lay_out_ranked(problem);
     let mut above = [0u8; 1632];
-    put_statuses(&mut above, fixed);
+    store(&mut above, 0, fixed);
     above[UPPER + t] = most as u8;
     sum_until(&numbers, t, &above)
 }

@@ -20,14 +20,14 @@ use crate::breach::Rule;
 use crate::place::Place;
 use model::arrays::Problem;
 
-// A broken rule's number, 21 to 25, and the place of its first breach.
+// A broken rule, by the number of its refusal, 21 to 25, and the place of its first breach.
 #[derive(Clone, Copy)]
 pub struct Broken {
     pub number: u64,
     pub place: Place,
 }
 
-// The broken rule, where a place was found.
+// Nothing, or the rule with this number as broken, where a place was found.
 fn keep_rule(number: u64, first: Option<Place>) -> Result<(), Broken>
     ensures { result ≡ rule_kept number first }
 {

@@ -1,6 +1,6 @@
 -- A slice written from its front, piece after piece: `front h v` is v with h over its front.
 use mathlib.Core.Path.{◌≡◌, refl, sym, ap, ◌∙◌}
-use mathlib.Core.List.{List, ◌++◌}
+use mathlib.Core.List.{List, [], ◌++◌}
 use Prim.Native.Nat.{ℕ, ◌+◌}
 use lib.ListN.{length, take, drop, length-append}
 use lib.Seq.{paste, take_at, take-length, drop-drop, drop-append-add}
@@ -16,3 +16,7 @@ front_more {A} h v x s k e m =
     ∙ ap (λ (i : ℕ). drop i v) (sym (length-append h s)) in
     let first : take k x ≡ h = ap (take k) e ∙ take_at h (drop (length h) v) k m in
     rw (first, take-length s, rest) refl
+
+-- s whole, stored at the front
+pub paste_front : {A : Type 0} (v s : List A) → paste v 0 s (length s) ≡ front s v
+paste_front v s = front_more [] v v s 0 refl refl

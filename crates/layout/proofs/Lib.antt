@@ -2,7 +2,6 @@
 pub mod Readings
 pub mod Placing
 pub mod Ranks
-pub mod Overlays
 pub mod Fronts
 pub mod Places
 pub mod Again

@@ -1,7 +1,7 @@
 // A problem's numbers in one array, so that they can be lent.
 #![tactic(auto)]
 
-ghost use Rattle.std.specs.Prelude.{◌≡◌, cond, ◌≤◌, ◌<◌, length, get_or};
+ghost use Rattle.std.specs.Prelude.{◌≡◌, ◌≤◌, ◌<◌, length, get_or};
 ghost use Rattle.model.specs.Instance.{◌at◌};
 ghost use Rattle.model.specs.Held.{blank_generator};
 ghost use Rattle.layout.specs.Numbers.{generator_numbers, laid_out, generator_of, instance_in, Laid};
@@ -13,16 +13,6 @@ use model::generator::Generator;
 pub mod copies;
 pub mod ranking;
 pub mod reading;
-
-// 1 for on, 0 for off.
-fn status_number(on: bool) -> u64
-    ensures { result ≡ cond on 1 0 }
-{
-    if on {
-        return 1;
-    }
-    0
-}
 
 // The generator's 16 numbers.
 fn generator_numbers(g: Generator) -> [u64; 16]
@@ -36,7 +26,7 @@ fn generator_numbers(g: Generator) -> [u64; 16]
         g.pU,
         g.TU as u64,
         g.TD as u64,
-        status_number(g.on),
+        u64::from(g.on),
         g.since as u64,
         g.DR,
         g.UR,
@@ -52,19 +42,14 @@ fn generator_numbers(g: Generator) -> [u64; 16]
 pub fn lay_out(problem: Problem) -> [u64; 610]
     ensures { result ≡ laid_out problem }
 {
-    let demand = problem.demand;
-    let spare = problem.spare;
-    let generators = problem.generators;
     let mut numbers = [0u64; 610];
     numbers[0] = problem.periods as u64;
     numbers[1] = problem.units as u64;
-    store(&mut numbers, 2, &demand);
-    store(&mut numbers, 50, &spare);
-    let mut u = 0;
-    while u < 32 {
-        let values = generator_numbers(generators[u]);
+    store(&mut numbers, 2, &problem.demand);
+    store(&mut numbers, 50, &problem.spare);
+    for (u, g) in problem.generators.iter().enumerate() {
+        let values = generator_numbers(*g);
         store(&mut numbers, 98 + u * 16, &values);
-        u += 1;
     }
     numbers
 }

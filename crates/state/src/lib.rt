@@ -1,7 +1,7 @@
 // A docket in two lent slices: 618 numbers, and the 1,536 outputs of its held schedule.
 #![tactic(auto)]
 
-ghost use Rattle.std.specs.Prelude.{◌≡◌, true, ◌≤◌, length};
+ghost use Rattle.std.specs.Prelude.{◌≡◌, true, ◌≤◌, length, take};
 ghost use Rattle.writer.specs.Written.{over};
 ghost use Rattle.docket.specs.Docket.{sound};
 ghost use Rattle.state.specs.Layout.{docket_in};
@@ -23,6 +23,14 @@ pub fn is_long(numbers: &[u64], rows: &[u16]) -> bool
     618 <= numbers.len() && 1536 <= rows.len()
 }
 
+// The first 1536 outputs.
+fn rows_in(rows: &[u16]) -> [u16; 1536]
+    requires { 1536 ≤ length rows.now }
+    ensures { result ≡ take 1536 rows.now }
+{
+    *rows.first_chunk().unwrap()
+}
+
 // The docket of a state's numbers, sound or not.
 fn docket_in(numbers: &[u64], rows: &[u16]) -> Docket
     requires in_bounds { 618 ≤ length numbers.now }
@@ -36,7 +44,7 @@ fn docket_in(numbers: &[u64], rows: &[u16]) -> Docket
             cost: held::cost_in(numbers[2], numbers[3], numbers[4]),
             bound: held::bound_in(numbers[5], numbers[6], numbers[7]),
         },
-        rows: layout::copies::rows_in(rows),
+        rows: rows_in(rows),
     }
 }
 
@@ -64,7 +72,7 @@ pub fn keep(docket: Docket, numbers: &mut [u64], rows: &mut [u16])
     layout::copies::store(numbers, 2, &held::cost_numbers(docket.held.cost));
     layout::copies::store(numbers, 5, &held::bound_numbers(docket.held.bound));
     layout::copies::store(numbers, 8, &layout::lay_out(docket.problem));
-    layout::copies::store_rows(rows, &docket.rows);
+    layout::copies::store(rows, 0, &docket.rows);
 }
 
 // Whether the answer says that the text is held.
@@ -108,6 +116,6 @@ pub fn copy_outputs(docket: Docket, outputs: &mut [u16]) -> usize
     ensures outputs_after { outputs.new ≡ over (outputs_of docket) outputs.old }
 {
     let n = count_outputs(docket);
-    layout::copies::store_rows(outputs, &docket.rows[..n]);
+    layout::copies::store(outputs, 0, &docket.rows[..n]);
     n
 }

@@ -1,5 +1,4 @@
 -- `demand_at` meets its contract: the demands begin at 2.
-use borrow.Author.Rules.{rules}
 use Rattle.layout.proofs.Readings.{demand_at}
 use Rattle.layout.proofs.demand_at.Goals as goal
 

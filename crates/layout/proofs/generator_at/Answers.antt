@@ -1,7 +1,6 @@
 -- `generator_at` meets its contract: the numbers from the generator's on.
 use mathlib.Core.Path.{sym, ap, ◌∙◌}
 use Prim.Native.Nat.{◌+◌, ◌*◌}
-use borrow.Author.Rules.{rules}
 use Rattle.layout.specs.Numbers.{generator_of}
 use Rattle.layout.proofs.Readings.{from_whole, unit_at}
 use Rattle.layout.proofs.generator_at.Goals as goal

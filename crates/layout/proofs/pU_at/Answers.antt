@@ -1,5 +1,4 @@
 -- `pU_at` meets its contract: pU is the fifth of a generator's numbers.
-use borrow.Author.Rules.{rules}
 use Rattle.layout.proofs.Readings.{pU_at}
 use Rattle.layout.proofs.pU_at.Goals as goal
 

@@ -1,6 +1,5 @@
 -- `periods_in` meets its contract: the periods stand first.
 use mathlib.Core.Path.{refl}
-use borrow.Author.Rules.{rules}
 use Rattle.layout.specs.Numbers.{instance_in}
 use Rattle.layout.proofs.periods_in.Goals as goal
 

@@ -1,5 +1,4 @@
 -- `spare_at` meets its contract: the spares begin at 50.
-use borrow.Author.Rules.{rules}
 use Rattle.layout.proofs.Readings.{spare_at}
 use Rattle.layout.proofs.spare_at.Goals as goal
 

@@ -1,6 +1,5 @@
 -- `units_in` meets its contract: the units are as many as the second number says.
 use mathlib.Core.Path.{sym}
-use borrow.Author.Rules.{rules}
 use Rattle.layout.proofs.Readings.{units_long}
 use Rattle.layout.proofs.units_in.Goals as goal
 

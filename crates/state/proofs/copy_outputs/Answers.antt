@@ -1,36 +1,39 @@
 -- `copy_outputs` meets its contract.
 use mathlib.Core.Path.{◌≡◌, ap, ◌∙◌}
-use Prim.Native.Nat.{ℕ, ◌≤◌}
+use Prim.Native.Nat.{ℕ}
 use native.Mathlib.Omega.{arith}
 use lib.ListN.{length, take}
 use lib.Seq.{length-take-le}
+use Rattle.layout.proofs.Fronts.{paste_front}
 use Rattle.writer.specs.Written.{over}
-use Rattle.state.specs.Kept.{outputs_count, outputs_of}
+use Rattle.state.specs.Kept.{outputs_of}
 use Rattle.state.proofs.Outputs.{outputs_few}
 use borrow.Author.Rules.{rules}
 use Rattle.state.proofs.copy_outputs.Goals as goal
-use Rattle.state.proofs.copy_outputs.Tie as tie
-use Rattle.state.proofs.copy_outputs.Reads as reads
-use Rattle.state.proofs.copy_outputs.Lts as lts
 
--- what is copied lies within the rows
-module _ (c : lts.After-count_outputs tie.the-claims reads.Pre reads.Post tie.handed_clauses) where
-  few : c.count_outputs-n.result ≤ 1536
-  few = omega (arith, c.count_outputs-n.ensures, outputs_few c.args.docket c.requires.docket_value)
+pub slice_bounds-kept-end : goal.slice_bounds-kept-end
+slice_bounds-kept-end c =
+    let long : length c.args.docket.rows ≡ 1536 = search rules in
+    omega (arith, c.count_outputs-n.ensures, outputs_few c.args.docket c.requires.docket_value, long)
 
-  rows_long : length c.args.docket.rows ≡ 1536
-  rows_long = search rules
+pub slice_bounds-store-end : goal.slice_bounds-store-end
+slice_bounds-store-end c =
+    let long : length c.args.docket.rows ≡ 1536 = search rules in
+    let few = outputs_few c.args.docket c.requires.docket_value in
+    omega (arith, length-take-le c.count_outputs-n.result c.args.docket.rows (omega (arith, c.count_outputs-n.ensures, few, long)))
 
-pub shared_ref_as_front-store_rows : goal.shared_ref_as_front-store_rows
-shared_ref_as_front-store_rows c = omega (arith, few c.before.before, rows_long c.before.before)
+pub store-requires : goal.store-requires
+store-requires c =
+    let long : length c.args.docket.rows ≡ 1536 = search rules in
+    let few = outputs_few c.args.docket c.requires.docket_value in
+    let n = length-take-le c.count_outputs-n.result c.args.docket.rows (omega (arith, c.count_outputs-n.ensures, few, long)) in
+    omega (arith, n, c.count_outputs-n.ensures, few, c.requires.in_bounds)
 
-pub store_rows-requires : goal.store_rows-requires
-store_rows-requires c =
-    let n = length-take-le (c.count_outputs-n.result) c.args.docket.rows (omega (arith, few c.before.before.before, rows_long c.before.before.before)) in
-    omega (arith, n, few c.before.before.before, c.requires.in_bounds)
-
-pub returns : goal.returns
+pub returns-clause-outputs_after : goal.returns-clause-outputs_after
 unfolding outputs_of
-returns c =
-    let e : c.count_outputs-n.result ≡ outputs_count c.args.docket = omega (arith, c.count_outputs-n.ensures) in
-    record { value = c.count_outputs-n.ensures; outputs_after = c.store_rows.ensures ∙ ap (λ (n : ℕ). over (take n c.args.docket.rows) c.args.outputs.now) e }
+returns-clause-outputs_after c =
+    let rows = c.args.docket.rows in
+    let v = c.args.outputs.now in
+    c.store.ensures
+    ∙ paste_front v (take c.count_outputs-n.result rows)
+    ∙ ap (λ (n : ℕ). over (take n rows) v) c.count_outputs-n.ensures

@@ -2,7 +2,6 @@
 use mathlib.Core.Path.{refl, ap, ◌∙◌}
 use lib.ListN.{take}
 use Rattle.layout.specs.Numbers.{problem_in}
-use borrow.Author.Rules.{rules}
 use Rattle.layout.proofs.Readings.{from_whole}
 use Rattle.layout.proofs.reading.problem_in.Goals as goal
 
@@ -11,7 +10,7 @@ unfolding problem_in
 returns c =
     let v = c.args.numbers.now in
     rw (
-      c.generators_in-generators.ensures,
-      c.loads_in-spare.ensures ∙ ap (take 48) (from_whole v 50),
-      c.loads_in-demand.ensures ∙ ap (take 48) (from_whole v 2),
+      c.generators_in.ensures,
+      c.loads_in-2.ensures ∙ ap (take 48) (from_whole v 50),
+      c.loads_in.ensures ∙ ap (take 48) (from_whole v 2),
     ) refl
