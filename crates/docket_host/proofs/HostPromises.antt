@@ -2,6 +2,7 @@
 -- state after `docket_fresh` on any two slices that are long enough and then calls of `docket_lodge`, each with a text and with a line and values that
 -- are lent for its answer; `after texts` and `answer texts text` are the docket and the answer of the page of promises
 -- (crates/docket/proofs/Promises.antt), so that all of that page holds of them.
+use Rattle.std.specs.Prelude.{Some}
 use mathlib.Core.Path.{◌≡◌, refl}
 use mathlib.Core.Bool.{true, false, cond}
 use mathlib.Core.List.{List, [], flatten}
@@ -18,7 +19,6 @@ use Rattle.answer.specs.AnswerLines.{answer_line}
 use Rattle.answer.specs.AnswerNumbers.{answer_numbers}
 use Rattle.answer.proofs.NumbersTell as numbers
 use Rattle.docket.specs.declared.held.CostBy.{CostBy}
-use Rattle.docket.specs.declared.held.HeldCost.TheVariants as cost
 use Rattle.docket.specs.Docket.{sound}
 use Rattle.docket.specs.Verdicts.{Costed, Verdict, schedules}
 use Rattle.docket.specs.Texts.{Are}
@@ -289,7 +289,7 @@ module _ (v w : List ℕ) (room : long v w ≡ true) (calls : List Lending) wher
     pub no_outputs : schedules vs ≡ [] → outputs_of (after texts) ≡ []
     no_outputs e = held.no_outputs (after texts) ((promised.schedule_or_none texts vs are).1 e)
 
-    pub held_outputs : (P : Instance) → given vs ≡ some P → (by : CostBy) → (after texts).held.cost ≡ cost.Number by
+    pub held_outputs : (P : Instance) → given vs ≡ some P → (by : CostBy) → (after texts).held.cost ≡ Some by
         → (x : Costed) × FirstLeast (λ x. x.cost) x (schedules vs) × (outputs_of (after texts) ≡ flatten x.rows)
     held_outputs = held.outputs_after texts vs are
 

@@ -14,11 +14,10 @@ use Rattle.writer.specs.Written.{over}
 use Rattle.answer.specs.StatedAnswers.{stated}
 use Rattle.answer.specs.AnswerLines.{answer_line}
 use Rattle.answer.specs.AnswerNumbers.{answer_numbers}
-use Rattle.report.specs.declared.ReportAnswer.{ReportAnswer}
-use Rattle.report.specs.declared.ReportAnswer.TheVariants as report
+use Rattle.std.specs.Prelude.{Result, Ok, Err}
+use Rattle.refusal.specs.declared.Refusal.{Refusal}
 use Rattle.report.specs.StatedReports as told
 use Rattle.report.specs.Report.{has_room, written_at}
-use Rattle.refusal.specs.declared.Refusal.{Refusal}
 use Rattle.refusal.specs.Refusals.{refusal_of}
 use Rattle.docket.specs.declared.Docket.{Docket}
 use Rattle.docket.specs.Verdicts.{Verdict}
@@ -80,11 +79,11 @@ abbrev number_told : told.ReportStated → ℕ
 number_told (told.refused n l u t) = too_little_room
 number_told (told.its_length n) = n
 
-number_is : (a : ReportAnswer) → report_number a ≡ number_told (told.report_stated a)
-number_is (report.Refused r) = refl
-number_is (report.Written n) = refl
+number_is : (a : Result ℕ Refusal) → report_number a ≡ number_told (told.report_stated a)
+number_is (Err r) = refl
+number_is (Ok n) = refl
 
-reported : (lines b : List ℕ) (k : ℕ) (a : ReportAnswer) (b' : List ℕ) → WrittenOr43 lines b k (told.report_stated a) b' → HostReport lines b k (report_number a) b'
+reported : (lines b : List ℕ) (k : ℕ) (a : Result ℕ Refusal) (b' : List ℕ) → WrittenOr43 lines b k (told.report_stated a) b' → HostReport lines b k (report_number a) b'
 reported lines b k a b' (inl p) = inl (p.room, number_is a ∙ ap number_told p.answer_is, p.buffer_is)
 reported lines b k a b' (inr p) = inr (p.no_room, number_is a ∙ ap number_told p.answer_is, p.buffer_is)
 
@@ -110,7 +109,7 @@ module _ (s : State) (texts : List (List ℕ)) (h : HoldsDocket s (after texts))
 
   -- its length is at most 171, or it is refused
   most_by : (t : Bool) (r : Refusal) (n : ℕ) → n ≤ 171
-      → (report_number (cond t (report.Written n) (report.Refused r)) ≤ 171) ⊎ (report_number (cond t (report.Written n) (report.Refused r)) ≡ too_little_room)
+      → (report_number (cond t (Ok n) (Err r)) ≤ 171) ⊎ (report_number (cond t (Ok n) (Err r)) ≡ too_little_room)
   most_by true r n h = inl h
   most_by false r n h = inr refl
 

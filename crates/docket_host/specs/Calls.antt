@@ -1,11 +1,10 @@
 -- What the calls on an open docket answer, and what every slice that they are lent then holds. v and w are the two slices of its state.
-use Rattle.std.specs.Prelude.{◌≡◌, Bool, false, cond, Result, Ok, Err, List, [], ◌∷◌, ℕ, ◌+◌, ◌≤◌, eqb, ltb, leb, ℤ, length}
+use Rattle.std.specs.Prelude.{◌≡◌, Bool, false, cond, List, [], ◌∷◌, ℕ, ◌+◌, ◌≤◌, eqb, ltb, leb, ℤ, length, Result, Ok, Err}
 use Rattle.writer.specs.Written.{over}
 use Rattle.answer.specs.StatedAnswers.{Stated, stated}
 use Rattle.answer.specs.AnswerLines.{answer_line}
 use Rattle.answer.specs.AnswerNumbers.{answer_numbers}
-use Rattle.report.specs.declared.ReportAnswer.{ReportAnswer}
-use Rattle.report.specs.declared.ReportAnswer.TheVariants as report
+use Rattle.refusal.specs.declared.Refusal.{Refusal}
 use Rattle.docket.specs.declared.Lodged.{Lodged}
 use Rattle.docket.specs.Docket.{fresh_docket}
 use Rattle.docket.specs.Lodging.{lodge_of}
@@ -84,9 +83,9 @@ module _ (v w text line values : List ℕ) where
 
 -- ---- a report: too little room is 43
 
-abbrev pub report_number : ReportAnswer → ℕ
-report_number (report.Refused r) = too_little_room
-report_number (report.Written n) = n
+abbrev pub report_number : Result ℕ Refusal → ℕ
+report_number (Err r) = too_little_room
+report_number (Ok n) = n
 
 unfoldable pub report_answer : List ℕ → List ℕ → List ℕ → ℕ → ℕ
 report_answer v w b k = guarded (long v w) (holds v w) too_little_room no_docket (report_number (report_of (docket_in v w) b k).answer)

@@ -2,16 +2,14 @@
 // slices that the caller lends and keeps between calls; and the listing, one function on bytes.
 #![tactic(auto)]
 
-ghost use Rattle.std.specs.Prelude.{◌≡◌, cond, ◌≤◌, length};
+ghost use Rattle.std.specs.Prelude.{◌≡◌, ◌≤◌, length};
 ghost use Rattle.list.specs.Listing.{listed_of, output_of};
 ghost use Rattle.state.specs.Layout.{numbers_count, rows_count};
 ghost use Rattle.docket_host.specs.HostAnswer.{host_answer};
-ghost use Rattle.docket_host.specs.Calls.{rules, fresh_answer, fresh_numbers, fresh_rows, lodge_room, lodge_answer, lodge_numbers, lodge_rows, lodge_line, lodge_values, report_number, report_answer, report_bytes, outputs_room, outputs_answer, outputs_rows, taken_room, unanswered_number, taken_number, taken_written, taken_answer, taken_numbers, Few, runs_number, value_told, runs_answer, runs_rows, runs_short, runs_value, forced_number, forced_answer, forced_values, forced_stuck};
+ghost use Rattle.docket_host.specs.Calls.{rules, fresh_answer, fresh_numbers, fresh_rows, lodge_room, lodge_answer, lodge_numbers, lodge_rows, lodge_line, lodge_values, report_answer, report_bytes, outputs_room, outputs_answer, outputs_rows, taken_room, unanswered_number, taken_number, taken_written, taken_answer, taken_numbers, Few, runs_number, value_told, runs_answer, runs_rows, runs_short, runs_value, forced_number, forced_answer, forced_values, forced_stuck};
 
 use docket::Docket;
 use leaves::short::Taken;
-use list::Listed;
-use report::ReportAnswer;
 use runs::drafting::NoRuns;
 use runs::question::Unanswered;
 
@@ -51,25 +49,18 @@ pub extern "C" fn docket_fresh(numbers: &mut [u64], rows: &mut [u16]) -> usize
     ensures numbers { numbers.new ≡ fresh_numbers numbers.old rows.old }
     ensures rows { rows.new ≡ fresh_rows numbers.old rows.old }
 {
-    if state::is_long(numbers, rows) {
-        let docket = Docket::fresh();
-        state::keep(docket, numbers, rows);
-        return 0;
+    if !state::is_long(numbers, rows) {
+        return TOO_SMALL;
     }
-    TOO_SMALL
+    state::keep(Docket::fresh(), numbers, rows);
+    0
 }
 
 // Whether as much is lent as `docket_lodge` asks for.
 fn has_lodge_room(numbers: &[u64], rows: &[u16], line: &[u8], values: &[u64]) -> bool
     ensures { result ≡ lodge_room numbers.now rows.now line.now values.now }
 {
-    if state::is_long(numbers, rows) {
-        if line.len() < 128 {
-            return false;
-        }
-        return 16 <= values.len();
-    }
-    false
+    state::is_long(numbers, rows) && 128 <= line.len() && 16 <= values.len()
 }
 
 // How many bytes of `line` hold the line of the answer to the text, whose numbers `values` begins with; the state is that of the docket
@@ -88,30 +79,17 @@ pub extern "C" fn docket_lodge(
     ensures line { line.new ≡ lodge_line numbers.old rows.old text.now line.old values.old }
     ensures values { values.new ≡ lodge_values numbers.old rows.old text.now line.old values.old }
 {
-    if has_lodge_room(numbers, rows, line, values) {
-        let opened = state::opened_in(numbers, rows);
-        if opened.is {
-            let docket = opened.docket;
-            let lodged = docket.lodge(text);
-            let answer = lodged.answer;
-            state::keep_held(lodged, numbers, rows);
-            let figures = answer::values::answer_numbers(answer);
-            layout::copies::store(values, 0, &figures);
-            return answer::write_answer(line, answer);
-        }
+    if !has_lodge_room(numbers, rows, line, values) {
+        return TOO_SMALL;
+    }
+    let Some(docket) = state::opened_in(numbers, rows) else {
         return NO_DOCKET;
-    }
-    TOO_SMALL
-}
-
-// The report's answer as one number.
-fn report_number(answer: ReportAnswer) -> usize
-    ensures { result ≡ report_number answer }
-{
-    match answer {
-        ReportAnswer::Refused(_) => TOO_SMALL,
-        ReportAnswer::Written(n) => n,
-    }
+    };
+    let lodged = docket.lodge(text);
+    let answer = lodged.answer;
+    state::keep_held(lodged, numbers, rows);
+    layout::copies::store(values, 0, &answer::values::answer_numbers(answer));
+    answer::write_answer(line, answer)
 }
 
 // How many bytes of the buffer from `at` on hold the docket's report. Or TOO_SMALL (43, or a short state) or NO_DOCKET, and nothing is changed.
@@ -125,27 +103,20 @@ pub extern "C" fn docket_report(
     ensures answer { result ≡ report_answer numbers.now rows.now buffer.old at }
     ensures bytes { buffer.new ≡ report_bytes numbers.now rows.now buffer.old at }
 {
-    if state::is_long(numbers, rows) {
-        let opened = state::opened_in(numbers, rows);
-        if opened.is {
-            let docket = opened.docket;
-            let reported = docket.report(buffer, at);
-            let answer = reported.answer;
-            return report_number(answer);
-        }
-        return NO_DOCKET;
+    if !state::is_long(numbers, rows) {
+        return TOO_SMALL;
     }
-    TOO_SMALL
+    let Some(docket) = state::opened_in(numbers, rows) else {
+        return NO_DOCKET;
+    };
+    docket.report(buffer, at).answer.unwrap_or(TOO_SMALL)
 }
 
 // Whether as much is lent as `docket_outputs` asks for.
 fn has_outputs_room(numbers: &[u64], rows: &[u16], outputs: &[u16]) -> bool
     ensures { result ≡ outputs_room numbers.now rows.now outputs.now }
 {
-    if state::is_long(numbers, rows) {
-        return 1536 <= outputs.len();
-    }
-    false
+    state::is_long(numbers, rows) && 1536 <= outputs.len()
 }
 
 // How many outputs the held schedule has, 0 where none is held; they stand at the front of `outputs`, unit u's from u times T on. Or TOO_SMALL or
@@ -155,25 +126,20 @@ pub extern "C" fn docket_outputs(numbers: &[u64], rows: &[u16], outputs: &mut [u
     ensures answer { result ≡ outputs_answer numbers.now rows.now outputs.old }
     ensures rows { outputs.new ≡ outputs_rows numbers.now rows.now outputs.old }
 {
-    if has_outputs_room(numbers, rows, outputs) {
-        let opened = state::opened_in(numbers, rows);
-        if opened.is {
-            let docket = opened.docket;
-            return state::copy_outputs(docket, outputs);
-        }
-        return NO_DOCKET;
+    if !has_outputs_room(numbers, rows, outputs) {
+        return TOO_SMALL;
     }
-    TOO_SMALL
+    let Some(docket) = state::opened_in(numbers, rows) else {
+        return NO_DOCKET;
+    };
+    state::copy_outputs(docket, outputs)
 }
 
 // Whether as much is lent as `docket_units_taken` asks for.
 fn has_taken_room(numbers: &[u64], rows: &[u16], taken: &[u64]) -> bool
     ensures { result ≡ taken_room numbers.now rows.now taken.now }
 {
-    if state::is_long(numbers, rows) {
-        return 2 <= taken.len();
-    }
-    false
+    state::is_long(numbers, rows) && 2 <= taken.len()
 }
 
 // Why a question has no answer, as one number.
@@ -217,16 +183,13 @@ pub extern "C" fn docket_units_taken(
     ensures answer { result ≡ taken_answer numbers.now rows.now period most fixed.now taken.old }
     ensures taken { taken.new ≡ taken_numbers numbers.now rows.now period most fixed.now taken.old }
 {
-    if has_taken_room(numbers, rows, taken) {
-        let opened = state::opened_in(numbers, rows);
-        if opened.is {
-            let docket = opened.docket;
-            let answer = docket.units_taken(period, most, fixed);
-            return tell_taken(answer, taken);
-        }
-        return NO_DOCKET;
+    if !has_taken_room(numbers, rows, taken) {
+        return TOO_SMALL;
     }
-    TOO_SMALL
+    let Some(docket) = state::opened_in(numbers, rows) else {
+        return NO_DOCKET;
+    };
+    tell_taken(docket.units_taken(period, most, fixed), taken)
 }
 
 // The answer as one number; where the runs were found, `value` is the leaf's value.
@@ -265,22 +228,19 @@ pub extern "C" fn docket_cheapest_runs(
     ensures short { short.new ≡ runs_short numbers.now rows.now q.now s.now fixed.now runs.old short.old value.old }
     ensures value { value.new ≡ runs_value numbers.now rows.now q.now s.now fixed.now runs.old short.old value.old }
 {
-    if state::is_long(numbers, rows) {
-        let opened = state::opened_in(numbers, rows);
-        if opened.is {
-            let docket = opened.docket;
-            if value.len() == 1 {
-                let answer = docket.cheapest_runs(q, s, fixed, runs, short);
-                return tell_runs(answer, value);
-            }
-            if docket.known {
-                return 2;
-            }
-            return 1;
-        }
-        return NO_DOCKET;
+    if !state::is_long(numbers, rows) {
+        return TOO_SMALL;
     }
-    TOO_SMALL
+    let Some(docket) = state::opened_in(numbers, rows) else {
+        return NO_DOCKET;
+    };
+    if value.len() == 1 {
+        return tell_runs(docket.cheapest_runs(q, s, fixed, runs, short), value);
+    }
+    if docket.known {
+        return 2;
+    }
+    1
 }
 
 // The answer as one number.
@@ -310,16 +270,13 @@ pub extern "C" fn docket_forced_statuses(
     ensures values { values.new ≡ forced_values numbers.now rows.now q.now s.now fixed.now values.old stuck.old }
     ensures stuck { stuck.new ≡ forced_stuck numbers.now rows.now q.now s.now fixed.now values.old stuck.old }
 {
-    if state::is_long(numbers, rows) {
-        let opened = state::opened_in(numbers, rows);
-        if opened.is {
-            let docket = opened.docket;
-            let answer = docket.forced_statuses(q, s, fixed, values, stuck);
-            return forced_number(answer);
-        }
-        return NO_DOCKET;
+    if !state::is_long(numbers, rows) {
+        return TOO_SMALL;
     }
-    TOO_SMALL
+    let Some(docket) = state::opened_in(numbers, rows) else {
+        return NO_DOCKET;
+    };
+    forced_number(docket.forced_statuses(q, s, fixed, values, stuck))
 }
 
 // How many bytes of the output hold the input's listing; or TOO_SMALL, with the output as it was.
@@ -328,9 +285,5 @@ pub extern "C" fn docket_listing(input: &[u8], output: &mut [u8]) -> usize
     ensures answer { result ≡ host_answer (listed_of input.now output.old) }
     ensures bytes { output.new ≡ output_of input.now output.old }
 {
-    let listed = list::list(input, output);
-    match listed {
-        Listed::TooSmall => TOO_SMALL,
-        Listed::Written(n) => n,
-    }
+    list::list(input, output).unwrap_or(TOO_SMALL)
 }

@@ -12,7 +12,7 @@ use Rattle.refusal.specs.Refusals.{refusal_of, carries_line, carries_unit, carri
 use Rattle.pieces.specs.Pieces.{pieces}
 use Rattle.writer.specs.Written.{over, figure}
 use Rattle.report.specs.Report.{report_lines, written_at, placed_at, put_at}
-use Rattle.report.specs.declared.ReportAnswer.TheVariants as reported
+use Rattle.std.specs.Prelude.{Ok, Some, None}
 use Rattle.report.proofs.Places.{with_room}
 use Rattle.answer.specs.declared.Answer.TheVariants.{Refused}
 use Rattle.answer.specs.StatedAnswers.{refused, stated}
@@ -21,7 +21,6 @@ use Rattle.docket.specs.declared.Docket.{Docket}
 use Rattle.docket.specs.Docket.{nothing_held, sound}
 use Rattle.docket.specs.Report.{report_text, text_shown, report_of, buffer_of}
 use Rattle.docket.proofs.Reports.{trusted_sound}
-use Rattle.list.specs.declared.Listed.TheVariants.{TooSmall, Written}
 use Rattle.list.specs.Listing.{listed, too_much, listing_text, listed_of, output_of}
 
 -- ---- the report of a docket that is sound, where it has room
@@ -30,7 +29,7 @@ module _ (d : Docket) (b : List ℕ) (k : ℕ) (s : sound d ≡ true) (room : k 
   shown_is : text_shown d ≡ report_text d.held
   shown_is = ap (λ (x : Docket). report_text x.held) (trusted_sound d s)
 
-  pub report_written : (report_of d b k).answer ≡ reported.Written (length (report_text d.held))
+  pub report_written : (report_of d b k).answer ≡ Ok (length (report_text d.held))
   unfolding report_of
   report_written = ap (written_at b k) shown_is ∙ (with_room b k (report_text d.held) room).0
 
@@ -55,7 +54,7 @@ nothing_size = refl
 -- ---- the answer and the output
 
 module _ (input output : List ℕ) where
-  pub small_answer : length output < 1048576 → TooSmall ≡ listed_of input output
+  pub small_answer : length output < 1048576 → None ≡ listed_of input output
   unfolding listed_of
   small_answer h = rw (lt-ltb (length output) 1048576 h)
 
@@ -72,20 +71,20 @@ module _ (input output : List ℕ) where
   input_listed h = rw (le-ltb 65536 (length input) h)
 
   module _ (h : 1048576 ≤ length output) (l : List ℕ) (is : listing_text input ≡ l) where
-    pub large_answer : Written (length l) ≡ listed_of input output
+    pub large_answer : Some (length l) ≡ listed_of input output
     unfolding listed_of
-    large_answer = ap (λ (x : List ℕ). Written (length x)) (sym is) ∙ sym (ap (λ (t : Bool). cond t TooSmall (Written (length (listing_text input)))) (le-ltb (length output) 1048576 h))
+    large_answer = ap (λ (x : List ℕ). Some (length x)) (sym is) ∙ sym (ap (λ (t : Bool). cond t None (Some (length (listing_text input)))) (le-ltb (length output) 1048576 h))
 
     pub large_output : over l output ≡ output_of input output
     unfolding output_of
     large_output = ap (λ (x : List ℕ). over x output) (sym is) ∙ sym (ap (λ (t : Bool). cond t output (over (listing_text input) output)) (le-ltb (length output) 1048576 h))
 
 -- what was written lies within the output
-pub written_within : (input output : List ℕ) (k : ℕ) → listed_of input output ≡ Written k → k ≤ length (output_of input output)
+pub written_within : (input output : List ℕ) (k : ℕ) → listed_of input output ≡ Some k → k ≤ length (output_of input output)
 unfolding listed_of output_of
 written_within input output k e = go (ltb (length output) 1048576) e
   where
-    go : (t : Bool) → cond t TooSmall (Written (length (listing_text input))) ≡ Written k → k ≤ length (cond t output (over (listing_text input) output))
+    go : (t : Bool) → cond t None (Some (length (listing_text input))) ≡ Some k → k ≤ length (cond t output (over (listing_text input) output))
     go true e = absurd (let z : ◌≡◌ {A = ℕ} 0 1 = cc in omega arith)
     go false e =
         let n : length (listing_text input) ≡ k = cc in

@@ -26,7 +26,7 @@ use Rattle.docket.proofs.Lists.{lodges}
 use Rattle.docket.proofs.Reports.{shown_reached}
 use Rattle.docket.proofs.Demand3.{demand3}
 use Rattle.docket.proofs.Determined.{answers_are_due}
-use Rattle.list.specs.declared.Listed.TheVariants.{TooSmall, Written}
+use Rattle.std.specs.Prelude.{Some, None}
 use Rattle.list.specs.Listing.{too_much, listing_text, listed_of, output_of}
 use Rattle.list.proofs.ListedCases.{input_listed, input_refused, small_answer, small_output, large_answer, large_output}
 use Rattle.list.proofs.ListedExample as example
@@ -55,7 +55,7 @@ one_cut input = (pieces input, (pieces_cut input, joined_pieces input), the_cut 
 pub lists : (input output : List ℕ) (texts : List (List ℕ)) → Cut texts → flatten texts ≡ input → (vs : List Verdict) → Are none texts vs
     → length input ≤ 65536 → 1048576 ≤ length output
     → (lines : List ℕ) × ReportDue vs lines × (output_of input output ≡ over (stated_lines (answers_due [] vs) ++ lines) output)
-    × (listed_of input output ≡ Written (length (stated_lines (answers_due [] vs) ++ lines)))
+    × (listed_of input output ≡ Some (length (stated_lines (answers_due [] vs) ++ lines)))
 lists input output ps cut whole vs of few room =
     let texts = pieces input in
     let are = subst (λ (ts : List (List ℕ)). Are none ts vs) (the_cut input ps cut whole) of in
@@ -70,13 +70,13 @@ lists input output ps cut whole vs of few room =
 -- of more bytes nothing is lodged: 11 is the one answer, and the report is that of no text
 pub lists_eleven : (input output : List ℕ) → 65536 < length input → 1048576 ≤ length output
     → (lines : List ℕ) × ReportDue [] lines × (output_of input output ≡ over (answer_line (refused 11 0 0 0) ++ lines) output)
-    × (listed_of input output ≡ Written (length (answer_line (refused 11 0 0 0) ++ lines)))
+    × (listed_of input output ≡ Some (length (answer_line (refused 11 0 0 0) ++ lines)))
 lists_eleven input output many room =
     let is = input_refused input output many in
     (report_text nothing_held, shown_due [] [] no_more, sym (large_output input output room too_much is), sym (large_answer input output room too_much is))
 
 -- an output of fewer than 1,048,576 bytes stays as it was
-pub lists_nothing : (input output : List ℕ) → length output < 1048576 → (listed_of input output ≡ TooSmall) × (output_of input output ≡ output)
+pub lists_nothing : (input output : List ℕ) → length output < 1048576 → (listed_of input output ≡ None) × (output_of input output ≡ output)
 lists_nothing input output small = (sym (small_answer input output small), sym (small_output input output small))
 
 -- ---- A witness: document 01's example, byte for byte

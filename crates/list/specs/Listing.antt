@@ -1,5 +1,5 @@
 -- Document 01, The listing program: the input cut into pieces, a line for each answer, then the report.
-use Rattle.std.specs.Prelude.{Bool, cond, List, [], ◌∷◌, ◌++◌, ℕ, ltb, length}
+use Rattle.std.specs.Prelude.{Bool, cond, List, [], ◌∷◌, ◌++◌, ℕ, ltb, length, Option, Some, None}
 use Rattle.pieces.specs.Pieces.{pieces}
 use Rattle.writer.specs.Written.{over}
 use Rattle.answer.specs.declared.Answer.{Answer}
@@ -9,8 +9,6 @@ use Rattle.answer.specs.AnswerLines.{answer_line}
 use Rattle.docket.specs.Lodging.{lodge_of}
 use Rattle.docket.specs.Demand3.{docket_after, answers_to}
 use Rattle.docket.specs.Report.{report_text}
-use Rattle.list.specs.declared.Listed.{Listed}
-use Rattle.list.specs.declared.Listed.TheVariants.{TooSmall, Written}
 
 -- ---- a line for each answer
 
@@ -36,8 +34,8 @@ listing_text input = cond (ltb 65536 (length input)) too_much (listed (pieces in
 abbrev pub too_small : List ℕ → Bool
 too_small output = ltb (length output) 1048576
 
-unfoldable pub listed_of : List ℕ → List ℕ → Listed
-listed_of input output = cond (too_small output) TooSmall (Written (length (listing_text input)))
+unfoldable pub listed_of : List ℕ → List ℕ → Option ℕ
+listed_of input output = cond (too_small output) None (Some (length (listing_text input)))
 
 unfoldable pub output_of : List ℕ → List ℕ → List ℕ
 output_of input output = cond (too_small output) output (over (listing_text input) output)

@@ -9,17 +9,7 @@ ghost use Rattle.docket.specs.Docket.{sound};
 ghost use Rattle.docket.specs.Report.{report_text};
 ghost use Rattle.list.specs.Listing.{listed, too_much, listed_of, output_of};
 
-use answer::Answer;
-use docket::admission::Screened;
 use docket::{Docket, admission};
-use report::ReportAnswer;
-
-// What the listing answers: the lent buffer is too small, or how many bytes were written.
-#[derive(Clone, Copy)]
-pub enum Listed {
-    TooSmall,
-    Written(usize),
-}
 
 // The place after the docket's report, which is written from the place n on.
 fn write_report(docket: Docket, output: &mut [u8], n: usize) -> usize
@@ -28,11 +18,9 @@ fn write_report(docket: Docket, output: &mut [u8], n: usize) -> usize
     ensures value { result ≡ n + length (report_text docket.held) }
     ensures output_after { output.new ≡ put_at output.old n (report_text docket.held) }
 {
-    let reported = docket.report(output, n);
-    let answer = reported.answer;
-    match answer {
-        ReportAnswer::Refused(_) => n,
-        ReportAnswer::Written(k) => n + k,
+    match docket.report(output, n).answer {
+        Ok(k) => n + k,
+        Err(_) => n,
     }
 }
 
@@ -42,10 +30,8 @@ fn refuse_input(output: &mut [u8]) -> usize
     ensures value { result ≡ length too_much }
     ensures output_after { output.new ≡ over too_much output.old }
 {
-    let refusal = refusal::refuse(11, 0, 0, 0);
-    let n = answer::write_answer(output, Answer::Refused(refusal));
-    let docket = Docket::fresh();
-    write_report(docket, output, n)
+    let n = answer::write_refusal(output, refusal::refuse(11, 0, 0, 0));
+    write_report(Docket::fresh(), output, n)
 }
 
 // How many bytes were written: a line for each piece of the input, lodged in turn in one fresh docket, and its report.
@@ -60,36 +46,30 @@ fn lodge_pieces(input: &[u8], output: &mut [u8]) -> usize
     let mut at = 0;
     while at < input.len() {
         let end = pieces::piece_end(input, at);
-        let known = docket.known;
-        let screened = admission::screen(known, &input[at..end]);
+        let piece = &input[at..end];
+        at = end;
         // Not a function: it would copy the docket, which a text refused here leaves as it is.
-        if let Screened::Refused(refusal) = screened {
+        if let Err(refusal) = admission::admit(docket.known, piece) {
             n += answer::write_refusal(&mut output[n..], refusal);
-            at = end;
             continue;
         }
-        let lodged = docket.lodge(&input[at..end]);
-        let next = lodged.docket;
-        docket = next;
-        let answer = lodged.answer;
-        n += answer::write_answer(&mut output[n..], answer);
-        at = end;
+        let lodged = docket.lodge(piece);
+        docket = lodged.docket;
+        n += answer::write_answer(&mut output[n..], lodged.answer);
     }
     write_report(docket, output, n)
 }
 
-// How many bytes of the output were written: the listing of the input. An output of fewer than 1,048,576 bytes is too small.
-pub fn list(input: &[u8], output: &mut [u8]) -> Listed
+// How many bytes of the output were written: the listing of the input. None where the output has fewer than 1,048,576 bytes, which is too small.
+pub fn list(input: &[u8], output: &mut [u8]) -> Option<usize>
     ensures answer { result ≡ listed_of input.now output.old }
     ensures bytes { output.new ≡ output_of input.now output.old }
 {
     if output.len() < 1048576 {
-        return Listed::TooSmall;
+        return None;
     }
     if 65536 < input.len() {
-        let n = refuse_input(output);
-        return Listed::Written(n);
+        return Some(refuse_input(output));
     }
-    let n = lodge_pieces(input, output);
-    Listed::Written(n)
+    Some(lodge_pieces(input, output))
 }

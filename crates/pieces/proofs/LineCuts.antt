@@ -1,6 +1,6 @@
 -- The lines of an input and its pieces: the input is its lines, lines that are whole stand where they stood whatever follows, and a
 -- key without byte 10 stands at a line exactly where the line begins with it.
-use Prim.Native.Nat.{ℕ, ◌+◌, ◌<◌}
+use Prim.Native.Nat.{ℕ, ◌<◌}
 use native.Mathlib.Omega.{arith}
 use mathlib.Core.Path.{◌≡◌, refl, sym, ap, ◌∙◌}
 use mathlib.Core.Bool.{Bool, true, false, not, ◌&&◌}

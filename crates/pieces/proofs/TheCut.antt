@@ -1,6 +1,6 @@
 -- The pieces of an input are a cut of it, and the only one: a piece that ends after its end= line stands in front of the pieces of what
 -- follows, and bytes left over are one piece.
-use Prim.Native.Nat.{ℕ, ◌+◌, ◌≤◌, ◌<◌}
+use Prim.Native.Nat.{ℕ, ◌≤◌, ◌<◌}
 use native.Mathlib.Omega.{arith}
 use mathlib.Core.Path.{◌≡◌, refl, sym, ap, ◌∙◌}
 use mathlib.Core.Bool.{Bool, true, false, not}

@@ -9,23 +9,13 @@ ghost use Rattle.pieces.specs.Pieces.{line_bytes, piece_after};
 // Most lines do not begin with e, byte 101, and where they end does not matter: the next line that does is looked for in parts of 32 bytes,
 // each with the byte behind it, since the compiler compares a whole part at once, and then byte by byte.
 
-// Whether both are true. It is a function of its own, so that the loop over a part does not branch.
-fn both(a: bool, b: bool) -> bool
-    ensures { result ≡ (a && b) }
-{
-    if a {
-        return b;
-    }
-    false
-}
-
-// Whether no byte 10 of the part has an e behind it; all of them are looked at.
+// Whether no byte 10 of the part has an e behind it; all of them are looked at, by `&`, so that the loop does not branch.
 fn is_without_e(part: &[u8]) -> bool
     ensures { result ≡ without_e part.now }
 {
     let mut without = true;
     for i in 1..part.len() {
-        without = both(without, !both(part[i - 1] == 10, part[i] == 101));
+        without &= !((part[i - 1] == 10) & (part[i] == 101));
     }
     without
 }
@@ -34,14 +24,10 @@ fn is_without_e(part: &[u8]) -> bool
 fn spans_part(s: &[u8], at: usize) -> bool
     ensures { result ≡ leb 33 (to_e (drop at s.now)) }
 {
-    if s.len() < 33 {
+    if s.len() < 33 || s.len() - 33 < at {
         return false;
     }
-    if s.len() - 33 < at {
-        return false;
-    }
-    let to = at + 33;
-    is_without_e(&s[at..to])
+    is_without_e(&s[at..at + 33])
 }
 
 // The place after the whole parts of 32 bytes before the byte 10 that stands in front of that line, or before the input's last byte.
@@ -59,28 +45,25 @@ fn skip_parts(s: &[u8], at: usize) -> usize
 fn next_e(s: &[u8], at: usize) -> usize
     ensures { result ≡ at + to_e (drop at s.now) }
 {
-    let mut i = skip_parts(s, at);
-    while i < s.len() {
+    let from = skip_parts(s, at);
+    for i in from..s.len() {
         if text::starts(s, i, b"\ne") {
             return i + 1;
         }
-        i += 1;
     }
-    i
+    from.max(s.len())
 }
 
 // The place after the line that starts at `at`.
 fn line_end(s: &[u8], at: usize) -> usize
     ensures { result ≡ at + length (line_bytes (line_at s.now at)) }
 {
-    let mut i = at;
-    while i < s.len() {
+    for i in at..s.len() {
         if s[i] == 10 {
             return i + 1;
         }
-        i += 1;
     }
-    i
+    at.max(s.len())
 }
 
 // The place after the piece that starts at `at`.

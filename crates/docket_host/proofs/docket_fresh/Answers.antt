@@ -9,14 +9,14 @@ use borrow.Author.Rules.{rules}
 use Rattle.docket_host.proofs.docket_fresh.Goals as goal
 
 pub keep-requires : goal.keep-requires
-keep-requires c = let whole = long_room c.args.numbers.now c.args.rows.now (sym c.is_long.ensures ∙ c.if-is_long.true) in record { in_bounds = whole.0; in_bounds_2 = whole.1 }
-
-pub returns-then-is_long : goal.returns-then-is_long
-unfolding fresh_answer fresh_numbers fresh_rows
-returns-then-is_long c =
-    let e = sym c.is_long.ensures ∙ c.if-is_long.true in
-    record { answer = rw e refl; numbers = rw e (c.keep.ensures.numbers_after ∙ ap (λ (d : Docket). kept_numbers d c.args.numbers.now) c.fresh-docket.ensures); rows = rw e (c.keep.ensures.rows_after ∙ ap (λ (d : Docket). kept_rows d c.args.rows.now) c.fresh-docket.ensures) }
+keep-requires c = let whole = long_room c.args.numbers.now c.args.rows.now (sym c.is_long.ensures ∙ c.if-not-is_long.false) in record { in_bounds = whole.0; in_bounds_2 = whole.1 }
 
 pub returns : goal.returns
+unfolding fresh_answer fresh_numbers fresh_rows
 returns c =
-    let a = c.args in let whole = fresh_short a.numbers.now a.rows.now (sym c.is_long.ensures ∙ c.if-is_long.false) in record { answer = whole.0; numbers = whole.1.0; rows = whole.1.1 }
+    let e = sym c.is_long.ensures ∙ c.if-not-is_long.false in
+    record { answer = rw e refl; numbers = rw e (c.keep.ensures.numbers_after ∙ ap (λ (d : Docket). kept_numbers d c.args.numbers.now) c.fresh.ensures); rows = rw e (c.keep.ensures.rows_after ∙ ap (λ (d : Docket). kept_rows d c.args.rows.now) c.fresh.ensures) }
+
+pub returns-then-not-is_long : goal.returns-then-not-is_long
+returns-then-not-is_long c =
+    let a = c.args in let whole = fresh_short a.numbers.now a.rows.now (sym c.is_long.ensures ∙ c.if-not-is_long.true) in record { answer = whole.0; numbers = whole.1.0; rows = whole.1.1 }

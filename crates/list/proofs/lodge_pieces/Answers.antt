@@ -1,13 +1,12 @@
 use Prim.Native.Nat.{◌-◌, ◌≤◌, ◌<◌}
 use native.Mathlib.Omega.{arith}
-use borrow.Author.Rules.{rules}
 use mathlib.Core.Path.{◌≡◌, sym, ◌∙◌}
 use lib.ListN.{length, take, drop}
 use Rattle.answer.specs.declared.Answer.TheVariants.{Refused}
 use Rattle.docket.specs.declared.Lodged.{Lodged}
 use Rattle.docket.specs.Lodging.{lodged, lodge_of}
 use Rattle.docket.proofs.HoldingAnswers.{screened_lodged}
-use Rattle.list.proofs.ListedSoFar.{SoFar, nothing_yet, good_so_far, before_end, Turn, turn, Done, done}
+use Rattle.list.proofs.ListedSoFar.{nothing_yet, good_so_far, before_end, Turn, turn, Done, done}
 use Rattle.list.proofs.lodge_pieces.Goals as goal
 use Rattle.list.proofs.lodge_pieces.Tie as tie
 use Rattle.list.proofs.lodge_pieces.Reads as reads
@@ -35,17 +34,17 @@ module _ (c : lts.After-piece_end tie.the-claims reads.Pre reads.Post goal.the-i
 -- ---- refused before its lines
 module _ (c : lts.Past-After-known_told tie.the-claims reads.Pre reads.Post goal.the-invariant-loop-at goal.the-decreases-loop-at tie.handed_clauses) where
   -- as it would be if it were lodged
-  as-lodged : lodged c.loop-at.docket (Refused c.in-Refused.refusal)
+  as-lodged : lodged c.loop-at.docket (Refused c.in-Err.refusal)
       ≡ lodge_of c.loop-at.docket (take (c.piece_end-end.result - c.loop-at.at) (drop c.loop-at.at c.args.input.now))
   as-lodged =
       let good = good_so_far c.loop-at.invariant in
-      sym (screened_lodged _ _ good _ (sym c.screen-screened.ensures ∙ c.in-Refused.is))
+      sym (screened_lodged _ _ good _ (sym c.admit.ensures ∙ c.in-Err.is))
 
-  refused : Turned c.before.before.before (lodged c.loop-at.docket (Refused c.in-Refused.refusal))
+  refused : Turned c.before.before.before (lodged c.loop-at.docket (Refused c.in-Err.refusal))
   refused = turned c.before.before.before _ as-lodged
 
-answered : (c : lts.After-next tie.the-claims reads.Pre reads.Post goal.the-invariant-loop-at goal.the-decreases-loop-at tie.handed_clauses) → Turned c.before.before.before.before.before.before c.lodge-lodged.result
-answered c = turned c.before.before.before.before.before.before _ c.lodge-lodged.ensures
+answered : (c : lts.After-docket tie.the-claims reads.Pre reads.Post goal.the-invariant-loop-at goal.the-decreases-loop-at tie.handed_clauses) → Turned c.before.before.before.before.before c.lodge-lodged.result
+answered c = turned c.before.before.before.before.before _ c.lodge-lodged.ensures
 
 -- ---- the report
 module _ (c : lts.After-loop tie.the-claims reads.Pre reads.Post goal.the-invariant-loop-at goal.the-decreases-loop-at tie.handed_clauses) where
@@ -59,14 +58,14 @@ loop-at-init c =
     let a = c.args in
     rw c.fresh-docket.ensures (nothing_yet a.input.now a.output.now)
 
-pub slice_bounds-screen-count : goal.slice_bounds-screen-count
-slice_bounds-screen-count c = omega (arith, piece c.before)
+pub slice_bounds-piece-count : goal.slice_bounds-piece-count
+slice_bounds-piece-count c = omega (arith, piece c.before)
 
-pub slice_bounds-screen-start : goal.slice_bounds-screen-start
-slice_bounds-screen-start c = omega (arith, piece c.before)
+pub slice_bounds-piece-start : goal.slice_bounds-piece-start
+slice_bounds-piece-start c = omega (arith, piece c.before)
 
-pub slice_bounds-screen-end : goal.slice_bounds-screen-end
-slice_bounds-screen-end c = (piece c.before).1
+pub slice_bounds-piece-end : goal.slice_bounds-piece-end
+slice_bounds-piece-end c = (piece c.before).1
 
 pub slice_bounds-write_refusal-count : goal.slice_bounds-write_refusal-count
 slice_bounds-write_refusal-count c = omega (arith, (refused c.before).fits)
@@ -80,23 +79,14 @@ write_refusal-n-requires c = (refused c.before.before).part
 pub overflow_add-n : goal.overflow_add-n
 overflow_add-n c = omega (arith, (refused c.before.before.before.before.before).few, c.write_refusal-n.ensures.value)
 
-pub loop-at-smaller-in-Refused : goal.loop-at-smaller-in-Refused
-loop-at-smaller-in-Refused c =
+pub loop-at-smaller-in-Err : goal.loop-at-smaller-in-Err
+loop-at-smaller-in-Err c =
     omega (arith, piece c.before.before.before.before.before.before.before.before, c.loop-at-test.true)
 
-pub loop-at-preserved-in-Refused : goal.loop-at-preserved-in-Refused
-loop-at-preserved-in-Refused c =
+pub loop-at-preserved-in-Err : goal.loop-at-preserved-in-Err
+loop-at-preserved-in-Err c =
     let w = c.write_refusal-n in
     (refused c.before.before.before.before.before).after w.result w.new.buf w.ensures.value w.ensures.buf_after
-
-pub slice_bounds-lodge-count : goal.slice_bounds-lodge-count
-slice_bounds-lodge-count c = omega (arith, piece c.before.before.before.before)
-
-pub slice_bounds-lodge-start : goal.slice_bounds-lodge-start
-slice_bounds-lodge-start c = omega (arith, piece c.before.before.before.before)
-
-pub slice_bounds-lodge-end : goal.slice_bounds-lodge-end
-slice_bounds-lodge-end c = (piece c.before.before.before.before).1
 
 pub slice_bounds-write_answer-count : goal.slice_bounds-write_answer-count
 slice_bounds-write_answer-count c = omega (arith, (answered c.before).fits)
@@ -112,7 +102,7 @@ overflow_add-n-in-loop-at c = omega (arith, (answered c.before.before.before.bef
 
 pub loop-at-smaller : goal.loop-at-smaller
 loop-at-smaller c =
-    omega (arith, piece c.before.before.before.before.before.before.before.before.before.before.before, c.loop-at-test.true)
+    omega (arith, piece c.before.before.before.before.before.before.before.before.before.before, c.loop-at-test.true)
 
 pub loop-at-preserved : goal.loop-at-preserved
 loop-at-preserved c =

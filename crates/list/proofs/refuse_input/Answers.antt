@@ -1,7 +1,6 @@
 -- `refuse_input` meets its contract: the line of 11 and the report of a fresh docket, which holds nothing, have 24 and 86 bytes.
 use Prim.Native.Nat.{ℕ}
 use native.Mathlib.Omega.{arith}
-use borrow.Author.Rules.{rules}
 use mathlib.Core.Path.{◌≡◌, ap, ◌∙◌}
 use mathlib.Core.List.{List}
 use lib.ListN.{length, length-append}
@@ -32,21 +31,21 @@ line_is : (r : Refusal) → r ≡ refusal_of 11 0 0 0 → answer_line (stated (R
 line_is r e = ap (λ (x : Refusal). answer_line (stated (Refused x))) e ∙ eleven
 
 -- what stands in the output after the line
-module _ (c : lts.After-write_answer tie.the-claims reads.Pre reads.Post tie.handed_clauses) where
-  many : c.write_answer-n.result ≡ length line
-  many = c.write_answer-n.ensures.value ∙ ap length (line_is c.refuse-refusal.result c.refuse-refusal.ensures)
+module _ (c : lts.After-write_refusal tie.the-claims reads.Pre reads.Post tie.handed_clauses) where
+  many : c.write_refusal-n.result ≡ length line
+  many = c.write_refusal-n.ensures.value ∙ ap length (line_is c.refuse.result c.refuse.ensures)
 
-  written : c.write_answer-n.new.buf ≡ over line c.args.output.now
-  written = c.write_answer-n.ensures.buf_after ∙ ap (λ (l : List ℕ). over l c.args.output.now) (line_is c.refuse-refusal.result c.refuse-refusal.ensures)
+  written : c.write_refusal-n.new.buf ≡ over line c.args.output.now
+  written = c.write_refusal-n.ensures.buf_after ∙ ap (λ (l : List ℕ). over l c.args.output.now) (line_is c.refuse.result c.refuse.ensures)
 
-pub write_answer-n-requires : goal.write_answer-n-requires
-write_answer-n-requires c =
-    omega (arith, ap length (line_is c.refuse-refusal.result c.refuse-refusal.ensures), eleven_size, c.requires)
+pub write_refusal-n-requires : goal.write_refusal-n-requires
+write_refusal-n-requires c =
+    omega (arith, ap length (line_is c.refuse.result c.refuse.ensures), eleven_size, c.requires)
 
 pub write_report-requires : goal.write_report-requires
 write_report-requires c =
     let room = c.args.output.now in
-    let f = c.fresh-docket.ensures in record {
+    let f = c.fresh.ensures in record {
       docket_value = ap sound f ∙ fresh_sound;
       held_in_bounds = omega (
         arith,
@@ -62,12 +61,12 @@ write_report-requires c =
 pub returns : goal.returns
 returns c =
     let room = c.args.output.now in
-    let f = c.fresh-docket.ensures in
+    let f = c.fresh.ensures in
     let r = c.write_report in record {
       value = omega (arith, r.ensures.value, many c.before.before.before.before.before.before.before.before, ap (λ (d : Docket). length (report_text d.held)) f, length-append line (report_text nothing_held));
       output_after = r.ensures.output_after
-          ∙ ap (λ (d : Docket). put_at c.write_answer-n.new.buf c.write_answer-n.result (report_text d.held)) f
-          ∙ ap (λ (x : List ℕ). put_at x c.write_answer-n.result (report_text nothing_held)) (written c.before.before.before.before.before.before.before.before)
+          ∙ ap (λ (d : Docket). put_at c.write_refusal-n.new.buf c.write_refusal-n.result (report_text d.held)) f
+          ∙ ap (λ (x : List ℕ). put_at x c.write_refusal-n.result (report_text nothing_held)) (written c.before.before.before.before.before.before.before.before)
           ∙ ap (λ (k : ℕ). put_at (over line room) k (report_text nothing_held)) (many c.before.before.before.before.before.before.before.before)
           ∙ place_on line (report_text nothing_held) room;
     }

@@ -1,12 +1,8 @@
 -- `skip_parts` meets its contract: a place before the next line that begins with e and the whole parts that are left make the same place.
-use Prim.Native.Nat.{◌+◌, ◌-◌, ◌*◌, ◌/◌, ◌≤◌, ◌<◌}
-use mathlib.Core.Path.{◌≡◌, refl, sym, ◌∙◌}
-use native.Mathlib.Omega.{arith}
-use borrow.Author.Rules.{rules}
-use borrow.Author.Tests.{leb-true, leb-false}
-use lib.ListN.{length, drop, length-drop}
+use Prim.Native.Nat.{◌+◌, ◌-◌, ◌*◌, ◌/◌}
+use mathlib.Core.Path.{◌≡◌}
+use lib.ListN.{length, drop}
 use Rattle.pieces.specs.Search.{to_e}
-use Rattle.pieces.proofs.Search.{to_e_most, to_e_past}
 use Rattle.pieces.proofs.skip_parts.Given as goal
 
 abbrev pub invariant-loop-i : goal.invariant-loop-i

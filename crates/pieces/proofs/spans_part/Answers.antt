@@ -2,21 +2,19 @@
 use Prim.Native.Nat.{ℕ, ◌+◌, ◌-◌}
 use mathlib.Core.Path.{◌≡◌, sym, ap, ◌∙◌}
 use native.Mathlib.Omega.{arith}
-use borrow.Author.Rules.{rules}
 use lib.ListN.{take, drop, length-drop}
 use Rattle.pieces.specs.Search.{without_e}
 use Rattle.pieces.proofs.Search.{part_short, part_without}
 use Rattle.pieces.proofs.spans_part.Goals as goal
+use Rattle.pieces.proofs.spans_part.Goals.{then-s-lt33-via-then-s-lt33 as short, then-s-lt33-via-else-s-lt33+then-s-at as late}
 
 pub returns-then-s-lt33 : goal.returns-then-s-lt33
 returns-then-s-lt33 c =
-    let a = c.args in
-    sym (part_short 33 (drop a.at a.s.now) (omega (arith, length-drop a.at a.s.now)))
-
-pub returns-then-s-at : goal.returns-then-s-at
-returns-then-s-at c =
-    let a = c.args in
-    sym (part_short 33 (drop a.at a.s.now) (omega (arith, length-drop a.at a.s.now)))
+    let t = drop c.args.at c.args.s.now in
+    elim c.then-s-lt33.branch [
+      | short w ↦ sym (part_short 33 t (omega (arith, length-drop c.args.at c.args.s.now)))
+      | late w ↦ sym (part_short 33 t (omega (arith, length-drop c.args.at c.args.s.now)))
+    ]
 
 pub returns : goal.returns
 returns c =
