@@ -3,7 +3,8 @@
 #![tactic(auto)]
 
 use docket::Docket;
-use runs::drafting::RunsAnswer;
+use runs::drafting::NoRuns;
+use runs::question::Unanswered;
 use std::fmt::{self, Write};
 
 // The file number of standard output.
@@ -46,15 +47,15 @@ const FREE: Question<'static> = Question {
 
 // The answer, as a line shows it.
 #[derive(Drop)]
-struct Told(RunsAnswer);
+struct Told(Result<i64, NoRuns>);
 
 impl fmt::Display for Told {
     fn fmt<W: fmt::Write>(&self, f: &mut fmt::Formatter<W>) -> fmt::Result {
         match self.0 {
-            RunsAnswer::NoProblem => write!(f, "no problem"),
-            RunsAnswer::Unfit => write!(f, "unfit"),
-            RunsAnswer::Stuck(unit) => write!(f, "stuck {unit}"),
-            RunsAnswer::Found(value) => write!(f, "found {value}"),
+            Ok(value) => write!(f, "found {value}"),
+            Err(NoRuns::Question(Unanswered::NoProblem)) => write!(f, "no problem"),
+            Err(NoRuns::Question(Unanswered::Unfit)) => write!(f, "unfit"),
+            Err(NoRuns::Stuck(unit)) => write!(f, "stuck {unit}"),
         }
     }
 }

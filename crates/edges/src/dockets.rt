@@ -5,7 +5,7 @@ ghost use Rattle.docket.specs.Lodging.{lodge_of};
 use crate::orders::{Change, Order};
 use crate::questions;
 use crate::show::{self, Filled, Shown};
-use docket::held::{HeldBound, HeldCost};
+use docket::held::HeldBound;
 use docket::{Docket, Lodged};
 
 // The docket in hand, and those that are kept under 1 to 7.
@@ -57,7 +57,7 @@ impl Dockets {
             Change::Known(known) => docket.known = known,
             Change::Periods(n) => docket.problem.periods = n,
             Change::Outputs(output) => docket.rows = [output; 1536],
-            Change::Cost(cost) => docket.held.cost = HeldCost::Number(cost),
+            Change::Cost(cost) => docket.held.cost = Some(cost),
             Change::Bound(bound) => docket.held.bound = HeldBound::Number(bound),
         }
     }

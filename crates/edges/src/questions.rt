@@ -5,7 +5,8 @@ ghost use Rattle.edges.specs.Statuses.{status_of};
 
 use crate::texts;
 use docket::Docket;
-use docket::taking::TakenAnswer;
+use leaves::short::Taken;
+use runs::question::Unanswered;
 
 // The status that b stands for: b less 48, wrapped.
 fn status_of(b: u8) -> u8
@@ -15,7 +16,7 @@ fn status_of(b: u8) -> u8
 }
 
 // The answer. Of a longer text 1,537 bytes are asked about, which are too many as well: no problem has more than 1,536 statuses.
-pub fn ask(d: Docket, period: usize, most: usize, s: &[u8]) -> TakenAnswer
+pub fn ask(d: Docket, period: usize, most: usize, s: &[u8]) -> Result<Taken, Unanswered>
     ensures { result ≡ taken_of d period most (map status_of s.now) }
 {
     let s = texts::front(s, 1537);

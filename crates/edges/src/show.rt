@@ -1,11 +1,11 @@
 // The lines that the program prints.
 use answer::Answer;
-use docket::held::{HeldBound, HeldCost};
-use docket::taking::TakenAnswer;
+use docket::held::{CostBy, HeldBound};
 use docket::{Docket, Lodged};
-use model::figures::{Bound, TreeFigures};
+use leaves::short::Taken;
+use model::figures::TreeFigures;
 use refusal::Refusal;
-use report::ReportAnswer;
+use runs::question::Unanswered;
 use std::fmt::{self, Write};
 
 // The file number of standard output.
@@ -42,7 +42,7 @@ pub struct Shown<'a, T>(pub &'a T);
 // The answer to a report that was asked for, and the buffer after it.
 #[derive(Drop)]
 pub struct Filled<'a> {
-    pub answer: ReportAnswer,
+    pub answer: Result<usize, Refusal>,
     pub buffer: &'a [u8],
 }
 
@@ -86,11 +86,11 @@ impl fmt::Display for Shown<'_, Answer> {
 }
 
 // The held cost and its writer, or none.
-impl fmt::Display for Shown<'_, HeldCost> {
+impl fmt::Display for Shown<'_, Option<CostBy>> {
     fn fmt<W: fmt::Write>(&self, f: &mut fmt::Formatter<W>) -> fmt::Result {
         match self.0 {
-            HeldCost::Nothing => write!(f, "none"),
-            HeldCost::Number(by) => write!(f, "{},{}", by.cost, by.writer),
+            None => write!(f, "none"),
+            Some(by) => write!(f, "{},{}", by.cost, by.writer),
         }
     }
 }
@@ -133,8 +133,8 @@ impl fmt::Display for Shown<'_, Docket> {
 impl fmt::Display for Filled<'_> {
     fn fmt<W: fmt::Write>(&self, f: &mut fmt::Formatter<W>) -> fmt::Result {
         match self.answer {
-            ReportAnswer::Refused(r) => write!(f, "{} [", Shown(&r))?,
-            ReportAnswer::Written(n) => write!(f, "{n} [")?,
+            Err(r) => write!(f, "{} [", Shown(&r))?,
+            Ok(n) => write!(f, "{n} [")?,
         }
         for b in self.buffer {
             f.write_char(if *b == b'\n' { '/' } else { char::from(*b) })?;
@@ -144,12 +144,12 @@ impl fmt::Display for Filled<'_> {
 }
 
 // Whether the units are short or enough, and how many were taken.
-impl fmt::Display for Shown<'_, TakenAnswer> {
+impl fmt::Display for Shown<'_, Result<Taken, Unanswered>> {
     fn fmt<W: fmt::Write>(&self, f: &mut fmt::Formatter<W>) -> fmt::Result {
         match self.0 {
-            TakenAnswer::NoProblem => write!(f, "no problem"),
-            TakenAnswer::Unfit => write!(f, "unfit"),
-            TakenAnswer::Taken(taken) => {
+            Err(Unanswered::NoProblem) => write!(f, "no problem"),
+            Err(Unanswered::Unfit) => write!(f, "unfit"),
+            Ok(taken) => {
                 let word = if taken.short { "short" } else { "enough" };
                 write!(f, "{word},{}", taken.units)
             }

@@ -4,7 +4,7 @@
 #![tactic(auto)]
 
 use docket::Docket;
-use forced::answering::ForcedAnswer;
+use runs::question::Unanswered;
 use std::fmt::{self, Write};
 
 // The file number of standard output.
@@ -47,14 +47,14 @@ const FREE: Question<'static> = Question {
 
 // The answer, as a line shows it.
 #[derive(Drop)]
-struct Told(ForcedAnswer);
+struct Told(Result<(), Unanswered>);
 
 impl fmt::Display for Told {
     fn fmt<W: fmt::Write>(&self, f: &mut fmt::Formatter<W>) -> fmt::Result {
         match self.0 {
-            ForcedAnswer::NoProblem => write!(f, "no problem"),
-            ForcedAnswer::Unfit => write!(f, "unfit"),
-            ForcedAnswer::Found => write!(f, "found"),
+            Ok(()) => write!(f, "found"),
+            Err(Unanswered::NoProblem) => write!(f, "no problem"),
+            Err(Unanswered::Unfit) => write!(f, "unfit"),
         }
     }
 }

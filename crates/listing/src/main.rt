@@ -4,8 +4,6 @@
 
 ghost use Rattle.std.specs.Prelude.{◌≡◌, length};
 
-use list::Listed;
-
 // The file number of standard input. It is read by its number, and what is listed is written so: by the runtime both can fail, and rest on more of the C library than `read` and
 // `write`.
 const STDIN: i32 = 0;
@@ -26,7 +24,7 @@ fn main() {
     // every listing
     let mut output = room::<1_048_576>();
     let n = io::read_full(STDIN, &mut input);
-    if let Listed::Written(k) = list::list(&input[..n], &mut output) {
+    if let Some(k) = list::list(&input[..n], &mut output) {
         io::write_all(STDOUT, &output[..k]);
     }
 }
