@@ -4,7 +4,7 @@ ghost use Rattle.model.specs.Ranges.{every, load_in_range, good_generator};
 ghost use Rattle.model.specs.Held.{blank_problem, valid_problem};
 
 use crate::generator::Generator;
-use crate::ranges::{FLEET, HORIZON, LOAD};
+use crate::ranges::Span;
 
 // A problem of at most 48 periods and 32 generators; the arrays begin with the problem's own.
 #[derive(Clone, Copy)]
@@ -20,7 +20,7 @@ pub struct Problem {
 fn has_loads_in_range(loads: &[u64]) -> bool
     ensures { result ≡ every load_in_range loads.now }
 {
-    loads.iter().all(|load| LOAD.contains(*load))
+    loads.iter().all(|load| Span::LOAD.contains(*load))
 }
 
 // Whether every generator is good.
@@ -49,8 +49,8 @@ impl Problem {
     pub fn is_valid(self) -> bool
         ensures { result ≡ valid_problem self }
     {
-        HORIZON.contains(self.periods as u64)
-            && FLEET.contains(self.units as u64)
+        Span::HORIZON.contains(self.periods as u64)
+            && Span::FLEET.contains(self.units as u64)
             && has_loads_in_range(&self.demand[..self.periods])
             && has_loads_in_range(&self.spare[..self.periods])
             && has_good_generators(&self.generators[..self.units])

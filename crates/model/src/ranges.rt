@@ -9,37 +9,37 @@ pub struct Span {
     pub most: u64,
 }
 
-// A number of periods.
-pub const HORIZON: Span = Span { least: 1, most: 48 };
-
-// A number of units.
-pub const FLEET: Span = Span { least: 1, most: 32 };
-
-// A period's demand, or its spare.
-pub const LOAD: Span = Span {
-    least: 0,
-    most: 320_000,
-};
-
-// A unit's output in a period.
-pub const OUTPUT: Span = Span {
-    least: 0,
-    most: 10_000,
-};
-
-// A price or reserve multiplier.
-pub const PRICE: Span = Span {
-    least: 0,
-    most: 1_000_000_000,
-};
-
-// The writer of a schedule or a tree.
-pub const WRITER: Span = Span {
-    least: 1,
-    most: 65_535,
-};
-
 impl Span {
+    // A number of periods.
+    pub const HORIZON: Span = Span { least: 1, most: 48 };
+
+    // A number of units.
+    pub const FLEET: Span = Span { least: 1, most: 32 };
+
+    // A period's demand, or its spare.
+    pub const LOAD: Span = Span {
+        least: 0,
+        most: 320_000,
+    };
+
+    // A unit's output in a period.
+    pub const OUTPUT: Span = Span {
+        least: 0,
+        most: 10_000,
+    };
+
+    // A price or reserve multiplier.
+    pub const PRICE: Span = Span {
+        least: 0,
+        most: 1_000_000_000,
+    };
+
+    // The writer of a schedule or a tree.
+    pub const WRITER: Span = Span {
+        least: 1,
+        most: 65_535,
+    };
+
     // Whether v is one of them.
     pub fn contains(self, v: u64) -> bool
         ensures { result ≡ between self.least v self.most }

@@ -13,7 +13,7 @@ ghost use Rattle.problem.specs.Storing.{FilledTo, read_from};
 
 use model::arrays::Problem;
 use model::generator::Generator;
-use model::ranges::{FLEET, HORIZON, LOAD};
+use model::ranges::Span;
 use refusal::Refusal;
 use text::{End, Fault};
 
@@ -37,8 +37,8 @@ pub fn read_problem(s: &[u8]) -> Result<Problem, Refusal>
         SECOND_LINE,
         b"periods=",
         1,
-        HORIZON.least,
-        HORIZON.most,
+        Span::HORIZON.least,
+        Span::HORIZON.most,
     )
     .map_err(|fault| refuse_line(fault, 2))?;
     read_from_units(s, row.next, row.values[0] as usize)
@@ -49,7 +49,7 @@ fn read_from_units(s: &[u8], at: usize, periods: usize) -> Result<Problem, Refus
     requires { periods ≤ 48 }
     ensures { result ≡ read_from s.now at 3 (units_due periods) }
 {
-    let row = text::read_row(s, at, b"units=", 1, FLEET.least, FLEET.most).map_err(
+    let row = text::read_row(s, at, b"units=", 1, Span::FLEET.least, Span::FLEET.most).map_err(
         |fault| refuse_line(fault, 3),
     )?;
     read_from_demand(s, row.next, periods, row.values[0] as usize)
@@ -60,7 +60,7 @@ fn read_from_demand(s: &[u8], at: usize, periods: usize, units: usize) -> Result
     requires { (periods ≤ 48) × (units ≤ 32) }
     ensures { result ≡ read_from s.now at 4 (demand_due periods units) }
 {
-    let row = text::read_row(s, at, b"demand=", periods, LOAD.least, LOAD.most).map_err(
+    let row = text::read_row(s, at, b"demand=", periods, Span::LOAD.least, Span::LOAD.most).map_err(
         |fault| refuse_line(fault, 4),
     )?;
     read_from_spare(s, row.next, periods, units, row.values)
@@ -77,7 +77,7 @@ fn read_from_spare(
     requires { (periods ≤ 48) × ((units ≤ 32) × FilledTo periods demand) }
     ensures { result ≡ read_from s.now at 5 (spare_due periods units (take periods demand)) }
 {
-    let row = text::read_row(s, at, b"spare=", periods, LOAD.least, LOAD.most).map_err(
+    let row = text::read_row(s, at, b"spare=", periods, Span::LOAD.least, Span::LOAD.most).map_err(
         |fault| refuse_line(fault, 5),
     )?;
     read_from_fleet(s, row.next, periods, units, demand, row.values)

@@ -1,4 +1,4 @@
--- What the reader's `kind` and `end` answer at each return.
+-- What `kind_at` and `end_at` answer at each return.
 use Prim.Native.Nat.{ℕ, suc, ◌+◌, ◌≤◌, ◌<◌}
 use native.Mathlib.Omega.{arith}
 use mathlib.Core.Path.{◌≡◌, refl, sym, ap, ◌∙◌}
@@ -15,7 +15,7 @@ use Rattle.text.proofs.Cuts.{text_ended}
 use Rattle.text.proofs.Words.{word_is}
 use Rattle.text.proofs.Verdicts.{word_next}
 
--- ---- `kind`, by the word that the line is
+-- ---- `kind_at`, by the word that the line is
 
 module _ (l : Line) where
   pub problem_kind : is_line kind_problem l ≡ true → Problem ≡ kind_of l
@@ -36,7 +36,7 @@ module _ (l : Line) where
       unfolding kind_of
       unknown_kind e = simp (p, q, e)
 
--- ---- `end`, by the word and what stands past it
+-- ---- `end_at`, by the word and what stands past it
 
 module _ (w s : List ℕ) (at : ℕ) where
   pub end_missing : is_line w (line_at s at) ≡ false → Missing ≡ end_of w (lines_of (drop at s))

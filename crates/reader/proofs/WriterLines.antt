@@ -19,7 +19,7 @@ use Rattle.reader.specs.declared.WriterLine.{WriterLine}
 abbrev found : Line → ℕ → Bool → Result WriterLine Fault
 found l at p = cond p (Ok (record { writer = get_or (numbers_of writer_form l) 0 0; next = place_after l at })) (Err (fault_of (form_refusal writer_form l)))
 
--- ---- what the reader's `writer` answers at each return
+-- ---- what `writer_at` answers at each return
 
 module _ (l : Line) (at : ℕ) (r : Result Row Fault) (is : r ≡ row_of writer_form l at) where
   pub row_refused : (w : Fault) → r ≡ Err w → Err w ≡ writer_line l at

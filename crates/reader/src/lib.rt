@@ -7,7 +7,7 @@ ghost use Rattle.text.specs.Ends.{end_of};
 ghost use Rattle.reader.specs.Places.{placed, lines_left};
 ghost use Rattle.reader.specs.Written.{writer_line, writer_read};
 
-use model::ranges::WRITER;
+use model::ranges::Span;
 use text::{End, Fault, Kind, is_line};
 
 // A lent text, and the start of its next line.
@@ -50,16 +50,7 @@ impl<'a> Reader<'a> {
     pub fn kind(self) -> Kind
         ensures { result ≡ kind_of (due (lines_left self.entry)) }
     {
-        if is_line(self.text, self.at, b"kind=problem") {
-            return Kind::Problem;
-        }
-        if is_line(self.text, self.at, b"kind=schedule") {
-            return Kind::Schedule;
-        }
-        if is_line(self.text, self.at, b"kind=tree") {
-            return Kind::Tree;
-        }
-        Kind::Unknown
+        kind_at(self.text, self.at)
     }
 
     // Whether the next line is the end line, this word, and the last.
@@ -67,33 +58,63 @@ impl<'a> Reader<'a> {
         requires { one_line word.now ≡ true }
         ensures { result ≡ end_of word.now (lines_left self.entry) }
     {
-        if !is_line(self.text, self.at, word) {
-            return End::Missing;
-        }
-        let next = self.at + word.len() + 1;
-        if next < self.text.len() {
-            return End::Followed;
-        }
-        End::Last
+        end_at(self.text, self.at, word)
     }
 
     // What the next line says as the writer's, with the reader past it, or what is wrong with the line.
     pub fn writer(self) -> Result<WriterRead<'a>, Fault>
         ensures { result ≡ writer_read self.entry }
     {
-        let row = text::read_row(
-            self.text,
-            self.at,
-            b"writer=",
-            1,
-            WRITER.least,
-            WRITER.most,
-        )?;
+        let line = writer_at(self.text, self.at)?;
         Ok(WriterRead {
-            writer: row.values[0],
-            reader: self.moved(row.next),
+            writer: line.writer,
+            reader: self.moved(line.next),
         })
     }
+}
+
+// The methods are thin: what they say of a line is found by functions on a slice and a number (docs/DECISIONS.md, 29).
+
+// The kind of text that the line says which starts at `at`.
+fn kind_at(s: &[u8], at: usize) -> Kind
+    ensures { result ≡ kind_of (line_at s.now at) }
+{
+    if is_line(s, at, b"kind=problem") {
+        return Kind::Problem;
+    }
+    if is_line(s, at, b"kind=schedule") {
+        return Kind::Schedule;
+    }
+    if is_line(s, at, b"kind=tree") {
+        return Kind::Tree;
+    }
+    Kind::Unknown
+}
+
+// Whether the line that starts at `at` is the end line, this word, and the last.
+fn end_at(s: &[u8], at: usize, word: &[u8]) -> End
+    requires { one_line word.now ≡ true }
+    ensures { result ≡ end_of word.now (lines_of (drop at s.now)) }
+{
+    if !is_line(s, at, word) {
+        return End::Missing;
+    }
+    let next = at + word.len() + 1;
+    if next < s.len() {
+        return End::Followed;
+    }
+    End::Last
+}
+
+// What the line that starts at `at` says as the writer's, with the next line's start, or what is wrong with it.
+fn writer_at(s: &[u8], at: usize) -> Result<WriterLine, Fault>
+    ensures { result ≡ writer_line (line_at s.now at) at }
+{
+    let row = text::read_row(s, at, b"writer=", 1, Span::WRITER.least, Span::WRITER.most)?;
+    Ok(WriterLine {
+        writer: row.values[0],
+        next: row.next,
+    })
 }
 
 // What the first line of a text says.

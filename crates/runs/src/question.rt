@@ -4,7 +4,7 @@ ghost use Rattle.model.specs.Ranges.{every};
 ghost use Rattle.runs.specs.Questions.{is_price, statuses_in, asked_in};
 
 use leaves::marks::are_statuses;
-use model::ranges::PRICE;
+use model::ranges::Span;
 
 // Why a question about the problem has no answer: no problem is known, or the question does not fit it.
 #[derive(Clone, Copy)]
@@ -17,7 +17,7 @@ pub enum Unanswered {
 fn are_prices(prices: &[u64]) -> bool
     ensures { result ≡ every is_price prices.now }
 {
-    prices.iter().all(|price| *price <= PRICE.most)
+    prices.iter().all(|price| *price <= Span::PRICE.most)
 }
 
 // Whether there are statuses for so many units in so many periods.

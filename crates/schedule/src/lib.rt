@@ -14,7 +14,7 @@ ghost use Rattle.schedule.specs.Storing.{refused_read, read_from, Filled};
 mod rows;
 
 use model::arrays::Problem;
-use model::ranges::OUTPUT;
+use model::ranges::Span;
 use refusal::Refusal;
 use text::{End, Fault};
 
@@ -76,7 +76,7 @@ fn read_from_runs(problem: Problem, text: &[u8], at: usize, writer: u64) -> Sche
     let mut next = at;
     for k in 0..problem.units {
         let outputs = &mut values[..periods];
-        match text::fill_row(text, next, b"run=", OUTPUT.least, OUTPUT.most, outputs) {
+        match text::fill_row(text, next, b"run=", Span::OUTPUT.least, Span::OUTPUT.most, outputs) {
             Ok(after) => next = after,
             Err(fault) => return refuse_line(fault, k + 3),
         }

@@ -18,7 +18,7 @@ use leaves::crowd::is_crowd;
 use leaves::price::leaf_value;
 use leaves::short::sum_until;
 use model::figures::TreeFigures;
-use model::ranges::PRICE;
+use model::ranges::Span;
 use text::Verdict;
 
 // What reading a tree finds: a refusal at a line, or what was read with it, the next line's start and its number.
@@ -159,7 +159,7 @@ pub fn read_reserve(
     ensures { result ≡ part_read (instance_in numbers.now) text.now at line figures (above_of (instance_in numbers.now) above.now) (priced (take (instance_in numbers.now).periods q)) }
 {
     let periods = periods_in(numbers);
-    let row = text::read_row(text, at, b"reserve=", periods, PRICE.least, PRICE.most);
+    let row = text::read_row(text, at, b"reserve=", periods, Span::PRICE.least, Span::PRICE.most);
     let verdict = row.verdict;
     match verdict {
         Verdict::Refused { number } => Read::Refused { number, line },
@@ -194,7 +194,7 @@ fn read_price(
     ensures { result ≡ leaf_read (instance_in numbers.now) text.now at line figures (above_of (instance_in numbers.now) above.now) }
 {
     let periods = periods_in(numbers);
-    let row = text::read_row(text, at, b"price=", periods, PRICE.least, PRICE.most);
+    let row = text::read_row(text, at, b"price=", periods, Span::PRICE.least, Span::PRICE.most);
     let verdict = row.verdict;
     match verdict {
         Verdict::Refused { number } => Read::Refused { number, line },

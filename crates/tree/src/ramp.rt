@@ -17,7 +17,7 @@ use crate::leaf::{Read, read_reserve};
 use layout::{periods_in, units_in};
 use leaves::ramp::{add_unit, with_requirement};
 use model::figures::TreeFigures;
-use model::ranges::PRICE;
+use model::ranges::Span;
 use text::Verdict;
 
 // What a unit's two lines are found to be: a refusal at a line, or the next line's start, with what the units so far answer.
@@ -35,7 +35,7 @@ fn fill_steps(text: &[u8], at: usize, key: &[u8], out: &mut [u64]) -> Verdict
     ensures stored { out.new ≡ steps_stored key.now text.now at out.old }
 {
     let last = out.len() - 1;
-    text::fill_row(text, at, key, PRICE.least, PRICE.most, &mut out[1..last])
+    text::fill_row(text, at, key, Span::PRICE.least, Span::PRICE.most, &mut out[1..last])
 }
 
 // What the two lines of unit u are, the first of which starts at `at` and has this number; sum is what the units before it answer. The
@@ -180,7 +180,7 @@ fn read_ramp_reserve(
     ensures { result ≡ part_read (instance_in numbers.now) text.now at line figures (above_of (instance_in numbers.now) above.now) (ramp_priced (take (instance_in numbers.now).periods q)) }
 {
     let n = periods_in(numbers);
-    let row = text::read_row(text, at, b"reserve=", n, PRICE.least, PRICE.most);
+    let row = text::read_row(text, at, b"reserve=", n, Span::PRICE.least, Span::PRICE.most);
     let verdict = row.verdict;
     match verdict {
         Verdict::Refused { number } => Read::Refused { number, line },
@@ -216,7 +216,7 @@ pub fn read_ramp(
     ensures { result ≡ leaf_read (instance_in numbers.now) text.now at line figures (above_of (instance_in numbers.now) above.now) }
 {
     let n = periods_in(numbers);
-    let row = text::read_row(text, at, b"rampprice=", n, PRICE.least, PRICE.most);
+    let row = text::read_row(text, at, b"rampprice=", n, Span::PRICE.least, Span::PRICE.most);
     let verdict = row.verdict;
     match verdict {
         Verdict::Refused { number } => Read::Refused { number, line },
