@@ -1,5 +1,5 @@
 -- What the code of lodging follows: which texts need not be lodged, and what is done with the answers of the readers of problems, schedules and trees.
-use Rattle.std.specs.Prelude.{cond, List, ℕ}
+use Rattle.std.specs.Prelude.{cond, List, ℕ, Result, Ok, Err}
 use Rattle.problem.specs.declared.ProblemAnswer.{ProblemAnswer}
 use Rattle.problem.specs.declared.ProblemAnswer.TheVariants as problem_answer
 use Rattle.model.specs.declared.arrays.Problem.{Problem}
@@ -8,7 +8,7 @@ use Rattle.schedule.specs.declared.ScheduleAnswer.{ScheduleAnswer}
 use Rattle.schedule.specs.declared.ScheduleAnswer.TheVariants as schedule_answer
 use Rattle.schedule.specs.declared.Priced.{Priced}
 use Rattle.tree.specs.declared.TreeRead.{TreeRead}
-use Rattle.tree.specs.declared.TreeRead.TheVariants as tree_answer
+use Rattle.refusal.specs.declared.Refusal.{Refusal}
 use Rattle.docket.specs.declared.Docket.{Docket}
 use Rattle.docket.specs.declared.Lodged.{Lodged}
 use Rattle.docket.specs.declared.held.HeldCost.TheVariants as cost
@@ -49,6 +49,6 @@ hold_figures d w f =
     (lodged (with_held d (record { cost = d.held.cost; bound = bound_by f.bound w }) d.rows) (TreeHeld f))
     (lodged d (TreePassed f))
 
-abbrev pub hold_tree : Docket → TreeRead → Lodged
-hold_tree d (tree_answer.Refused r) = lodged d (Refused r)
-hold_tree d (tree_answer.Accepted w f) = hold_figures d w f
+abbrev pub hold_tree : Docket → Result TreeRead Refusal → Lodged
+hold_tree d (Err r) = lodged d (Refused r)
+hold_tree d (Ok t) = hold_figures d t.writer t.figures

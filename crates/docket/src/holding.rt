@@ -9,6 +9,7 @@ use answer::Answer;
 use model::arrays::Problem;
 use model::figures::TreeFigures;
 use problem::ProblemAnswer;
+use refusal::Refusal;
 use schedule::{Priced, ScheduleAnswer};
 use tree::TreeRead;
 
@@ -145,14 +146,14 @@ fn hold_figures(d: Docket, writer: u64, figures: TreeFigures) -> Lodged
 }
 
 // The docket after a tree's text.
-pub fn hold_tree(d: Docket, read: TreeRead) -> Lodged
+pub fn hold_tree(d: Docket, read: Result<TreeRead, Refusal>) -> Lodged
     ensures { result ≡ hold_tree d read }
 {
     match read {
-        TreeRead::Refused(refusal) => Lodged {
+        Err(refusal) => Lodged {
             docket: d,
             answer: Answer::Refused(refusal),
         },
-        TreeRead::Accepted { writer, figures } => hold_figures(d, writer, figures),
+        Ok(tree) => hold_figures(d, tree.writer, tree.figures),
     }
 }

@@ -2,8 +2,8 @@
 use borrow.Author.Rules.{rules}
 use Rattle.docket.proofs.holding.hold_tree.Goals as goal
 
-pub returns-in-Refused : goal.returns-in-Refused
-returns-in-Refused c = simp c.in-Refused.is
+pub returns-in-Err : goal.returns-in-Err
+returns-in-Err c = simp c.in-Err.is
 
-pub returns-in-Accepted : goal.returns-in-Accepted
-returns-in-Accepted c = simp (c.hold_figures.ensures, c.in-Accepted.is)
+pub returns-in-Ok : goal.returns-in-Ok
+returns-in-Ok c = simp (c.hold_figures.ensures, c.in-Ok.is)
