@@ -19,7 +19,7 @@ use Rattle.text.specs.Tests.{Test, ◌if◌, None, found}
 use Rattle.text.proofs.Tests.{found_refused_is, none_good, good_none}
 use Rattle.text.proofs.Verdicts.{form_found, form_passes}
 use Rattle.tree.specs.declared.above.ForkLine.{ForkLine}
-use Rattle.tree.specs.declared.above.ForkLine.TheVariants as fork
+use Rattle.std.specs.Prelude.{Result, Ok, Err}
 use Rattle.tree.specs.declared.above.Side.{Side}
 use Rattle.tree.specs.declared.forking.ForkKind.{ForkKind}
 use Rattle.tree.specs.declared.forking.ForkKind.TheVariants.{Split, Count}
@@ -27,7 +27,7 @@ use Rattle.tree.specs.Kinds.{fork_kind}
 use Rattle.tree.specs.NodeLines.{line_kind_of, named, counted, is_fixed, narrows, kind_tests, node_tests}
 use Rattle.tree.specs.Refusals.{split_line, count_line, node_form}
 use Rattle.tree.specs.Course.{pending, after_fork, after_node}
-use Rattle.tree.specs.ReadAnswers.{fork_by, side_at, over, fork_line_read}
+use Rattle.tree.specs.ReadAnswers.{fork_by, side_at, sides, over, fork_line_read}
 use Rattle.tree.proofs.NodeLines.{was_split, was_count}
 use Rattle.tree.proofs.Places.{place_inside}
 use Rattle.tree.proofs.Marked.{status_side, upper_side, lower_side}
@@ -92,24 +92,30 @@ module _ (P : Instance) (text : List ℕ) (here : ℕ) (g : forms.good_line (nod
 -- ---- what the reader answers
 
 -- of two tests the first that holds refuses the line
-two_refuse : (a b : ℕ) (x y : Bool) (said : ForkLine) (m : ℕ) → m ≡ cond x a (cond y b 0) → (m ≡ 0 → ⊥) → fork.Refused m ≡ fork_by (found (a if x ∷ b if y ∷ []) said)
-two_refuse a b true y said m e h = ap fork.Refused e
-two_refuse a b false true said m e h = ap fork.Refused e
-two_refuse a b false false said m e h = absurd (h e)
+two_refuse : (a b : ℕ) (x y : Bool) (said : ForkLine) (v : Result (Unit {0}) ℕ) → v ≡ cond x (Err a) (cond y (Err b) (Ok tt)) → (m : ℕ) → v ≡ Err m
+    → Err m ≡ fork_by (found (a if x ∷ b if y ∷ []) said)
+two_refuse a b true y said v e m h = let q : m ≡ a = cc in ap (λ (k : ℕ). Err k) q
+two_refuse a b false true said v e m h = let q : m ≡ b = cc in ap (λ (k : ℕ). Err k) q
+two_refuse a b false false said v e m h = absurd (let z : ◌≡◌ {A = ℕ} 0 1 = cc in omega arith)
 
 -- or neither holds
-two_pass : (a b : ℕ) → 0 < a → 0 < b → (x y : Bool) (said : ForkLine) → cond x a (cond y b 0) ≡ 0 → said ≡ fork_by (found (a if x ∷ b if y ∷ []) said)
-two_pass a b h k true y said e = absurd (omega arith)
-two_pass a b h k false true said e = absurd (omega arith)
-two_pass a b h k false false said e = refl
+two_pass : (a b : ℕ) (x y : Bool) (said : ForkLine) (v : Result (Unit {0}) ℕ) → v ≡ cond x (Err a) (cond y (Err b) (Ok tt)) → (u : Unit {0}) → v ≡ Ok u
+    → Ok said ≡ fork_by (found (a if x ∷ b if y ∷ []) said)
+two_pass a b true y said v e u h = absurd (let z : ◌≡◌ {A = ℕ} 0 1 = cc in omega arith)
+two_pass a b false true said v e u h = absurd (let z : ◌≡◌ {A = ℕ} 0 1 = cc in omega arith)
+two_pass a b false false said v e u h = refl
+
+-- a good line
+abbrev said_by : ForkLine → Result ForkLine ℕ
+said_by x = Ok x
 
 -- 37 where the count is no narrower
-turned : (z : Bool) → cond {A = ℕ} z 0 37 ≡ cond (not z) 37 0
+turned : (z : Bool) → cond {A = Result (Unit {0}) ℕ} z (Ok tt) (Err 37) ≡ cond (not z) (Err 37) (Ok tt)
 turned true = refl
 turned false = refl
 
 module _ (P : Instance) (text : List ℕ) (here : ℕ) (A : Above) (d : ℕ) where
-  pub fork_refused : (k : ForkKind) (n : ℕ) → LineRefused (node_form P (fork_kind k)) (line_at text here) n → fork.Refused n ≡ fork_line_read P text here A d k
+  pub fork_refused : (k : ForkKind) (n : ℕ) → LineRefused (node_form P (fork_kind k)) (line_at text here) n → Err n ≡ fork_line_read P text here A d k
   unfolding fork_line_read
   fork_refused k n h =
       let l = line_at text here in
@@ -133,19 +139,19 @@ module _ (P : Instance) (text : List ℕ) (here : ℕ) (A : Above) (d : ℕ) whe
     split_by = fork_passed Split g ∙ ap (λ (ts : List Test). fork_by (found ts (over P Split (line_at text here) (place_after (line_at text here) here)))) split_tests
 
     -- 31 or 32 refuses the line
-    pub split_fails : (m : ℕ) → m ≡ cond (is_fixed (A.marks (vs at 0 - 1) (vs at 1 - 1))) 31 (cond (ltb 63 d) 32 0) → (m ≡ 0 → ⊥)
-        → fork.Refused m ≡ fork_line_read P text here A d Split
-    split_fails m q h = two_refuse 31 32 (is_fixed (A.marks (vs at 0 - 1) (vs at 1 - 1))) (ltb 63 d) _ m q h ∙ sym split_by
+    pub split_fails : (v : Result (Unit {0}) ℕ) → v ≡ cond (is_fixed (A.marks (vs at 0 - 1) (vs at 1 - 1))) (Err 31) (cond (ltb 63 d) (Err 32) (Ok tt)) → (m : ℕ) → v ≡ Err m
+        → Err m ≡ fork_line_read P text here A d Split
+    split_fails v q m h = two_refuse 31 32 (is_fixed (A.marks (vs at 0 - 1) (vs at 1 - 1))) (ltb 63 d) _ v q m h ∙ sym split_by
 
     -- neither does, n being the periods
-    pub split_good : cond {A = ℕ} (is_fixed (A.marks (vs at 0 - 1) (vs at 1 - 1))) 31 (cond (ltb 63 d) 32 0) ≡ 0 → (n next : ℕ) → n ≡ P.periods
-        → next ≡ place_after (line_at text here) here
-        → let place = (vs at 0 - 1) * n + (vs at 1 - 1) in fork.Over (side_at place 1) (side_at place 2) next ≡ fork_line_read P text here A d Split
-    split_good q n next e p =
+    pub split_good : (v : Result (Unit {0}) ℕ) → v ≡ cond (is_fixed (A.marks (vs at 0 - 1) (vs at 1 - 1))) (Err 31) (cond (ltb 63 d) (Err 32) (Ok tt)) → (u : Unit {0}) → v ≡ Ok u
+        → (n next : ℕ) → n ≡ P.periods → next ≡ place_after (line_at text here) here
+        → let place = (vs at 0 - 1) * n + (vs at 1 - 1) in Ok (sides (side_at place 1) (side_at place 2) next) ≡ fork_line_read P text here A d Split
+    split_good v q u h n next e p =
         let w = split_values P text here g vs is in
-        let said : fork.Over (side_at ((vs at 0 - 1) * n + (vs at 1 - 1)) 1) (side_at ((vs at 0 - 1) * n + (vs at 1 - 1)) 2) next
-        ≡ over P Split (line_at text here) (place_after (line_at text here) here) = rw (e, p, w.is_unit, w.is_period) refl in
-        said ∙ two_pass 31 32 (omega arith) (omega arith) (is_fixed (A.marks (vs at 0 - 1) (vs at 1 - 1))) (ltb 63 d) _ q ∙ sym split_by
+        let said : Ok (sides (side_at ((vs at 0 - 1) * n + (vs at 1 - 1)) 1) (side_at ((vs at 0 - 1) * n + (vs at 1 - 1)) 2) next)
+        ≡ said_by (over P Split (line_at text here) (place_after (line_at text here) here)) = rw (e, p, w.is_unit, w.is_period) refl in
+        said ∙ two_pass 31 32 (is_fixed (A.marks (vs at 0 - 1) (vs at 1 - 1))) (ltb 63 d) _ v q u h ∙ sym split_by
 
   module _ (g : forms.good_line (node_form P count_line) (line_at text here) ≡ true) (vs : List ℕ) (is : vs ≡ numbers_of (node_form P count_line) (line_at text here)) where
     -- whether the count is narrower than those that stand
@@ -161,18 +167,19 @@ module _ (P : Instance) (text : List ℕ) (here : ℕ) (A : Above) (d : ℕ) whe
     count_by = fork_passed Count g ∙ ap (λ (ts : List Test). fork_by (found ts (over P Count (line_at text here) (place_after (line_at text here) here)))) count_tests
 
     -- 32 or 37 refuses the line
-    pub count_fails : (m : ℕ) → m ≡ cond (ltb 63 d) 32 (cond narrower 0 37) → (m ≡ 0 → ⊥) → fork.Refused m ≡ fork_line_read P text here A d Count
-    count_fails m q h = two_refuse 32 37 (ltb 63 d) (not narrower) _ m (q ∙ ap (cond (ltb 63 d) 32) (turned narrower)) h ∙ sym count_by
+    pub count_fails : (v : Result (Unit {0}) ℕ) → v ≡ cond (ltb 63 d) (Err 32) (cond narrower (Ok tt) (Err 37)) → (m : ℕ) → v ≡ Err m → Err m ≡ fork_line_read P text here A d Count
+    count_fails v q m h = two_refuse 32 37 (ltb 63 d) (not narrower) _ v (q ∙ ap (cond (ltb 63 d) (Err 32)) (turned narrower)) m h ∙ sym count_by
 
     -- neither does
-    pub count_good : cond {A = ℕ} (ltb 63 d) 32 (cond narrower 0 37) ≡ 0 → (next : ℕ) → next ≡ place_after (line_at text here) here
-        → fork.Over (side_at (upper_begin + (vs at 0 - 1)) (vs at 1 + 1)) (side_at (lower_begin + (vs at 0 - 1)) (vs at 1 + 1)) next ≡ fork_line_read P text here A d Count
-    count_good q next p =
+    pub count_good : (v : Result (Unit {0}) ℕ) → v ≡ cond (ltb 63 d) (Err 32) (cond narrower (Ok tt) (Err 37)) → (u : Unit {0}) → v ≡ Ok u
+        → (next : ℕ) → next ≡ place_after (line_at text here) here
+        → Ok (sides (side_at (upper_begin + (vs at 0 - 1)) (vs at 1 + 1)) (side_at (lower_begin + (vs at 0 - 1)) (vs at 1 + 1)) next) ≡ fork_line_read P text here A d Count
+    count_good v q u h next p =
         let w = count_values P text here g vs is in
         let s : vs at 1 + 1 ≡ suc (vs at 1) = omega arith in
-        let said : fork.Over (side_at (upper_begin + (vs at 0 - 1)) (vs at 1 + 1)) (side_at (lower_begin + (vs at 0 - 1)) (vs at 1 + 1)) next
-        ≡ over P Count (line_at text here) (place_after (line_at text here) here) = rw (s, p, w.is_period, w.is_count) refl in
-        said ∙ two_pass 32 37 (omega arith) (omega arith) (ltb 63 d) (not narrower) _ (sym (ap (cond (ltb 63 d) 32) (turned narrower)) ∙ q) ∙ sym count_by
+        let said : Ok (sides (side_at (upper_begin + (vs at 0 - 1)) (vs at 1 + 1)) (side_at (lower_begin + (vs at 0 - 1)) (vs at 1 + 1)) next)
+        ≡ said_by (over P Count (line_at text here) (place_after (line_at text here) here)) = rw (s, p, w.is_period, w.is_count) refl in
+        said ∙ two_pass 32 37 (ltb 63 d) (not narrower) _ v (q ∙ ap (cond (ltb 63 d) (Err 32)) (turned narrower)) u h ∙ sym count_by
 
 -- ---- what the answer says
 
@@ -192,13 +199,13 @@ module _ (P : Instance) (W : WellFormed P) (text : List ℕ) (here : ℕ) (bytes
     pub depth : d ≤ 63
     pub moved : Moved text here next
 
-  abbrev pub Says : ForkLine → Type 0
-  Says (fork.Refused n) = AtNode P text here A d (λ F rest. refused n)
-  Says (fork.Over first second next) = ForkOn first second next
+  abbrev pub Says : Result ForkLine ℕ → Type 0
+  Says (Err n) = AtNode P text here A d (λ F rest. refused n)
+  Says (Ok r) = ForkOn r.first r.second r.next
 
   -- no test of a line of this kind holds
   passes : (k : ForkKind) → line_kind_of (line_at text here) ≡ fork_kind k → None (node_tests P A d (fork_kind k) (line_at text here))
-      → Says (over P k (line_at text here) (place_after (line_at text here) here))
+      → Says (Ok (over P k (line_at text here) (place_after (line_at text here) here)))
   unfolding kind_tests after_node mark_of
   passes Split e n =
       let l = line_at text here in
@@ -233,7 +240,7 @@ module _ (P : Instance) (W : WellFormed P) (text : List ℕ) (here : ℕ) (bytes
         moved = line_moved f text here (place_after l here) g.0 refl;
       }
 
-  pub fork_says : (k : ForkKind) → line_kind_of (line_at text here) ≡ fork_kind k → (x : ForkLine) → x ≡ fork_line_read P text here A d k → Says x
+  pub fork_says : (k : ForkKind) → line_kind_of (line_at text here) ≡ fork_kind k → (x : Result ForkLine ℕ) → x ≡ fork_line_read P text here A d k → Says x
   unfolding fork_line_read
   fork_says k e x r =
       let l = line_at text here in
@@ -248,4 +255,4 @@ module _ (P : Instance) (W : WellFormed P) (text : List ℕ) (here : ℕ) (bytes
       go (good y) p =
           let l = line_at text here in
           let h = good_none (over P k l (place_after l here)) y (node_tests P A d (fork_kind k) l) p in
-          subst Says h.1 (passes k e h.0)
+          subst (λ (x : ForkLine). Says (Ok x)) h.1 (passes k e h.0)

@@ -3,7 +3,6 @@
 use mathlib.Core.Path.{◌≡◌, refl, sym, ap, subst, ◌∙◌}
 use mathlib.Core.Bool.{true, false}
 use mathlib.Core.List.{List, [], ◌∷◌, ◌++◌, map, append_assoc}
-use mathlib.Core.Logic.{◌⊎◌}
 use mathlib.Core.Option.{some}
 use Prim.Native.Nat.{ℕ, suc, pred, ◌≤◌}
 use native.Mathlib.Omega.{arith}

@@ -17,7 +17,8 @@ use Rattle.text.specs.Forms.{row_of, numbers_of}
 use Rattle.text.specs.Forms as forms
 use Rattle.text.specs.Course.{refused, good}
 use Rattle.text.specs.declared.Row.{Row}
-use Rattle.text.specs.declared.Verdict.TheVariants.{Good}
+use Rattle.text.specs.declared.Fault.{Fault}
+use Rattle.std.specs.Prelude.{Result, Ok}
 use Rattle.text.specs.Tests.{Test, ◌if◌, found}
 use Rattle.text.proofs.Verdicts.{form_found}
 use Rattle.std.specs.Prelude.{None, Some}
@@ -37,6 +38,15 @@ use Rattle.tree.proofs.ReadLines.{read_same}
 use Rattle.tree.proofs.WaysThrough.{AtNode, AtPart}
 
 -- ---- where a node is due
+
+-- what a rule is, by its test
+pub holding : (b x : Bool) → not b ≡ false → b ≡ x → true ≡ x
+holding true x e h = h
+holding false x e h = absurd (let z : ◌≡◌ {A = ℕ} 0 1 = cc in omega arith)
+
+pub failing : (b x : Bool) → not b ≡ true → b ≡ x → false ≡ x
+failing true x e h = absurd (let z : ◌≡◌ {A = ℕ} 0 1 = cc in omega arith)
+failing false x e h = h
 
 module _ (P : Instance) (text : List ℕ) (here : ℕ) (A : Above) (d : ℕ) where
   -- the tests by the line's kind
@@ -103,21 +113,21 @@ module _ (P : Instance) (text : List ℕ) (here : ℕ) (A : Above) (d : ℕ) whe
     pub stuck_fails : false ≡ stuck_at P.periods P.units A.marks U → AtNode P text here A d (λ F rest. refused 34)
     stuck_fails s = line_passed stuck_line e p (stuck_tests false s)
 
-  pub price_read : (e : line_kind_of (line_at text here) ≡ price_line) (row : Row) (is : row ≡ row_of (node_form P price_line) (line_at text here) here) (n : ℕ)
-      (v : row.verdict ≡ Good n)
+  pub price_read : (e : line_kind_of (line_at text here) ≡ price_line) (r : Result Row Fault) (is : r ≡ row_of (node_form P price_line) (line_at text here) here) (row : Row)
+      (v : r ≡ Ok row)
       → AtNode P text here A d (λ F rest. good (part_due F A (priced (take P.periods row.values)) rest))
   unfolding kind_tests after_node
-  price_read e row is n v F rest =
-      line_passed price_line e (row_good (node_form P price_line) text here row is n v) refl F rest
-      ∙ ap (λ (q : List ℕ). good (part_due F A (priced q) rest)) (sym (values_taken P price_key text here row is n v))
+  price_read e r is row v F rest =
+      line_passed price_line e (row_good (node_form P price_line) text here r is row v) refl F rest
+      ∙ ap (λ (q : List ℕ). good (part_due F A (priced q) rest)) (sym (values_taken P price_key text here r is row v))
 
-  pub ramp_read : (e : line_kind_of (line_at text here) ≡ ramp_line) (row : Row) (is : row ≡ row_of (node_form P ramp_line) (line_at text here) here) (n : ℕ)
-      (v : row.verdict ≡ Good n)
+  pub ramp_read : (e : line_kind_of (line_at text here) ≡ ramp_line) (r : Result Row Fault) (is : r ≡ row_of (node_form P ramp_line) (line_at text here) here) (row : Row)
+      (v : r ≡ Ok row)
       → AtNode P text here A d (λ F rest. good (part_due F A (ramp_priced (take P.periods row.values)) rest))
   unfolding kind_tests after_node
-  ramp_read e row is n v F rest =
-      line_passed ramp_line e (row_good (node_form P ramp_line) text here row is n v) refl F rest
-      ∙ ap (λ (q : List ℕ). good (part_due F A (ramp_priced q) rest)) (sym (values_taken P rampprice_key text here row is n v))
+  ramp_read e r is row v F rest =
+      line_passed ramp_line e (row_good (node_form P ramp_line) text here r is row v) refl F rest
+      ∙ ap (λ (q : List ℕ). good (part_due F A (ramp_priced q) rest)) (sym (values_taken P rampprice_key text here r is row v))
 
 -- ---- a leaf's depth plays no part
 
@@ -155,8 +165,8 @@ module _ (P : Instance) (text : List ℕ) (here : ℕ) (A : Above) (p : Part) wh
 
 -- ---- the reserve line of a price leaf
 
-module _ (P : Instance) (text : List ℕ) (here : ℕ) (A : Above) (q : List ℕ) (row : Row)
-    (is : row ≡ row_of (part_form P (priced q)) (line_at text here) here) (n : ℕ) (v : row.verdict ≡ Good n) where
+module _ (P : Instance) (text : List ℕ) (here : ℕ) (A : Above) (q : List ℕ) (r : Result Row Fault)
+    (is : r ≡ row_of (part_form P (priced q)) (line_at text here) here) (row : Row) (v : r ≡ Ok row) where
   -- its value
   abbrev value : ℤ
   value = leaf_value P A.marks (λ t. q at t) (λ t. take P.periods row.values at t)
@@ -165,7 +175,7 @@ module _ (P : Instance) (text : List ℕ) (here : ℕ) (A : Above) (q : List ℕ
       → AtPart P text here A (priced q) (λ F rest. found (35 if b ∷ []) (after_part P F A (priced q) rest (line_at text here)))
   unfolding leaf_tests
   passed b e =
-      part_passed P text here A (priced q) (row_good (part_form P (priced q)) text here row is n v) (ap (λ (x : Bool). 35 if x ∷ []) e)
+      part_passed P text here A (priced q) (row_good (part_form P (priced q)) text here r is row v) (ap (λ (x : Bool). 35 if x ∷ []) e)
 
   -- 35
   pub unit_stuck : None ≡ leaf_of P A.marks (λ t. q at t) (λ t. take P.periods row.values at t)
@@ -178,7 +188,7 @@ module _ (P : Instance) (text : List ℕ) (here : ℕ) (A : Above) (q : List ℕ
       go false p z = absurd (let y : ◌≡◌ {A = ℕ} 0 1 = cc in omega arith)
 
   value_same : value ≡ leaf_value P A.marks (λ t. q at t) (λ t. numbers_of (part_form P (priced q)) (line_at text here) at t)
-  value_same = ap (λ (s : List ℕ). leaf_value P A.marks (λ t. q at t) (λ t. s at t)) (values_taken P reserve_key text here row is n v)
+  value_same = ap (λ (s : List ℕ). leaf_value P A.marks (λ t. q at t) (λ t. s at t)) (values_taken P reserve_key text here r is row v)
 
   pub value_read : (z : ℤ) → Some z ≡ leaf_of P A.marks (λ t. q at t) (λ t. take P.periods row.values at t)
       → AtPart P text here A (priced q) (λ F rest. good (nodes_due (with_leaf F (number z)) rest))
@@ -189,5 +199,5 @@ module _ (P : Instance) (text : List ℕ) (here : ℕ) (A : Above) (q : List ℕ
           → AtPart P text here A (priced q) (λ F rest. good (nodes_due (with_leaf F (number z)) rest))
       go true p x = absurd (let y : ◌≡◌ {A = ℕ} 0 1 = cc in omega arith)
       go false p x =
-          let r : z ≡ value = cc in
-          λ F rest. passed false p F rest ∙ ap (λ (y : ℤ). good (nodes_due (with_leaf F (number y)) rest)) (sym (r ∙ value_same))
+          let w : z ≡ value = cc in
+          λ F rest. passed false p F rest ∙ ap (λ (y : ℤ). good (nodes_due (with_leaf F (number y)) rest)) (sym (w ∙ value_same))

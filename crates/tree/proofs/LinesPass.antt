@@ -28,11 +28,11 @@ use Rattle.tree.specs.Rendering.{reserve_key, rampprice_key, up_key, step_lines,
 use Rattle.tree.specs.Places.{Part, ramp_priced, with_steps, with_ups, PartAt, reserve_line, ramp_reserve_line, up_line, down_line, LinePlace, node_at, part_at, LineAt, first_line, later_line, in_first, in_second, HoldsAmong}
 use Rattle.tree.specs.NodeLines.{is_last}
 use Rattle.tree.specs.Refusals.{WrittenTree, part_form}
-use Rattle.tree.specs.Course.{with_split, Pending, pending, Due, writer_due, nodes_due, part_due, nothing_due, tests, after_steps, next_due, judge, end}
+use Rattle.tree.specs.Course.{with_split, Pending, pending, Due, writer_due, nodes_due, part_due, nothing_due, tests, next_due, judge, end}
 use Rattle.tree.specs.Acceptance.{Bounded, bounded}
 use Rattle.tree.proofs.Bounds.{add}
 use Rattle.tree.proofs.Written.{map_both}
-use Rattle.tree.proofs.StepLines.{one_longer, step_lines_both, two_periods, more_due, reserve_pass}
+use Rattle.tree.proofs.StepLines.{step_lines_both, two_periods, more_due, reserve_pass}
 use Rattle.tree.proofs.Lines.{many_fit}
 use Rattle.tree.proofs.NodeLines.{GoodSteps, fork_good, price_good, ramp_good, part_good}
 use Rattle.tree.proofs.Complete.{node_good, writer_good, end_good}

@@ -8,7 +8,7 @@ use mathlib.Core.Option as option
 use Prim.Native.Nat.{ℕ, suc, pred, ◌+◌, ◌-◌, ◌≤◌, ◌<◌}
 use native.Mathlib.Omega.{arith}
 use lib.Dec.{T, eqb, ltb}
-use lib.ListN.{length, length-append}
+use lib.ListN.{length}
 use borrow.Author.Tests.{lt-ltb, ltb-true, le-ltb, ltb-false, not-false, eqb-true}
 use Rattle.model.specs.Instance.{Instance, ◌at◌}
 use Rattle.model.specs.Above.{Mark, free, fixed, Above, Fork, status, count, BelowMost}
@@ -34,7 +34,7 @@ use Rattle.tree.specs.Rendering.{split_key, count_key, short_key, crowd_key, stu
 use Rattle.tree.specs.Places.{Part, priced, ramp_priced, with_steps, with_ups}
 use Rattle.tree.specs.NodeLines.{line_kind_of, named, counted, is_fixed, below_most, narrows, kind_tests, node_tests, is_last, leaf_tests, part_tests}
 use Rattle.tree.specs.Refusals.{LineKind, split_line, count_line, short_line, crowd_line, stuck_line, price_line, ramp_line, node_form, part_form}
-use Rattle.tree.specs.Course.{Pending, pending, Due, nodes_due, part_due, after_fork, after_leaf, after_steps, after_numbers, tests, next_due, after_node, after_part, judge, end}
+use Rattle.tree.specs.Course.{Pending, pending, Due, nodes_due, part_due, after_fork, after_leaf, after_numbers, tests, next_due, after_node, after_part, judge, end}
 use Rattle.tree.specs.Acceptance.{Bounded}
 use Rattle.tree.proofs.StepLines.{one_longer, steps_behind, ramp_passes}
 use Rattle.tree.proofs.Lines.{multipliers_fit, were_many, was_multipliers, one_fits, was_one, two_fits, was_two}

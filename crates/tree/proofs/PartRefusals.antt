@@ -1,7 +1,7 @@
 -- Which number refuses a later line of a leaf, whatever stands after it; and 35, which comes at the line that ends the leaf and at no other.
 use mathlib.Core.Path.{◌≡◌, refl, sym, transport}
 use mathlib.Core.Bool.{Bool, true, false, not}
-use mathlib.Core.List.{List, [], ◌∷◌, ◌++◌}
+use mathlib.Core.List.{List, ◌∷◌, ◌++◌}
 use mathlib.Core.Logic.{◌↔◌}
 use Prim.Native.Nat.{ℕ, suc, ◌+◌, ◌≤◌}
 use native.Mathlib.Omega.{arith}

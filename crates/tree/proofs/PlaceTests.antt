@@ -1,19 +1,18 @@
 -- What the tests say where a node's first line or a later line of a leaf is due, by renderings and the rules for forks and leaves: n is the first number whose test
 -- holds exactly where n refuses the line there.
 use mathlib.Core.Path.{◌≡◌, refl, sym, ap, subst, transport, ◌∙◌}
-use mathlib.Core.Bool.{Bool, true, false, not, ◌&&◌}
+use mathlib.Core.Bool.{Bool, true, false, not}
 use mathlib.Core.List.{List, [], ◌∷◌, ◌++◌}
 use mathlib.Core.Logic.{◌↔◌, ◌⊎◌, inl, inr}
 use Prim.Native.Nat.{ℕ, suc, pred, ◌+◌, ◌-◌, ◌≤◌, ◌<◌}
 use native.Mathlib.Omega.{arith}
-use lib.Dec.{T, eqb, ltb}
+use lib.Dec.{T, ltb}
 use lib.ListN.{length}
 use borrow.Author.Tests.{lt-ltb, ltb-true, le-ltb, ltb-false, not-true, not-false, eqb-true, eq-eqb}
 use Rattle.model.specs.Instance.{Instance, ◌at◌}
 use Rattle.model.specs.Above.{free, Above, status, count}
 use Rattle.model.specs.Leaf.{available, stuck_at, any_stuck}
-use Rattle.model.specs.Ramps.{RampPrices}
-use Rattle.model.specs.Tree.{Leaf, short, crowd, stuck, price, ramp, Narrows, ramped, GoodLeaf, LeafHolds, Multipliers}
+use Rattle.model.specs.Tree.{Leaf, short, crowd, stuck, price, ramp, Narrows, ramped, GoodLeaf, LeafHolds}
 use Rattle.leaves.specs.LeafLeasts.{crowd_at}
 use Rattle.leaves.proofs.Crowds.{crowd_is}
 use Rattle.text.specs.Lines.{Line, missing, ended, due}

@@ -2,7 +2,7 @@
 use mathlib.Core.Path.{◌≡◌, refl, sym, ap, subst, ◌∙◌}
 use mathlib.Core.Bool.{Bool, true, false, cond, ◌&&◌}
 use mathlib.Core.List.{List, [], ◌∷◌, ◌++◌}
-use Prim.Native.Nat.{ℕ, zero, suc, pred, ◌+◌, ◌-◌, ◌≤◌, ◌<◌}
+use Prim.Native.Nat.{ℕ, suc, pred, ◌+◌, ◌-◌, ◌<◌}
 use native.Mathlib.Omega.{arith}
 use lib.Dec.{eqb}
 use lib.IntN.{ℤ}
@@ -13,35 +13,30 @@ use Rattle.model.specs.Above.{Above}
 use Rattle.model.specs.Held.{blank_generator}
 use Rattle.model.specs.Leaf.{any_stuck}
 use Rattle.model.specs.Ramps.{RampPrices, ups, downs, ramp_leaf_value}
-use Rattle.model.specs.Figures.{Bound}
 use Rattle.std.specs.Prelude.{Some as number}
 use Rattle.model.specs.declared.figures.TreeFigures.{TreeFigures}
 use Rattle.model.specs.Figures.{add_leaf}
 use Rattle.model.specs.Tree.{price, ramp, StepMultipliers, ramped, leaf_bound}
 use Rattle.model.proofs.RampLeaf.{ramp_one}
 use Rattle.least.specs.UnitLeasts.{Least, ramp_least_of}
-use Rattle.std.specs.Prelude.{None, Some}
+use Rattle.std.specs.Prelude.{None, Some, Result, Ok, Err}
 use Rattle.leaves.specs.LeafLeasts.{plus_unit, ramp_leaf_of}
 use Rattle.text.specs.Lines.{line_at}
 use Rattle.text.specs.Forms.{numbers_of, place_after, row_of, good_line, form_tests}
 use Rattle.text.specs.declared.Row.{Row}
-use Rattle.text.specs.declared.Verdict.TheVariants.{Good}
-use Rattle.text.specs.Course.{Found, refused, good}
-use Rattle.text.specs.Tests.{Test, ◌if◌, found}
+use Rattle.text.specs.declared.Fault.{Fault}
+use Rattle.text.specs.Course.{Found, good}
+use Rattle.text.specs.Tests.{◌if◌, found}
 use Rattle.text.proofs.Verdicts.{form_refused, form_found}
 use Rattle.text.proofs.Plain.{plain_was}
-use Rattle.tree.specs.declared.leaf.Read.{Read}
-use Rattle.tree.specs.declared.leaf.Read.TheVariants.{Refused, Tree}
-use Rattle.tree.specs.declared.ramp.UnitRead.{UnitRead}
-use Rattle.tree.specs.declared.ramp.UnitRead.TheVariants as unit
 use Rattle.tree.specs.Rendering.{reserve_key, up_key, down_key}
-use Rattle.tree.specs.Places.{Part, priced, ramp_priced, with_steps, with_ups}
-use Rattle.tree.specs.NodeLines.{is_last, leaf_tests}
+use Rattle.tree.specs.Places.{priced, ramp_priced, with_steps, with_ups}
+use Rattle.tree.specs.NodeLines.{leaf_tests}
 use Rattle.tree.specs.Refusals.{part_form}
-use Rattle.tree.specs.Course.{with_leaf, Pending, nodes_due, part_due, after_leaf, after_steps, after_part, tests, next_due, judge}
+use Rattle.tree.specs.Course.{with_leaf, nodes_due, part_due, after_leaf, after_steps, after_part, tests, next_due, judge}
 use Rattle.tree.specs.Acceptance.{Bounded, bounded}
-use Rattle.tree.specs.ReadAnswers.{part_read, Placed}
-use Rattle.tree.specs.RampReads.{up_form, down_form, unless_refused, unit_read, ramp_ended}
+use Rattle.tree.specs.ReadAnswers.{Read, stopped, reached, part_read, Placed}
+use Rattle.tree.specs.RampReads.{up_form, down_form, UnitRead, passed, unless_refused, unit_read, ramp_ended}
 use Rattle.tree.proofs.Lines.{were_many}
 use Rattle.tree.proofs.Rows.{Moved, line_moved, row_good, values_taken}
 use Rattle.tree.proofs.StepLines.{one_longer}
@@ -79,17 +74,17 @@ one_period_read P e text here l S A q =
 -- ---- in more
 
 -- a good reserve line, where units have lines of their own
-pub reserve_read : (P : Instance) → 0 < ramped P → (text : List ℕ) (here : ℕ) (A : Above) (q : List ℕ) (row : Row)
-    → row ≡ row_of (part_form P (ramp_priced q)) (line_at text here) here → (n : ℕ) → row.verdict ≡ Good n
+pub reserve_read : (P : Instance) → 0 < ramped P → (text : List ℕ) (here : ℕ) (A : Above) (q : List ℕ) (r : Result Row Fault)
+    → r ≡ row_of (part_form P (ramp_priced q)) (line_at text here) here → (row : Row) → r ≡ Ok row
     → AtPart P text here A (ramp_priced q) (λ F rest. good (part_due F A (with_steps q (take P.periods row.values) []) rest))
 unfolding leaf_tests after_part
-reserve_read P some text here A q row is n v F rest =
+reserve_read P some text here A q r is row v F rest =
     let s = numbers_of (part_form P (ramp_priced q)) (line_at text here) in
     let more : eqb (ramped P) 0 ≡ false = ne_eqb (ramped P) 0 (λ e. omega (arith, some, e)) in
-    part_passed P text here A (ramp_priced q) (row_good (part_form P (ramp_priced q)) text here row is n v)
+    part_passed P text here A (ramp_priced q) (row_good (part_form P (ramp_priced q)) text here r is row v)
     (ap (λ (b : Bool). 35 if (b && any_stuck P.periods P.units A.marks) ∷ []) more) F rest
     ∙ ap (λ (b : Bool). good (cond b (after_leaf P F A rest (ramp q s [])) (part_due F A (with_steps q s []) rest))) more
-    ∙ ap (λ (r : List ℕ). good (part_due F A (with_steps q r []) rest)) (sym (values_taken P reserve_key text here row is n v))
+    ∙ ap (λ (z : List ℕ). good (part_due F A (with_steps q z []) rest)) (sym (values_taken P reserve_key text here r is row v))
 
 -- ---- unit by unit
 
@@ -122,8 +117,8 @@ module _ (P : Instance) (text : List ℕ) (S : TreeFigures) (A : Above) (q s : L
       pub placed : Placed text here l S → Placed text next (l + 2) S
 
     abbrev pub Says : UnitRead → Type 0
-    Says (unit.Refused n m) = part_read P text here l S A (with_steps q s k) ≡ Refused n m
-    Says (unit.Passed next more) = Passed next more
+    Says (Err b) = part_read P text here l S A (with_steps q s k) ≡ Err b
+    Says (Ok r) = Passed r.next r.sum
 
     module _ (g : good_line (up_form P) (line_at text here) ≡ true) where
       up_moved : Moved text here second
@@ -169,10 +164,10 @@ module _ (P : Instance) (text : List ℕ) (S : TreeFigures) (A : Above) (q s : L
             go : (last b : Bool) → eqb (ramped P) (suc (length k)) ≡ last → stuck ≡ b
                 → part_read P text second (l + 1) S A (with_ups q s k x)
                 ≡ cond last (ramp_ended third (l + 2) S (cond b None (Some (ramp_leaf_value P A.marks (λ t. q at t) (λ t. s at t) (ups k') (downs k'))))) (part_read P text third (l + 2) S A (with_steps q s k'))
-            go true true e f = sym (part_refused P text second (l + 1) S A (with_ups q s k x) 35 (here_is true true e f)) ∙ ap (Refused 35) one
+            go true true e f = sym (part_refused P text second (l + 1) S A (with_ups q s k x) 35 (here_is true true e f)) ∙ ap (stopped 35) one
             go true false e f =
                 sym (part_leaf P text second (l + 1) S A (with_ups q s k x) (number (ramp_leaf_value P A.marks (λ t. q at t) (λ t. s at t) (ups k') (downs k'))) third _ (here_is true false e f) down_moved refl)
-                ∙ ap (λ (m : ℕ). Tree third m (add_leaf S (number (ramp_leaf_value P A.marks (λ t. q at t) (λ t. s at t) (ups k') (downs k'))))) two
+                ∙ ap (λ (m : ℕ). reached third m (add_leaf S (number (ramp_leaf_value P A.marks (λ t. q at t) (λ t. s at t) (ups k') (downs k'))))) two
             go false b e f =
                 part_part P text second (l + 1) S A (with_ups q s k x) (with_steps q s k') third (here_is false b e f) down_moved
                 ∙ ap (λ (m : ℕ). part_read P text third m S A (with_steps q s k')) two
@@ -199,7 +194,7 @@ module _ (P : Instance) (text : List ℕ) (S : TreeFigures) (A : Above) (q s : L
       where
         last_answer : UnitRead
         last_answer =
-            unit.Passed (place_after (line_at text second) second)
+            passed (place_after (line_at text second) second)
             (plus_unit sum (ramp_least_of P.periods (λ t. q at t) (λ t. s at t) (λ t. x at t) (λ t. y at t) (get_or P.units u blank_generator) (A.marks u)))
 
         down : good_line (up_form P) (line_at text here) ≡ true → (b : Bool) → good_line (down_form P) (line_at text second) ≡ b

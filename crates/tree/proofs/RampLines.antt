@@ -26,8 +26,7 @@ use Rattle.tree.specs.NodeLines.{line_kind_of, kind_tests, leaf_tests}
 use Rattle.tree.specs.Refusals.{RefusedAt}
 use Rattle.tree.specs.Acceptance.{bounded}
 use Rattle.tree.specs.Course.{tests, after_node, after_part, next_due, judge, tree_judged}
-use Rattle.tree.specs.ReadAnswers.{read_as, tree_read}
-use Rattle.tree.specs.declared.TreeRead.TheVariants.{Accepted}
+use Rattle.tree.specs.ReadAnswers.{answered, read_as, tree_read}
 use Rattle.tree.proofs.Complete.{tree_accepted}
 use Rattle.tree.proofs.Acceptance.{refused_is}
 
@@ -67,7 +66,7 @@ unfolding splits leaves Holds LeafHolds is_stuck bound leaf_bound ramp_leaf_valu
 ramp_accepted = ap (tree_judged example) (sym ramp_written.1) ∙ tree_accepted example (lit≤ tt) 3 (leaf lone_ramp) (lit≤ tt, lit≤ tt) within tt
 
 -- as read_tree answers it
-pub specimen_ramp : tree_read example ramp_text ≡ Accepted 3 (tree_gives (number (pos 1700)) 0 1)
+pub specimen_ramp : tree_read example ramp_text ≡ answered 3 (tree_gives (number (pos 1700)) 0 1)
 unfolding tree_read read_as
 specimen_ramp = ap read_as ramp_accepted
 

@@ -1,18 +1,16 @@
 -- The loop over the units of a ramp leaf: what was read of it so far, and what is left to read, give what the whole gives.
 use mathlib.Core.Path.{◌≡◌, refl, sym, ap, ap₂, subst, ◌∙◌}
-use mathlib.Core.Bool.{Bool, true, false, cond}
+use mathlib.Core.Bool.{Bool, cond}
 use mathlib.Core.List.{List, [], ◌∷◌, ◌++◌}
-use Prim.Native.Nat.{ℕ, zero, suc, pred, ◌+◌, ◌≤◌, ◌<◌}
-use native.Mathlib.Numerals.{add-one}
+use Prim.Native.Nat.{ℕ, zero, suc, ◌+◌, ◌≤◌, ◌<◌}
 use native.Mathlib.Omega.{arith}
-use lib.Dec.{eqb}
 use lib.IntN.{ℤ, pos, ◌+ℤ◌}
 use lib.ListN.{length, get_or, take, get_or-append}
 use lib.Seq.{take-length, get_or_at}
 use borrow.Author.Tests.{ne_eqb, eq-eqb}
 use Rattle.model.specs.declared.generator.Generator.{Generator}
 use Rattle.model.specs.Instance.{Instance, ◌at◌}
-use Rattle.model.specs.Ranges.{All, WellFormed}
+use Rattle.model.specs.Ranges.{WellFormed}
 use Rattle.model.specs.Above.{Marks, Above, rest}
 use Rattle.model.specs.Held.{blank_generator}
 use Rattle.model.specs.Leaf.{any_stuck}
@@ -21,17 +19,16 @@ use Rattle.model.specs.declared.figures.TreeFigures.{TreeFigures}
 use Rattle.model.specs.Tree.{ramped}
 use Rattle.model.proofs.LeafSizes.{steps_in}
 use Rattle.least.specs.UnitLeasts.{Least, ramp_least_of}
-use Rattle.std.specs.Prelude.{None, Some}
+use Rattle.std.specs.Prelude.{None, Some, Ok, Err}
 use Rattle.least.specs.Limits.{GoodPrices}
 use Rattle.least.proofs.Costs.{price_in, reserve_in}
 use Rattle.leaves.specs.LeafLeasts.{plus_unit, ramp_leasts_of, ramp_leaf_of}
 use Rattle.leaves.specs.Limits.{SmallLeast}
 use Rattle.leaves.proofs.RampUnits.{plus_unit_is, plus_requirement_is, ramp_front_small}
-use Rattle.tree.specs.declared.leaf.Read.{Read}
-use Rattle.tree.specs.declared.leaf.Read.TheVariants.{Refused}
-use Rattle.tree.specs.declared.ramp.UnitRead.TheVariants as unit
+use Rattle.tree.specs.declared.read.BrokenLine.{BrokenLine}
+use Rattle.tree.specs.declared.ramp.UnitLines.{UnitLines}
 use Rattle.tree.specs.Places.{with_steps}
-use Rattle.tree.specs.ReadAnswers.{part_read, Placed}
+use Rattle.tree.specs.ReadAnswers.{Read, part_read, Placed}
 use Rattle.tree.specs.RampReads.{unit_read, with_required, ramp_ended}
 use Rattle.tree.proofs.NodeLines.{GoodSteps, good_more_steps}
 use Rattle.tree.proofs.StepLines.{one_longer}
@@ -112,14 +109,14 @@ module _ (P : Instance) (W : WellFormed P) (two : 2 ≤ P.periods) (text : List 
           (ne_eqb (ramped P) (length R.said) (λ e. omega (arith, e, all_ramped, R.many, left)))
 
       -- a line of it is refused
-      pub reading_stopped : (n m : ℕ) → unit.Refused n m ≡ unit_read P text here l A q s u sum → Refused n m ≡ whole
-      reading_stopped n m e = sym (next_due ∙ subst (Says P text S A q s here l u sum R.said) (sym e) (unit_says P text S A q s here l u sum R.said))
+      pub reading_stopped : (b : BrokenLine) → Err b ≡ unit_read P text here l A q s u sum → Err b ≡ whole
+      reading_stopped b e = sym (next_due ∙ subst (Says P text S A q s here l u sum R.said) (sym e) (unit_says P text S A q s here l u sum R.said))
 
       -- both are read
-      pub reading_more : (next : ℕ) (more : Least) → unit.Passed next more ≡ unit_read P text here l A q s u sum → Reading P text S A q s whole (u + 1) next (l + 2) more
-      reading_more next more e =
+      pub reading_more : (r : UnitLines) → Ok r ≡ unit_read P text here l A q s u sum → Reading P text S A q s whole (u + 1) r.next (l + 2) r.sum
+      reading_more r e =
           let k = R.said in
-          let p : Passed P text S A q s here l u sum k next more = subst (Says P text S A q s here l u sum k) (sym e) (unit_says P text S A q s here l u sum k) in
+          let p : Passed P text S A q s here l u sum k r.next r.sum = subst (Says P text S A q s here l u sum k) (sym e) (unit_says P text S A q s here l u sum k) in
           let z : RampPrices = record { up = x P text S A q s here l u sum k; down = y P text S A q s here l u sum k } in
           record {
             said = k ++ (z ∷ []);

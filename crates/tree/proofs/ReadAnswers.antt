@@ -19,30 +19,32 @@ use Rattle.text.specs.Writer.{writer_form}
 use Rattle.refusal.proofs.Places.{line_only}
 use Rattle.refusal.specs.Refusals.{carries_line, refusal_of, line_refusal}
 use Rattle.refusal.specs.declared.Refusal.{Refusal}
-use Rattle.tree.specs.declared.TreeRead.TheVariants as answer
+use Rattle.std.specs.Prelude.{Err}
+use Rattle.tree.specs.declared.TreeRead.{TreeRead}
 use Rattle.tree.specs.Course.{IsTree, tree_judged}
 use Rattle.tree.specs.Acceptance.{Bounded, bounded, Accepts}
 use Rattle.tree.specs.Places.{Part}
 use Rattle.tree.specs.Refusals.{WrittenTree, written_lines, NodeBreaks, no_node, unfit, again, deeper, deeper_count, short_fails, stuck_fails, crowd_fails, no_narrower, PartBreaks, unfit_part, some_stuck, Breaks, at_writer, at_node, at_part, HoldsSoFar, RefusedAt, node_form, part_form}
-use Rattle.tree.specs.ReadAnswers.{read_as, tree_read}
+use Rattle.tree.specs.ReadAnswers.{answered, read_as, tree_read}
 use Rattle.tree.proofs.Acceptance.{accepted_is, refused_is}
 
 -- ---- accepted
 
 module _ (P : Instance) (text : List ℕ) (w : ℕ) (S : TreeFigures) where
-  judged_accepted : tree_read P text ≡ answer.Accepted w S → tree_judged P text ≡ accepted (bounded w S)
+  judged_accepted : tree_read P text ≡ answered w S → tree_judged P text ≡ accepted (bounded w S)
   unfolding tree_read read_as
   judged_accepted e = go (tree_judged P text) e
     where
-      go : (j : Judged Bounded) → read_as j ≡ answer.Accepted w S → j ≡ accepted (bounded w S)
+      go : (j : Judged Bounded) → read_as j ≡ answered w S → j ≡ accepted (bounded w S)
       go (refused_at k l) e = absurd (let z : ◌≡◌ {A = ℕ} 0 1 = cc in omega arith)
       go (accepted F) e =
-          let p : F.writer ≡ w = cc in
-          let q : F.figures ≡ S = cc in
+          let r : record { writer = F.writer; figures = F.figures } ≡ record { writer = w; figures = S } = cc in
+          let p : F.writer ≡ w = ap (λ (x : TreeRead). x.writer) r in
+          let q : F.figures ≡ S = ap (λ (x : TreeRead). x.figures) r in
           λ i. accepted (bounded (p i) (q i))
 
   -- read_tree accepts exactly the texts of good trees, each with the tree's figures
-  pub read_accepted : WellFormed P → IsTree text → (tree_read P text ≡ answer.Accepted w S) ↔ Accepts P text (bounded w S)
+  pub read_accepted : WellFormed P → IsTree text → (tree_read P text ≡ answered w S) ↔ Accepts P text (bounded w S)
   unfolding tree_read read_as
   read_accepted W i =
       let a = accepted_is P text i (bounded w S) W in
@@ -94,14 +96,14 @@ refused_carries P text n l r = line_only n l (go n r.refuses)
 
 module _ (P : Instance) (some : 1 ≤ P.periods) (text : List ℕ) (n l : ℕ) where
   -- read_tree refuses by n at line l exactly where document 01 does
-  pub read_refused : (tree_read P text ≡ answer.Refused (line_refusal n l)) ↔ RefusedAt P text n l
+  pub read_refused : (tree_read P text ≡ Err (line_refusal n l)) ↔ RefusedAt P text n l
   unfolding tree_read read_as
   read_refused = (
     (λ e. (refused_is P some text n l).0 (go (tree_judged P text) refl e)),
-    (λ r. ap read_as ((refused_is P some text n l).1 r) ∙ ap answer.Refused (refused_carries P text n l r)),
+    (λ r. ap read_as ((refused_is P some text n l).1 r) ∙ ap (λ (x : Refusal). Err x) (refused_carries P text n l r)),
   )
     where
-      go : (j : Judged Bounded) → tree_judged P text ≡ j → read_as j ≡ answer.Refused (line_refusal n l) → tree_judged P text ≡ refused_at n l
+      go : (j : Judged Bounded) → tree_judged P text ≡ j → read_as j ≡ Err (line_refusal n l) → tree_judged P text ≡ refused_at n l
       go (accepted F) p e = absurd (let z : ◌≡◌ {A = ℕ} 0 1 = cc in omega arith)
       go (refused_at k m) p e =
           let r = (refused_is P some text k m).0 p in

@@ -20,14 +20,13 @@ use Rattle.text.specs.Course.{Found, refused, good, Judged, refused_at, judged_f
 use Rattle.text.specs.Tests.{found}
 use Rattle.text.proofs.Tests.{found_refused_is, none_good, good_none}
 use Rattle.text.proofs.LineByLine as steps
-use Rattle.tree.specs.declared.leaf.Read.{Read}
-use Rattle.tree.specs.declared.leaf.Read.TheVariants.{Refused, Tree}
+use Rattle.std.specs.Prelude.{Ok, Err}
 use Rattle.tree.specs.NodeLines.{line_kind_of}
 use Rattle.tree.specs.Refusals.{LineKind, split_line, count_line, short_line, crowd_line, stuck_line, price_line, ramp_line, part_form}
 use Rattle.tree.specs.Places.{Part, priced, ramp_priced, with_steps, with_ups}
 use Rattle.tree.specs.Course.{Pending, pending, Due, writer_due, nodes_due, part_due, nothing_due, tests, after_leaf, next_due, after_node, after_part, judge, end}
 use Rattle.tree.specs.Acceptance.{Bounded, bounded}
-use Rattle.tree.specs.ReadAnswers.{all_read, read_lines, read_from, node_read, trees_read, Placed}
+use Rattle.tree.specs.ReadAnswers.{Read, stopped, reached, all_read, read_lines, read_from, node_read, trees_read, Placed}
 use Rattle.tree.proofs.Rows.{unread, Moved, ended_moved}
 
 -- ---- one line
@@ -56,20 +55,20 @@ module _ (P : Instance) (text : List ℕ) (at l : ℕ) (s : Due) (e : end s ≡ 
 
 -- for a reader
 module _ (P : Instance) (text : List ℕ) (at l : ℕ) where
-  pub read_over : (F : Bounded) → read_from P text at l (nodes_due F []) ≡ Tree at l F.figures
+  pub read_over : (F : Bounded) → read_from P text at l (nodes_due F []) ≡ reached at l F.figures
   unfolding read_lines
   read_over F = go (lines_of (drop at text))
     where
-      go : (ls : List Line) → read_lines P at l (nodes_due F []) ls ≡ Tree at l F.figures
+      go : (ls : List Line) → read_lines P at l (nodes_due F []) ls ≡ reached at l F.figures
       go [] = refl
       go (x ∷ ls) = refl
 
   module _ (s : Due) (e : all_read s ≡ none) where
-    pub read_refused : (n : ℕ) → judge P s (line_at text at) ≡ refused n → read_from P text at l s ≡ Refused n l
+    pub read_refused : (n : ℕ) → judge P s (line_at text at) ≡ refused n → read_from P text at l s ≡ stopped n l
     unfolding read_lines
     read_refused n j = go (lines_of (drop at text)) j
       where
-        go : (ls : List Line) → judge P s (due ls) ≡ refused n → read_lines P at l s ls ≡ Refused n l
+        go : (ls : List Line) → judge P s (due ls) ≡ refused n → read_lines P at l s ls ≡ stopped n l
         go [] j =
             let z : refused 12 ≡ refused n = sym (judge_missing P s) ∙ j in
             let q : 12 ≡ n = cc in
@@ -249,8 +248,8 @@ module _ (P : Instance) (text : List ℕ) (Claim : ℕ → ℕ → Due → Type 
 module _ (P : Instance) (text : List ℕ) {X : Type 0} (course : ℕ → ℕ → Due → X) (refusal : ℕ → ℕ → X) (w : ℕ) (rest : List Pending) where
   -- on from what was read, by the writer w, with `rest` still to be read
   abbrev pub on : Read → X
-  on (Refused n l) = refusal n l
-  on (Tree place l S) = course place l (nodes_due (bounded w S) rest)
+  on (Err b) = refusal b.number b.line
+  on (Ok r) = course r.next r.line (nodes_due (bounded w r.figures) rest)
 
   module _ (stop : (at l : ℕ) (s : Due) → NodeLine P s (line_at text at) → (n : ℕ) → judge P (within w rest s) (line_at text at) ≡ refused n → course at l (within w rest s) ≡ refusal n l)
       (pass : (at l : ℕ) (s s' : Due) → NodeLine P s (line_at text at) → judge P (within w rest s) (line_at text at) ≡ good s' → Moved text at (place_after (line_at text at) at)
@@ -275,11 +274,11 @@ module _ (P : Instance) (text : List ℕ) (at l : ℕ) (S : TreeFigures) (A : Ab
       at l (nodes_due (bounded 0 S) (pending A d ∷ [])) tt
 
   -- the second tree of a split is read on from the first
-  pub second_read : (B : Above) → trees_read P text at l S A B d ≡ on P text (read_from P text) Refused 0 (pending B d ∷ []) (node_read P text at l S A d)
+  pub second_read : (B : Above) → trees_read P text at l S A B d ≡ on P text (read_from P text) stopped 0 (pending B d ∷ []) (node_read P text at l S A d)
   unfolding node_read trees_read
   second_read B =
       let rest = pending B d ∷ [] in
-      goes_on P text (read_from P text) Refused 0 rest
+      goes_on P text (read_from P text) stopped 0 rest
       (λ at l s i n j. read_refused P text at l (within 0 rest s) (i.none_over 0 rest) n j)
       (λ at l s s' i j m. read_good P text at l (within 0 rest s) (i.none_over 0 rest) s' _ j m)
       at l (nodes_due (bounded 0 S) (pending A d ∷ [])) tt
@@ -308,12 +307,12 @@ left_one (some S) = omega arith
 
 -- after what was read, if it was, at least n lines fewer are left
 abbrev Ends : List ℕ → ℕ → ℕ → Read → Type 0
-Ends text at n (Refused m l) = Unit {0}
-Ends text at n (Tree place l S) = Placed text place l S × (unread text place + n ≤ unread text at)
+Ends text at n (Err b) = Unit {0}
+Ends text at n (Ok r) = Placed text r.next r.line r.figures × (unread text r.next + n ≤ unread text at)
 
 later_ends : (text : List ℕ) (at place n k : ℕ) (r : Read) → unread text place + 1 ≡ unread text at → k ≤ 1 → Ends text place n r → Ends text at k r
-later_ends text at place n k (Refused m l) e h c = tt
-later_ends text at place n k (Tree p l S) e h c = (c.0, let x = c.1 in omega arith)
+later_ends text at place n k (Err b) e h c = tt
+later_ends text at place n k (Ok r) e h c = (c.0, let x = c.1 in omega arith)
 
 reading_ends : (P : Instance) (text : List ℕ) (at l : ℕ) (s : Due) → InTree s → Placed text at l (held s) → Ends text at (left (all_read s)) (read_from P text at l s)
 reading_ends P text = every_reading P text (λ at l s. Placed text at l (held s) → Ends text at (left (all_read s)) (read_from P text at l s))
@@ -327,8 +326,8 @@ reading_ends P text = every_reading P text (λ at l s. Placed text at l (held s)
 
 -- after a tree, if one was read, fewer lines are left
 abbrev pub Past : List ℕ → ℕ → Read → Type 0
-Past text at (Refused n l) = Unit {0}
-Past text at (Tree place l S) = Placed text place l S × (unread text place < unread text at)
+Past text at (Err b) = Unit {0}
+Past text at (Ok r) = Placed text r.next r.line r.figures × (unread text r.next < unread text at)
 
 pub node_past : (P : Instance) (text : List ℕ) (at l : ℕ) (S : TreeFigures) (A : Above) (d : ℕ) → Placed text at l S → (r : Read) → r ≡ node_read P text at l S A d → Past text at r
 unfolding node_read
@@ -337,5 +336,5 @@ node_past P text at l S A d p r e =
     go r (rw e (reading_ends P text at l s tt (record { short = p.short; inside = p.inside; numbered = p.numbered; counted = p.counted })))
   where
     go : (r : Read) → Ends text at 1 r → Past text at r
-    go (Refused n m) e = tt
-    go (Tree place m T) e = (e.0, let x = e.1 in omega arith)
+    go (Err b) e = tt
+    go (Ok r) e = (e.0, let x = e.1 in omega arith)

@@ -9,22 +9,23 @@ use lib.ListN.{length, drop, length-drop, length-append, take}
 use Rattle.model.specs.Instance.{Instance, ◌at◌}
 use Rattle.model.specs.Tree.{Multipliers}
 use Rattle.text.specs.Lines.{Line, ended, bytes_of, later, lines_of, line_at}
-use Rattle.text.specs.Forms.{Form, plain, numbers_of, good_line, form_refusal, place_after, row_of, form_tests}
+use Rattle.text.specs.Forms.{Form, plain, numbers_of, good_line, form_refusal, place_after, fault_number, fault_of, row_of, form_tests}
 use Rattle.text.specs.Course as course
 use Rattle.text.specs.Course.{refused}
 use Rattle.text.specs.Tests.{Test, found}
 use Rattle.text.specs.declared.Row.{Row}
-use Rattle.text.specs.declared.Verdict.TheVariants.{Refused, Good}
+use Rattle.text.specs.declared.Fault.{Fault}
+use Rattle.text.specs.declared.Fault.TheVariants.{Malformed, OutOfRange, WrongCount, Disordered}
+use Rattle.std.specs.Prelude.{Result, Ok, Err}
 use Rattle.text.proofs.Cuts.{text_ended, next_lines, later_fewer}
 use Rattle.text.proofs.Plain.{plain_was}
 use Rattle.text.proofs.PlainRows.{plain_row}
 use Rattle.text.proofs.Fills.{PlainFilled}
 use Rattle.text.proofs.Tests.{good_none}
-use Rattle.text.proofs.Verdicts.{verdict_refused, verdict_good, good_ended, form_refused, form_found, form_passes}
+use Rattle.text.proofs.Verdicts.{fault_is, fault_read, good_read, good_ended, form_refused, form_found, form_passes}
 use Rattle.tree.specs.NodeLines.{named}
 use Rattle.tree.specs.declared.naming.NamedLine.{NamedLine}
-use Rattle.tree.specs.declared.naming.NamedLine.TheVariants as name
-use Rattle.tree.specs.ReadAnswers.{named_by, named_line_read}
+use Rattle.tree.specs.ReadAnswers.{named_by, names, named_line_read}
 use Rattle.tree.proofs.Lines.{was_multipliers, was_one}
 
 -- ---- refused
@@ -69,21 +70,18 @@ ended_moved text here b l =
 pub line_moved : (f : Form) (text : List ℕ) (here next : ℕ) → good_line f (line_at text here) ≡ true → next ≡ place_after (line_at text here) here → Moved text here next
 line_moved f text here next g n = rw n (ended_moved text here (bytes_of (line_at text here)) (good_ended f (line_at text here) g))
 
-module _ (f : Form) (text : List ℕ) (here : ℕ) (row : Row) (is : row ≡ row_of f (line_at text here) here) where
-  pub row_refused : (n : ℕ) → row.verdict ≡ Refused n → LineRefused f (line_at text here) n
-  row_refused n e = verdict_refused f (line_at text here) here row is n e
+module _ (f : Form) (text : List ℕ) (here : ℕ) (r : Result Row Fault) (is : r ≡ row_of f (line_at text here) here) where
+  pub row_refused : (w : Fault) → r ≡ Err w → LineRefused f (line_at text here) (fault_number w)
+  row_refused w e = fault_read f (line_at text here) here r is w e
 
   -- ---- good
 
-  module _ (next : ℕ) (e : row.verdict ≡ Good next) where
+  module _ (row : Row) (e : r ≡ Ok row) where
     pub row_good : good_line f (line_at text here) ≡ true
-    row_good = (verdict_good f (line_at text here) here row is next e).0
+    row_good = (good_read f (line_at text here) here r is row e).0
 
-    next_is : next ≡ place_after (line_at text here) here
-    next_is = (verdict_good f (line_at text here) here row is next e).1
-
-    pub row_moved : Moved text here next
-    row_moved = line_moved f text here next row_good next_is
+    pub row_moved : Moved text here row.next
+    row_moved = line_moved f text here row.next row_good (ap (λ (x : Row). x.next) (good_read f (line_at text here) here r is row e).1)
 
 -- ---- one number, or a number for each period
 
@@ -100,16 +98,25 @@ one_value {key} {hi} {l} {out = out} g =
     let z : out at 0 - 1 ≡ pred (numbers_of (plain key 1 1 hi) l at 0) = omega arith in
     record { low = b.0; high = b.1; is_named = z }
 
+-- what is wrong, by its number
+fault_back : (w : Fault) → fault_of (fault_number w) ≡ w
+fault_back Malformed = refl
+fault_back OutOfRange = refl
+fault_back WrongCount = refl
+fault_back Disordered = refl
+
 module _ (key : List ℕ) (most : ℕ) (text : List ℕ) (here : ℕ) where
   -- what the reader of such a line answers
-  pub named_refused : (n : ℕ) → LineRefused (plain key 1 1 most) (line_at text here) n → name.Refused n ≡ named_line_read key most text here
+  pub named_refused : (w : Fault) → LineRefused (plain key 1 1 most) (line_at text here) (fault_number w) → Err w ≡ named_line_read key most text here
   unfolding named_line_read
-  named_refused n h = ap named_by (sym (refused_found (plain key 1 1 most) (line_at text here) n [] (name.Names _ _) h))
+  named_refused w h =
+      ap (λ (x : Fault). Err x) (sym (fault_back w))
+      ∙ ap named_by (sym (refused_found (plain key 1 1 most) (line_at text here) (fault_number w) [] (names _ _) h))
 
   pub named_good : good_line (plain key 1 1 most) (line_at text here) ≡ true → (i next : ℕ) → i ≡ named (plain key 1 1 most) (line_at text here) 0
-      → next ≡ place_after (line_at text here) here → name.Names i next ≡ named_line_read key most text here
+      → next ≡ place_after (line_at text here) here → Ok (names i next) ≡ named_line_read key most text here
   unfolding named_line_read
-  named_good g i next v n = rw (v, n) (ap named_by (sym (form_found (plain key 1 1 most) (line_at text here) [] (name.Names _ _) g)))
+  named_good g i next v n = rw (v, n) (ap named_by (sym (form_found (plain key 1 1 most) (line_at text here) [] (names _ _) g)))
 
   -- what its answer says
   pub record NamesOne (i next : ℕ) : Type 0 where
@@ -121,43 +128,44 @@ module _ (key : List ℕ) (most : ℕ) (text : List ℕ) (here : ℕ) where
   tests : List Test
   tests = form_tests (plain key 1 1 most) (line_at text here) []
 
-  pub names_one : (i next : ℕ) → name.Names i next ≡ named_line_read key most text here → NamesOne i next
+  pub names_one : (r : NamedLine) → Ok r ≡ named_line_read key most text here → NamesOne r.index r.next
   unfolding named_line_read tests
-  names_one i next e = go (found tests said) refl e
+  names_one r e = go (found tests said) refl e
     where
       said : NamedLine
-      said = name.Names (named (plain key 1 1 most) (line_at text here) 0) (place_after (line_at text here) here)
+      said = names (named (plain key 1 1 most) (line_at text here) 0) (place_after (line_at text here) here)
 
-      go : (x : course.Found NamedLine) → found tests said ≡ x → name.Names i next ≡ named_by x → NamesOne i next
+      go : (x : course.Found NamedLine) → found tests said ≡ x → Ok r ≡ named_by x → NamesOne r.index r.next
       go (course.refused n) p e = absurd (let z : ◌≡◌ {A = ℕ} 0 1 = cc in omega arith)
-      go (course.good r) p e =
-          let h = good_none said r tests p in
+      go (course.good x) p e =
+          let h = good_none said x tests p in
           let g = ((form_passes (plain key 1 1 most) (line_at text here) []).0 h.0).0 in
-          let q = e ∙ sym h.1 in
-          let v : i ≡ named (plain key 1 1 most) (line_at text here) 0 = cc in
-          let n : next ≡ place_after (line_at text here) here = cc in
-          record { line_good = g; is_named = v; below = rw v (was_one key most (line_at text here) g).range; moved = line_moved (plain key 1 1 most) text here next g n }
+          let q : r ≡ x = cc in
+          let v : r.index ≡ named (plain key 1 1 most) (line_at text here) 0 = ap (λ (y : NamedLine). y.index) (q ∙ sym h.1) in
+          let n : r.next ≡ place_after (line_at text here) here = ap (λ (y : NamedLine). y.next) (q ∙ sym h.1) in
+          record { line_good = g; is_named = v; below = rw v (was_one key most (line_at text here) g).range; moved = line_moved (plain key 1 1 most) text here r.next g n }
 
-  pub names_none : (n : ℕ) → name.Refused n ≡ named_line_read key most text here → LineRefused (plain key 1 1 most) (line_at text here) n
+  pub names_none : (w : Fault) → Err w ≡ named_line_read key most text here → LineRefused (plain key 1 1 most) (line_at text here) (fault_number w)
   unfolding named_line_read
-  names_none n e = go (good_line (plain key 1 1 most) (line_at text here)) refl
+  names_none w e = go (good_line (plain key 1 1 most) (line_at text here)) refl
     where
-      go : (b : Bool) → good_line (plain key 1 1 most) (line_at text here) ≡ b → LineRefused (plain key 1 1 most) (line_at text here) n
+      go : (b : Bool) → good_line (plain key 1 1 most) (line_at text here) ≡ b → LineRefused (plain key 1 1 most) (line_at text here) (fault_number w)
       go true g =
-          let q = e ∙ ap named_by (form_found (plain key 1 1 most) (line_at text here) [] (name.Names _ _) g) in
+          let q = e ∙ ap named_by (form_found (plain key 1 1 most) (line_at text here) [] (names _ _) g) in
           absurd (let z : ◌≡◌ {A = ℕ} 0 1 = cc in omega arith)
       go false g =
-          let q = e ∙ ap named_by (form_refused (plain key 1 1 most) (line_at text here) [] (name.Names _ _) g) in
-          (g, cc)
+          let q = e ∙ ap named_by (form_refused (plain key 1 1 most) (line_at text here) [] (names _ _) g) in
+          let x : fault_of (form_refusal (plain key 1 1 most) (line_at text here)) ≡ w = cc in
+          (g, sym (fault_is (plain key 1 1 most) (line_at text here) g) ∙ ap fault_number x)
 
-module _ (P : Instance) (key : List ℕ) (text : List ℕ) (here : ℕ) (row : Row)
-    (is : row ≡ row_of (plain key P.periods 0 1000000000) (line_at text here) here) (next : ℕ) (e : row.verdict ≡ Good next) where
+module _ (P : Instance) (key : List ℕ) (text : List ℕ) (here : ℕ) (r : Result Row Fault)
+    (is : r ≡ row_of (plain key P.periods 0 1000000000) (line_at text here) here) (row : Row) (e : r ≡ Ok row) where
   -- the row begins with the numbers of the line
   pub values_taken : take P.periods row.values ≡ numbers_of (plain key P.periods 0 1000000000) (line_at text here)
-  values_taken = (plain_row key P.periods 0 1000000000 (line_at text here) here next row is e).values
+  values_taken = (plain_row key P.periods 0 1000000000 (line_at text here) here r is row e).values
 
   pub taken_multipliers : Multipliers P (take P.periods row.values)
   taken_multipliers =
       rw values_taken
       (was_multipliers P key (line_at text here)
-      (plain_was key P.periods 0 1000000000 (line_at text here) (row_good (plain key P.periods 0 1000000000) text here row is next e)))
+      (plain_was key P.periods 0 1000000000 (line_at text here) (row_good (plain key P.periods 0 1000000000) text here r is row e)))

@@ -2,7 +2,7 @@
 use mathlib.Core.Path.{◌≡◌, refl, sym, ap, subst, ◌∙◌}
 use mathlib.Core.Bool.{true}
 use mathlib.Core.List.{List, [], ◌∷◌, ◌++◌}
-use Prim.Native.Nat.{ℕ, zero, suc, pred, ◌+◌, ◌-◌, ◌≤◌, ◌<◌}
+use Prim.Native.Nat.{ℕ, zero, suc, pred, ◌+◌, ◌≤◌, ◌<◌}
 use native.Mathlib.Omega.{arith}
 use lib.ListN.{length, get_or, take, drop, replicate, length-take, length-drop, length-append, get_or-replicate, get_or-append}
 use lib.Seq.{length_front, get_or-append-add, get_or-take, get_or-drop, length-take-le, take_at}
@@ -10,11 +10,10 @@ use Rattle.model.specs.Instance.{◌at◌}
 use Rattle.model.specs.Ranges.{All, GoodPrice}
 use Rattle.least.specs.Limits.{GoodSteps}
 use Rattle.text.specs.Lines.{line_at, one_line}
-use Rattle.text.specs.Forms.{plain, numbers_of, row_of}
+use Rattle.text.specs.Forms.{plain, numbers_of, verdict_of}
 use Rattle.text.specs.Scan.{stored_at}
-use Rattle.text.specs.declared.Verdict.{Verdict}
-use Rattle.text.specs.declared.Verdict.TheVariants.{Good}
-use Rattle.text.proofs.Plain.{AllBetween}
+use Rattle.text.specs.declared.Fault.{Fault}
+use Rattle.std.specs.Prelude.{Result, Ok}
 use Rattle.text.proofs.Fills.{stored_long, PlainFilled, plain_filled}
 use Rattle.tree.specs.RampReads.{Padded, inner, steps_stored}
 use Rattle.tree.proofs.Lines.{between_all}
@@ -107,11 +106,11 @@ module _ (n : ℕ) (key text : List ℕ) (here : ℕ) (l : List ℕ) (two : 2 �
   pub steps_padded : Padded n (steps_stored key text here l)
   steps_padded = inner_padded n l (stored_at key text here (take (inner l) (drop 1 l))) (omega arith) p kept
 
-  module _ (one : one_line key ≡ true) (v : Verdict) (is : v ≡ (row_of (plain key (inner l) 0 1000000000) (line_at text here) here).verdict) (next : ℕ) (good : v ≡ Good next) where
+  module _ (one : one_line key ≡ true) (v : Result ℕ Fault) (is : v ≡ verdict_of (plain key (inner l) 0 1000000000) (line_at text here) here) (next : ℕ) (good : v ≡ Ok next) where
     filled : PlainFilled key (pred n) 0 1000000000 (line_at text here) here next (stored_at key text here (take (inner l) (drop 1 l)))
     filled =
         plain_filled key 0 1000000000 text (take (inner l) (drop 1 l)) here one (omega arith) refl mid_long
-        (is ∙ ap (λ (k : ℕ). (row_of (plain key k 0 1000000000) (line_at text here) here).verdict) inner_steps) good
+        (is ∙ ap (λ (k : ℕ). verdict_of (plain key k 0 1000000000) (line_at text here) here) inner_steps) good
 
     pub steps_good : GoodSteps n (steps_stored key text here l)
     steps_good = inner_good n l (stored_at key text here (take (inner l) (drop 1 l))) (omega arith) p (between_all (stored_at key text here (take (inner l) (drop 1 l))) filled.range) kept

@@ -6,7 +6,6 @@ use native.Mathlib.Omega.{arith}
 use lib.ListN.{length, drop}
 use Rattle.model.specs.Instance.{Instance}
 use Rattle.model.specs.Above.{root}
-use Rattle.model.specs.declared.figures.TreeFigures.{TreeFigures}
 use Rattle.model.specs.Figures.{no_figures}
 use Rattle.text.specs.Lines.{Line, lines_of, line_at, kind_tree, end_tree}
 use Rattle.text.specs.Course.{refused_at, judged_from}
@@ -19,14 +18,13 @@ use Rattle.text.proofs.FirstLine.{tree_is}
 use Rattle.text.proofs.Verdicts.{form_found}
 use Rattle.text.proofs.Ends.{end_judged}
 use Rattle.reader.proofs.WriterLines.{Passed}
-use Rattle.tree.specs.declared.leaf.Read as code
-use Rattle.tree.specs.declared.leaf.Read.TheVariants as read
-use Rattle.tree.specs.declared.TreeRead.TheVariants as answer
+use Rattle.std.specs.Prelude.{Ok, Err}
+use Rattle.tree.specs.declared.read.NodeRead.{NodeRead}
 use Rattle.tree.specs.Course.{pending, writer_due, nodes_due, nothing_due, tests, next_due, judge, end, IsTree, tree_judged}
 use Rattle.tree.specs.Acceptance.{Bounded, bounded}
-use Rattle.tree.specs.ReadAnswers.{read_as, Placed, Came, ended_as}
+use Rattle.tree.specs.ReadAnswers.{answered, read_as, Read, Placed, ended_as}
 use Rattle.tree.proofs.Rows.{LineRefused, Moved, refused_found, line_moved}
-use Rattle.tree.proofs.ReadLines.{judged_at, step_refused, step_good, read_on, Past}
+use Rattle.tree.proofs.ReadLines.{judged_at, step_refused, step_good, read_on}
 
 -- ---- the first two lines
 
@@ -59,10 +57,6 @@ module _ (P : Instance) (text : List ℕ) where
 
 -- ---- the end line
 
-pub past_came : (text : List ℕ) (here : ℕ) (r : code.Read) → Past text here r → Came text r
-past_came text here (read.Refused n l) h = tt
-past_came text here (read.Tree n l S) h = h.0
-
 ends : (P : Instance) (F : Bounded) → EndDue (judge P) end end_tree (nodes_due F []) F
 unfolding judge tests next_due
 ends P F = record {
@@ -78,17 +72,16 @@ ends P F = record {
 -- ---- the answer
 
 -- what is answered after a tree, by what stands where the end line is due
-pub tree_ended : (text : List ℕ) (w : ℕ) {n l : ℕ} {S : TreeFigures} {r : code.Read} → r ≡ read.Tree n l S → (e : End) → e ≡ end_of end_tree (lines_of (drop n text))
-    → read_as (ended_by l (bounded w S) e) ≡ ended_as text w r
+pub tree_ended : (text : List ℕ) (w : ℕ) (r : NodeRead) (e : End) → e ≡ end_of end_tree (lines_of (drop r.next text))
+    → read_as (ended_by r.line (bounded w r.figures) e) ≡ ended_as text w (Ok r)
 unfolding ended_as
-tree_ended text w {n} {l} {S} t e q = ap (λ (x : End). read_as (ended_by l (bounded w S) x)) q ∙ ap (ended_as text w) (sym t)
+tree_ended text w r e q = ap (λ (x : End). read_as (ended_by r.line (bounded w r.figures) x)) q
 
-pub tree_accepted : (text : List ℕ) (w : ℕ) {n l : ℕ} {S : TreeFigures} {r : code.Read} → r ≡ read.Tree n l S → Last ≡ end_of end_tree (lines_of (drop n text))
-    → answer.Accepted w S ≡ ended_as text w r
+pub tree_accepted : (text : List ℕ) (w : ℕ) (r : NodeRead) → Last ≡ end_of end_tree (lines_of (drop r.next text)) → answered w r.figures ≡ ended_as text w (Ok r)
 unfolding read_as
-tree_accepted text w t q = tree_ended text w t Last q
+tree_accepted text w r q = tree_ended text w r Last q
 
-pub ended_read : (P : Instance) (text : List ℕ) (w : ℕ) (r : code.Read) → ended_as text w r ≡ read_as (read_on P text w [] r)
+pub ended_read : (P : Instance) (text : List ℕ) (w : ℕ) (r : Read) → ended_as text w r ≡ read_as (read_on P text w [] r)
 unfolding ended_as read_as
-ended_read P text w (read.Refused n l) = refl
-ended_read P text w (read.Tree n l S) = sym (ap read_as (end_judged (judge P) end end_tree (nodes_due (bounded w S) []) (bounded w S) (ends P (bounded w S)) l (drop n text)))
+ended_read P text w (Err b) = refl
+ended_read P text w (Ok r) = sym (ap read_as (end_judged (judge P) end end_tree (nodes_due (bounded w r.figures) []) (bounded w r.figures) (ends P (bounded w r.figures)) r.line (drop r.next text)))

@@ -11,12 +11,13 @@ use Rattle.model.specs.declared.figures.TreeFigures.{TreeFigures}
 use Rattle.model.specs.Figures.{add_split, add_leaf}
 use Rattle.text.specs.Lines.{line_at}
 use Rattle.text.specs.Course.{Found, refused, good}
-use Rattle.tree.specs.declared.leaf.Read.{Read}
-use Rattle.tree.specs.declared.leaf.Read.TheVariants.{Refused, Tree}
+use Rattle.std.specs.Prelude.{Ok, Err}
+use Rattle.tree.specs.declared.read.NodeRead.{NodeRead}
+use Rattle.tree.specs.declared.read.BrokenLine.{BrokenLine}
 use Rattle.tree.specs.Places.{Part}
 use Rattle.tree.specs.Course.{with_leaf, Pending, pending, Due, nodes_due, part_due, after_fork, judge}
 use Rattle.tree.specs.Acceptance.{Bounded, bounded}
-use Rattle.tree.specs.ReadAnswers.{read_from, node_read, trees_read, part_read}
+use Rattle.tree.specs.ReadAnswers.{Read, stopped, reached, read_from, node_read, trees_read, part_read}
 use Rattle.tree.proofs.Rows.{Moved}
 use Rattle.tree.proofs.ReadLines.{read_over, read_refused, read_good, on, second_read}
 
@@ -29,8 +30,8 @@ AtPart P text at A p f = (F : Bounded) (rest : List Pending) → judge P (part_d
 
 -- where a leaf's last line is read
 leaf_over : (P : Instance) (text : List ℕ) (l : ℕ) (S : TreeFigures) (b : Bound) (next : ℕ) (S' : TreeFigures) → S' ≡ add_leaf S b
-    → Tree next l S' ≡ read_from P text next l (nodes_due (with_leaf (bounded 0 S) b) [])
-leaf_over P text l S b next S' a = ap (Tree next l) a ∙ sym (read_over P text next l (with_leaf (bounded 0 S) b))
+    → reached next l S' ≡ read_from P text next l (nodes_due (with_leaf (bounded 0 S) b) [])
+leaf_over P text l S b next S' a = ap (reached next l) a ∙ sym (read_over P text next l (with_leaf (bounded 0 S) b))
 
 -- ---- a node
 
@@ -38,13 +39,13 @@ module _ (P : Instance) (text : List ℕ) (at l : ℕ) (S : TreeFigures) (A : Ab
   abbrev node : Due
   node = nodes_due (bounded 0 S) (pending A d ∷ [])
 
-  pub node_refused : (n : ℕ) → AtNode P text at A d (λ F rest. refused n) → Refused n l ≡ node_read P text at l S A d
+  pub node_refused : (n : ℕ) → AtNode P text at A d (λ F rest. refused n) → stopped n l ≡ node_read P text at l S A d
   unfolding node_read
   node_refused n j = sym (read_refused P text at l node refl n (j (bounded 0 S) []))
 
   pub node_leaf : (b : Bound) (next : ℕ) (S' : TreeFigures) → AtNode P text at A d (λ F rest. good (nodes_due (with_leaf F b) rest)) → Moved text at next
       → S' ≡ add_leaf S b
-      → Tree next (l + 1) S' ≡ node_read P text at l S A d
+      → reached next (l + 1) S' ≡ node_read P text at l S A d
   unfolding node_read
   node_leaf b next S' j m a = leaf_over P text (l + 1) S b next S' a ∙ sym (read_good P text at l node refl _ next (j (bounded 0 S) []) m)
 
@@ -63,18 +64,18 @@ module _ (P : Instance) (text : List ℕ) (at l : ℕ) (S : TreeFigures) (A : Ab
 
   -- ---- the two trees of a split
 
-  pub trees_refused : (B : Above) (n m : ℕ) → Refused n m ≡ node_read P text at l S A d → Refused n m ≡ trees_read P text at l S A B d
-  trees_refused B n m r = ap (on P text (read_from P text) Refused 0 (pending B d ∷ [])) r ∙ sym (second_read P text at l S A d B)
+  pub trees_refused : (B : Above) (b : BrokenLine) → Err b ≡ node_read P text at l S A d → Err b ≡ trees_read P text at l S A B d
+  trees_refused B b r = ap (on P text (read_from P text) stopped 0 (pending B d ∷ [])) r ∙ sym (second_read P text at l S A d B)
 
-  pub trees_both : (B : Above) (next m : ℕ) (S' : TreeFigures) (r : Read) → Tree next m S' ≡ node_read P text at l S A d → r ≡ node_read P text next m S' B d
+  pub trees_both : (B : Above) (one : NodeRead) (r : Read) → Ok one ≡ node_read P text at l S A d → r ≡ node_read P text one.next one.line one.figures B d
       → r ≡ trees_read P text at l S A B d
   unfolding node_read
-  trees_both B next m S' r x y = y ∙ ap (on P text (read_from P text) Refused 0 (pending B d ∷ [])) x ∙ sym (second_read P text at l S A d B)
+  trees_both B one r x y = y ∙ ap (on P text (read_from P text) stopped 0 (pending B d ∷ [])) x ∙ sym (second_read P text at l S A d B)
 
 -- ---- a later line of a leaf
 
 module _ (P : Instance) (text : List ℕ) (at l : ℕ) (S : TreeFigures) (A : Above) (p : Part) where
-  pub part_refused : (n : ℕ) → AtPart P text at A p (λ F rest. refused n) → Refused n l ≡ part_read P text at l S A p
+  pub part_refused : (n : ℕ) → AtPart P text at A p (λ F rest. refused n) → stopped n l ≡ part_read P text at l S A p
   unfolding part_read
   part_refused n j = sym (read_refused P text at l (part_due (bounded 0 S) A p []) refl n (j (bounded 0 S) []))
 
@@ -85,6 +86,6 @@ module _ (P : Instance) (text : List ℕ) (at l : ℕ) (S : TreeFigures) (A : Ab
 
   pub part_leaf : (b : Bound) (next : ℕ) (S' : TreeFigures) → AtPart P text at A p (λ F rest. good (nodes_due (with_leaf F b) rest)) → Moved text at next
       → S' ≡ add_leaf S b
-      → Tree next (l + 1) S' ≡ part_read P text at l S A p
+      → reached next (l + 1) S' ≡ part_read P text at l S A p
   unfolding part_read
   part_leaf b next S' j m a = leaf_over P text (l + 1) S b next S' a ∙ sym (read_good P text at l (part_due (bounded 0 S) A p []) refl _ next (j (bounded 0 S) []) m)

@@ -30,8 +30,8 @@ use Rattle.tree.specs.NodeLines.{line_kind_of, kind_tests, leaf_tests}
 use Rattle.tree.specs.Acceptance.{bounded}
 use Rattle.tree.specs.Course.{writer_due, tests, after_node, after_part, next_due, judge, end, tree_judged}
 use Rattle.tree.specs.WellFormed.{WellFormed}
-use Rattle.tree.specs.ReadAnswers.{read_as, tree_read}
-use Rattle.tree.specs.declared.TreeRead.TheVariants.{Refused, Accepted}
+use Rattle.tree.specs.ReadAnswers.{answered, read_as, tree_read}
+use Rattle.std.specs.Prelude.{Err}
 use Rattle.tree.proofs.Complete.{tree_accepted}
 use Rattle.tree.proofs.Acceptance.{refused_is}
 use Rattle.tree.proofs.ReadAnswers.{read_refused}
@@ -300,19 +300,19 @@ count_twice_unformed = (
 
 -- ---- the marked specimens, as read_tree answers them
 
-pub specimen_tree : tree_read problem text ≡ Accepted 3 (tree_gives (number (pos 1980)) 1 2)
+pub specimen_tree : tree_read problem text ≡ answered 3 (tree_gives (number (pos 1980)) 1 2)
 unfolding tree_read read_as
-specimen_tree = ap read_as accepted_tree ∙ ap (λ (b : Bound). Accepted 3 (tree_gives b 1 2)) bound_1980
+specimen_tree = ap read_as accepted_tree ∙ ap (λ (b : Bound). answered 3 (tree_gives b 1 2)) bound_1980
 
-pub specimen_price : tree_read problem (render 3 lone_price) ≡ Accepted 3 (tree_gives (number (pos 1940)) 0 1)
+pub specimen_price : tree_read problem (render 3 lone_price) ≡ answered 3 (tree_gives (number (pos 1940)) 0 1)
 unfolding tree_read read_as
 specimen_price = ap read_as lone_price_accepted
 
-pub specimen_short : tree_read problem lone_short ≡ Refused (line_refusal 33 3)
+pub specimen_short : tree_read problem lone_short ≡ Err (line_refusal 33 3)
 specimen_short = (read_refused problem (lit≤ tt) lone_short 33 3).1 ((refused_is problem (lit≤ tt) lone_short 33 3).0 lone_short_refused)
 
 -- and those with counts
-pub specimen_counts : (tree_read problem count_text ≡ Accepted 3 (tree_gives (number (pos 1880)) 1 2))
-    × (tree_read problem crowd_text ≡ Accepted 3 (tree_gives (number (pos 1980)) 2 3))
+pub specimen_counts : (tree_read problem count_text ≡ answered 3 (tree_gives (number (pos 1880)) 1 2))
+    × (tree_read problem crowd_text ≡ answered 3 (tree_gives (number (pos 1980)) 2 3))
 unfolding tree_read read_as
 specimen_counts = (ap read_as counts_accepted.0, ap read_as counts_accepted.1)

@@ -1,5 +1,5 @@
 -- What the readers of a ramp leaf's units answer: the two lines of a unit, with what the units so far answer; and the leaf after the last of them.
-use Rattle.std.specs.Prelude.{◌≡◌, List, [], ◌++◌, ℕ, suc, pred, ◌+◌, ◌-◌, length, get_or, take, drop, None, Some}
+use Rattle.std.specs.Prelude.{◌≡◌, List, [], ◌++◌, ℕ, suc, pred, ◌+◌, ◌-◌, length, get_or, take, drop, None, Some, Result, Ok, Err}
 use Rattle.model.specs.Instance.{Instance, ◌at◌}
 use Rattle.model.specs.Above.{Above}
 use Rattle.model.specs.Held.{blank_generator}
@@ -13,10 +13,9 @@ use Rattle.text.specs.Forms.{Form, plain, numbers_of, place_after, form_tests}
 use Rattle.text.specs.Scan.{stored_at}
 use Rattle.text.specs.Course.{Found, refused, good}
 use Rattle.text.specs.Tests.{found}
-use Rattle.tree.specs.declared.leaf.Read.{Read}
-use Rattle.tree.specs.declared.leaf.Read.TheVariants.{Refused, Tree}
-use Rattle.tree.specs.declared.ramp.UnitRead.{UnitRead}
-use Rattle.tree.specs.declared.ramp.UnitRead.TheVariants as unit
+use Rattle.tree.specs.declared.read.BrokenLine.{BrokenLine}
+use Rattle.tree.specs.declared.ramp.UnitLines.{UnitLines}
+use Rattle.tree.specs.ReadAnswers.{broken, Read, stopped, reached}
 use Rattle.tree.specs.Rendering.{up_key, down_key}
 
 -- room for the multipliers of n periods' steps, with 0 in front of them and behind
@@ -40,9 +39,16 @@ up_form P = plain up_key (pred P.periods) 0 1000000000
 abbrev pub down_form : Instance → Form
 down_form P = plain down_key (pred P.periods) 0 1000000000
 
+-- the next line's start, and what the units so far answer; or the line that is refused
+abbrev pub UnitRead : Type 0
+UnitRead = Result UnitLines BrokenLine
+
+abbrev pub passed : ℕ → Least → UnitRead
+passed next sum = Ok (record { next = next; sum = sum })
+
 -- the line l is refused, or the answer is r
 abbrev pub unless_refused : ℕ → Found (Unit {0}) → UnitRead → UnitRead
-unless_refused l (refused n) r = unit.Refused n l
+unless_refused l (refused n) r = Err (broken n l)
 unless_refused l (good x) r = r
 
 -- from the line l on, which starts at the place `here`: unit u's up line and its down line, and what the units before it answer with it
@@ -53,7 +59,7 @@ unit_read P text here l A q s u sum =
     let y = line_at text next in
     unless_refused l (found (form_tests (up_form P) x []) tt) (
     unless_refused (l + 1) (found (form_tests (down_form P) y []) tt) (
-    unit.Passed (place_after y next)
+    passed (place_after y next)
     (plus_unit sum (ramp_least_of P.periods (λ t. q at t) (λ t. s at t) (λ t. numbers_of (up_form P) x at t) (λ t. numbers_of (down_form P) y at t) (get_or P.units u blank_generator) (A.marks u)))
     )
     )
@@ -66,5 +72,5 @@ with_required P q s sum = plus_requirement P (λ t. q at t) (λ t. s at t) sum
 
 -- 35 at the line before it, or one leaf more
 abbrev pub ramp_ended : ℕ → ℕ → TreeFigures → Least → Read
-ramp_ended here l S None = Refused 35 (l - 1)
-ramp_ended here l S (Some v) = Tree here l (add_leaf S (number v))
+ramp_ended here l S None = stopped 35 (l - 1)
+ramp_ended here l S (Some v) = reached here l (add_leaf S (number v))

@@ -18,29 +18,17 @@ pub struct Side {
     pub byte: u8,
 }
 
-// What a fork's line is at its place: refused by a number, or what stands above its first tree and above its second, with the next line's
-// start.
+// What a fork's good line says: what stands above its first tree and above its second, and the next line's start.
 #[derive(Clone, Copy)]
-pub enum ForkLine {
-    Refused {
-        number: u64,
-    },
-    Over {
-        first: Side,
-        second: Side,
-        next: usize,
-    },
+pub struct ForkLine {
+    pub first: Side,
+    pub second: Side,
+    pub next: usize,
 }
 
 // Whether the status is off or on, and not free.
 pub fn is_fixed(status: u8) -> bool
     ensures { result ≡ is_fixed (mark_of status) }
 {
-    if status == OFF {
-        return true;
-    }
-    if status == ON {
-        return true;
-    }
-    false
+    status == OFF || status == ON
 }

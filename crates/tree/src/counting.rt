@@ -12,43 +12,36 @@ ghost use Rattle.tree.specs.ReadAnswers.{fork_line_read};
 use crate::above::{ForkLine, MOST_DEPTH, Side};
 use layout::{periods_in, units_in};
 use leaves::counts::{LOWER, UPPER};
-use text::Verdict;
 
 // Whether the count is not below the lower one and below the upper one, as these bytes hold them.
 fn is_narrower(count: usize, lower: u8, upper: u8) -> bool
     ensures { result ≡ narrows lower (most_of upper) count }
 {
-    if count < lower as usize {
-        return false;
-    }
-    if upper == 0 {
-        return true;
-    }
-    count < (upper - 1) as usize
+    lower as usize <= count && (upper == 0 || count < (upper - 1) as usize)
 }
 
-// The number that refuses a count of so many units in period t (32, 37), or 0.
-fn refuse_count(above: &[u8], t: usize, count: usize, depth: usize) -> u64
+// Whether a count of so many units may stand in period t, or the number that refuses it (32, 37).
+fn refuse_count(above: &[u8], t: usize, count: usize, depth: usize) -> Result<(), u64>
     requires { (t < 48) × (length above.now ≡ above_length) }
     ensures { result ≡ count_refusal above.now t count depth }
 {
     if MOST_DEPTH < depth {
-        return 32;
+        return Err(32);
     }
-    if is_narrower(count, above[LOWER + t], above[UPPER + t]) {
-        return 0;
+    if !is_narrower(count, above[LOWER + t], above[UPPER + t]) {
+        return Err(37);
     }
-    37
+    Ok(())
 }
 
-// What the count line that starts at `at` is.
+// The count line that starts at `at`, or the number that refuses it.
 pub fn read_count_line(
     numbers: &[u64],
     text: &[u8],
     at: usize,
     depth: usize,
     above: &[u8],
-) -> ForkLine
+) -> Result<ForkLine, u64>
     requires laid { Laid numbers.now }
     requires above_len { length above.now ≡ above_length }
     requires text_len_bound { length text.now ≤ 1048576 }
@@ -57,36 +50,24 @@ pub fn read_count_line(
 {
     let units = units_in(numbers);
     let periods = periods_in(numbers);
-    let lows = [1u64, 0];
-    let most = units - 1;
-    let highs = [periods as u64, most as u64];
+    let highs = [periods as u64, (units - 1) as u64];
     let mut values = [0u64; 2];
-    let verdict = text::fill_line(text, at, b"count=", &lows, &highs, &mut values);
-    match verdict {
-        Verdict::Refused { number } => ForkLine::Refused { number },
-        Verdict::Good { next } => {
-            let period = (values[0] - 1) as usize;
-            let count = values[1] as u8;
-            let number = refuse_count(above, period, count as usize, depth);
-            if number != 0 {
-                return ForkLine::Refused { number };
-            }
-            let more = count + 1;
-            let upper = UPPER + period;
-            let lower = LOWER + period;
-            let first = Side {
-                place: upper,
-                byte: more,
-            };
-            let second = Side {
-                place: lower,
-                byte: more,
-            };
-            ForkLine::Over {
-                first,
-                second,
-                next,
-            }
-        }
-    }
+    let next = text::fill_line(text, at, b"count=", &[1, 0], &highs, &mut values)?;
+    let period = (values[0] - 1) as usize;
+    let count = values[1] as u8;
+    refuse_count(above, period, count as usize, depth)?;
+    let byte = count + 1;
+    let first = Side {
+        place: UPPER + period,
+        byte,
+    };
+    let second = Side {
+        place: LOWER + period,
+        byte,
+    };
+    Ok(ForkLine {
+        first,
+        second,
+        next,
+    })
 }

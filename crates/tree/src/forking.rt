@@ -18,7 +18,7 @@ pub enum ForkKind {
     Count,
 }
 
-// What the line of this kind that starts at `at` is.
+// The line of this kind that starts at `at`, or the number that refuses it.
 pub fn read_fork_line(
     numbers: &[u64],
     text: &[u8],
@@ -26,7 +26,7 @@ pub fn read_fork_line(
     depth: usize,
     kind: ForkKind,
     above: &[u8],
-) -> ForkLine
+) -> Result<ForkLine, u64>
     requires laid { Laid numbers.now }
     requires above_len { length above.now ≡ above_length }
     requires text_len_bound { length text.now ≤ 1048576 }

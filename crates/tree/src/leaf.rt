@@ -10,8 +10,9 @@ ghost use Rattle.tree.specs.Kinds.{leaf_kind};
 ghost use Rattle.tree.specs.Places.{priced};
 ghost use Rattle.tree.specs.ReadAnswers.{leaf_read, part_read, Placed};
 
-use crate::naming::{NamedLine, read_named};
+use crate::naming::read_named;
 use crate::ramp::read_ramp;
+use crate::read::{BrokenLine, NodeRead};
 use layout::{periods_in, units_in};
 use least::stuck::is_unit_stuck;
 use leaves::crowd::is_crowd;
@@ -19,21 +20,6 @@ use leaves::price::leaf_value;
 use leaves::short::sum_until;
 use model::figures::TreeFigures;
 use model::ranges::Span;
-use text::Verdict;
-
-// What reading a tree finds: a refusal at a line, or what was read with it, the next line's start and its number.
-#[derive(Clone, Copy)]
-pub enum Read {
-    Refused {
-        number: u64,
-        line: usize,
-    },
-    Tree {
-        next: usize,
-        line: usize,
-        figures: TreeFigures,
-    },
-}
 
 // The kinds of leaves, by their first lines.
 #[derive(Clone, Copy)]
@@ -53,29 +39,24 @@ fn read_short(
     line: usize,
     above: &[u8],
     figures: TreeFigures,
-) -> Read
+) -> Result<NodeRead, BrokenLine>
     requires laid { Laid numbers.now }
     requires above_len { length above.now ≡ above_length }
     requires placed { Placed text.now at line figures }
     requires at_value { line_kind_of (line_at text.now at) ≡ short_line }
     ensures { result ≡ leaf_read (instance_in numbers.now) text.now at line figures (above_of (instance_in numbers.now) above.now) }
 {
-    let periods = periods_in(numbers);
-    let found = read_named(text, at, b"short=", periods);
-    match found {
-        NamedLine::Refused { number } => Read::Refused { number, line },
-        NamedLine::Names { index, next } => {
-            let taken = sum_until(numbers, index, above);
-            if taken.short {
-                return Read::Tree {
-                    next,
-                    line: line + 1,
-                    figures: figures.with_leaf(None),
-                };
-            }
-            Read::Refused { number: 33, line }
-        }
+    let named = read_named(text, at, b"short=", periods_in(numbers)).map_err(|fault| BrokenLine::by(
+        fault, line,
+    ))?;
+    if !sum_until(numbers, named.index, above).short {
+        return Err(BrokenLine { number: 33, line });
     }
+    Ok(NodeRead {
+        next: named.next,
+        line: line + 1,
+        figures: figures.with_leaf(None),
+    })
 }
 
 // The crowd leaf whose line starts at `at` and has this number.
@@ -86,28 +67,24 @@ fn read_crowd(
     line: usize,
     above: &[u8],
     figures: TreeFigures,
-) -> Read
+) -> Result<NodeRead, BrokenLine>
     requires laid { Laid numbers.now }
     requires above_len { length above.now ≡ above_length }
     requires placed { Placed text.now at line figures }
     requires at_value { line_kind_of (line_at text.now at) ≡ crowd_line }
     ensures { result ≡ leaf_read (instance_in numbers.now) text.now at line figures (above_of (instance_in numbers.now) above.now) }
 {
-    let periods = periods_in(numbers);
-    let found = read_named(text, at, b"crowd=", periods);
-    match found {
-        NamedLine::Refused { number } => Read::Refused { number, line },
-        NamedLine::Names { index, next } => {
-            if is_crowd(numbers, index, above) {
-                return Read::Tree {
-                    next,
-                    line: line + 1,
-                    figures: figures.with_leaf(None),
-                };
-            }
-            Read::Refused { number: 36, line }
-        }
+    let named = read_named(text, at, b"crowd=", periods_in(numbers)).map_err(|fault| BrokenLine::by(
+        fault, line,
+    ))?;
+    if !is_crowd(numbers, named.index, above) {
+        return Err(BrokenLine { number: 36, line });
     }
+    Ok(NodeRead {
+        next: named.next,
+        line: line + 1,
+        figures: figures.with_leaf(None),
+    })
 }
 
 // The stuck leaf whose line starts at `at` and has this number.
@@ -118,28 +95,24 @@ fn read_stuck(
     line: usize,
     above: &[u8],
     figures: TreeFigures,
-) -> Read
+) -> Result<NodeRead, BrokenLine>
     requires laid { Laid numbers.now }
     requires above_len { length above.now ≡ above_length }
     requires placed { Placed text.now at line figures }
     requires at_value { line_kind_of (line_at text.now at) ≡ stuck_line }
     ensures { result ≡ leaf_read (instance_in numbers.now) text.now at line figures (above_of (instance_in numbers.now) above.now) }
 {
-    let units = units_in(numbers);
-    let found = read_named(text, at, b"stuck=", units);
-    match found {
-        NamedLine::Refused { number } => Read::Refused { number, line },
-        NamedLine::Names { index, next } => {
-            if is_unit_stuck(numbers, index, above) {
-                return Read::Tree {
-                    next,
-                    line: line + 1,
-                    figures: figures.with_leaf(None),
-                };
-            }
-            Read::Refused { number: 34, line }
-        }
+    let named = read_named(text, at, b"stuck=", units_in(numbers)).map_err(|fault| BrokenLine::by(
+        fault, line,
+    ))?;
+    if !is_unit_stuck(numbers, named.index, above) {
+        return Err(BrokenLine { number: 34, line });
     }
+    Ok(NodeRead {
+        next: named.next,
+        line: line + 1,
+        figures: figures.with_leaf(None),
+    })
 }
 
 // The price leaf with the multipliers q whose reserve line starts at `at` and has this number.
@@ -151,7 +124,7 @@ pub fn read_reserve(
     q: [u64; 48],
     above: &[u8],
     figures: TreeFigures,
-) -> Read
+) -> Result<NodeRead, BrokenLine>
     requires laid { Laid numbers.now }
     requires above_len { length above.now ≡ above_length }
     requires placed { Placed text.now at line figures }
@@ -159,23 +132,17 @@ pub fn read_reserve(
     ensures { result ≡ part_read (instance_in numbers.now) text.now at line figures (above_of (instance_in numbers.now) above.now) (priced (take (instance_in numbers.now).periods q)) }
 {
     let periods = periods_in(numbers);
-    let row = text::read_row(text, at, b"reserve=", periods, Span::PRICE.least, Span::PRICE.most);
-    let verdict = row.verdict;
-    match verdict {
-        Verdict::Refused { number } => Read::Refused { number, line },
-        Verdict::Good { next } => {
-            let s = row.values;
-            let least = leaf_value(numbers, &q[..periods], &s[..periods], above);
-            let Some(v) = least else {
-                return Read::Refused { number: 35, line };
-            };
-            Read::Tree {
-                next,
-                line: line + 1,
-                figures: figures.with_leaf(Some(v)),
-            }
-        }
-    }
+    let row = text::read_row(text, at, b"reserve=", periods, Span::PRICE.least, Span::PRICE.most).map_err(
+        |fault| BrokenLine::by(fault, line),
+    )?;
+    let Some(value) = leaf_value(numbers, &q[..periods], &row.values[..periods], above) else {
+        return Err(BrokenLine { number: 35, line });
+    };
+    Ok(NodeRead {
+        next: row.next,
+        line: line + 1,
+        figures: figures.with_leaf(Some(value)),
+    })
 }
 
 // The price leaf whose price line starts at `at` and has this number.
@@ -186,7 +153,7 @@ fn read_price(
     line: usize,
     above: &[u8],
     figures: TreeFigures,
-) -> Read
+) -> Result<NodeRead, BrokenLine>
     requires laid { Laid numbers.now }
     requires above_len { length above.now ≡ above_length }
     requires placed { Placed text.now at line figures }
@@ -194,15 +161,18 @@ fn read_price(
     ensures { result ≡ leaf_read (instance_in numbers.now) text.now at line figures (above_of (instance_in numbers.now) above.now) }
 {
     let periods = periods_in(numbers);
-    let row = text::read_row(text, at, b"price=", periods, Span::PRICE.least, Span::PRICE.most);
-    let verdict = row.verdict;
-    match verdict {
-        Verdict::Refused { number } => Read::Refused { number, line },
-        Verdict::Good { next } => {
-            let q = row.values;
-            read_reserve(numbers, text, next, line + 1, q, above, figures)
-        }
-    }
+    let row = text::read_row(text, at, b"price=", periods, Span::PRICE.least, Span::PRICE.most).map_err(
+        |fault| BrokenLine::by(fault, line),
+    )?;
+    read_reserve(
+        numbers,
+        text,
+        row.next,
+        line + 1,
+        row.values,
+        above,
+        figures,
+    )
 }
 
 // The leaf of this kind whose first line starts at `at` and has this number.
@@ -214,7 +184,7 @@ pub fn read_leaf(
     kind: LeafKind,
     above: &[u8],
     figures: TreeFigures,
-) -> Read
+) -> Result<NodeRead, BrokenLine>
     requires laid { Laid numbers.now }
     requires above_len { length above.now ≡ above_length }
     requires placed { Placed text.now at line figures }

@@ -3,30 +3,25 @@ ghost use Rattle.std.specs.Prelude.{◌≡◌, true, ◌≤◌, drop};
 ghost use Rattle.text.specs.Lines.{one_line, begins};
 ghost use Rattle.tree.specs.ReadAnswers.{named_line_read};
 
-use text::Verdict;
+use text::Fault;
 
-// What such a line is at its place: refused by a number, or the one that it names, from 0, with the next line's start.
+// What a good such line says: the one that it names, from 0, and the next line's start.
 #[derive(Clone, Copy)]
-pub enum NamedLine {
-    Refused { number: u64 },
-    Names { index: usize, next: usize },
+pub struct NamedLine {
+    pub index: usize,
+    pub next: usize,
 }
 
-// What the line that starts at `at` is, where it is known to begin with key, and may name 1 to most.
-pub fn read_named(text: &[u8], at: usize, key: &[u8], most: usize) -> NamedLine
+// The line that starts at `at`, where it is known to begin with key, and may name 1 to most; or what is wrong with it.
+pub fn read_named(text: &[u8], at: usize, key: &[u8], most: usize) -> Result<NamedLine, Fault>
     requires key_value { (one_line key.now ≡ true) × (most ≤ 48) }
     requires text_value { begins key.now (drop at text.now) ≡ true }
     ensures { result ≡ named_line_read key.now most text.now at }
 {
     let mut values = [0u64; 1];
-    let lows = [1u64];
-    let highs = [most as u64];
-    let verdict = text::fill_line(text, at, key, &lows, &highs, &mut values);
-    match verdict {
-        Verdict::Refused { number } => NamedLine::Refused { number },
-        Verdict::Good { next } => {
-            let index = (values[0] - 1) as usize;
-            NamedLine::Names { index, next }
-        }
-    }
+    let next = text::fill_line(text, at, key, &[1], &[most as u64], &mut values)?;
+    Ok(NamedLine {
+        index: (values[0] - 1) as usize,
+        next,
+    })
 }

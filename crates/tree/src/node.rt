@@ -7,9 +7,10 @@ ghost use Rattle.tree.specs.NodeLines.{line_kind_of};
 ghost use Rattle.tree.specs.Kinds.{line_kind};
 ghost use Rattle.tree.specs.ReadAnswers.{node_read, trees_read, Placed};
 
-use crate::above::{ForkLine, Side};
+use crate::above::ForkLine;
 use crate::forking::{ForkKind, read_fork_line};
-use crate::leaf::{LeafKind, Read, read_leaf};
+use crate::leaf::{LeafKind, read_leaf};
+use crate::read::{BrokenLine, NodeRead};
 use model::figures::TreeFigures;
 
 // The node lines: of a fork, with two trees below it, or of a leaf.
@@ -54,82 +55,55 @@ pub fn read_node(
     depth: usize,
     above: &mut [u8],
     figures: TreeFigures,
-) -> Read
+) -> Result<NodeRead, BrokenLine>
     requires laid { Laid numbers.now }
     requires placed { Placed text.now at line figures }
     requires depth_bound { (depth ≤ 64) × (length above.old ≡ above_length) }
     ensures read { result ≡ node_read (instance_in numbers.now) text.now at line figures (above_of (instance_in numbers.now) above.old) depth }
     ensures same { above.new ≡ above.old }
 {
-    let kind = find_kind(text, at);
-    match kind {
+    match find_kind(text, at) {
         NodeKind::Leaf(leaf) => read_leaf(numbers, text, at, line, leaf, above, figures),
-        NodeKind::Fork(fork) => {
-            let found = read_fork_line(numbers, text, at, depth, fork, above);
-            match found {
-                ForkLine::Refused { number } => Read::Refused { number, line },
-                ForkLine::Over {
-                    first,
-                    second,
-                    next,
-                } => {
-                    let more = figures.with_split();
-                    read_split(
-                        numbers,
-                        text,
-                        next,
-                        line + 1,
-                        depth + 1,
-                        first,
-                        second,
-                        above,
-                        more,
-                    )
-                }
-            }
+        NodeKind::Fork(kind) => {
+            let fork = match read_fork_line(numbers, text, at, depth, kind, above) {
+                Ok(fork) => fork,
+                Err(number) => return Err(BrokenLine { number, line }),
+            };
+            let more = figures.with_split();
+            read_split(numbers, text, line + 1, depth + 1, fork, above, more)
         }
     }
 }
 
-// The two trees of a fork, the first of which starts at `at` with this line, each with its side's byte above it. The bytes are left as
-// they were.
+// The two trees of a fork, the first of which starts where its line ends and has this line, each with its side's byte above it. The bytes are
+// left as they were.
 #[cycle(read_node_read_split)]
 fn read_split(
     numbers: &[u64],
     text: &[u8],
-    at: usize,
     line: usize,
     depth: usize,
-    first: Side,
-    second: Side,
+    fork: ForkLine,
     above: &mut [u8],
     figures: TreeFigures,
-) -> Read
+) -> Result<NodeRead, BrokenLine>
     requires laid { Laid numbers.now }
-    requires placed { Placed text.now at line figures }
+    requires placed { Placed text.now fork.next line figures }
     requires depth_bound { (depth ≤ 64) × (length above.old ≡ above_length) }
-    requires place_lt_above_length { (first.place < above_length) × (second.place < above_length) }
-    ensures read { result ≡ trees_read (instance_in numbers.now) text.now at line figures (above_of (instance_in numbers.now) (set above.old first.place first.byte)) (above_of (instance_in numbers.now) (set above.old second.place second.byte)) depth }
+    requires place_lt_above_length { (fork.first.place < above_length) × (fork.second.place < above_length) }
+    ensures read { result ≡ trees_read (instance_in numbers.now) text.now fork.next line figures (above_of (instance_in numbers.now) (set above.old fork.first.place fork.first.byte)) (above_of (instance_in numbers.now) (set above.old fork.second.place fork.second.byte)) depth }
     ensures same { above.new ≡ above.old }
 {
-    let place = first.place;
+    let place = fork.first.place;
     let was = above[place];
-    above[place] = first.byte;
-    let one = read_node(numbers, text, at, line, depth, above, figures);
+    above[place] = fork.first.byte;
+    let one = read_node(numbers, text, fork.next, line, depth, above, figures);
     above[place] = was;
-    match one {
-        Read::Refused { number, line } => Read::Refused { number, line },
-        Read::Tree {
-            next,
-            line,
-            figures,
-        } => {
-            let place = second.place;
-            let was = above[place];
-            above[place] = second.byte;
-            let two = read_node(numbers, text, next, line, depth, above, figures);
-            above[place] = was;
-            two
-        }
-    }
+    let one = one?;
+    let place = fork.second.place;
+    let was = above[place];
+    above[place] = fork.second.byte;
+    let two = read_node(numbers, text, one.next, one.line, depth, above, one.figures);
+    above[place] = was;
+    two
 }

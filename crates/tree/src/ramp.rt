@@ -6,39 +6,40 @@ ghost use Rattle.walk.specs.Marks.{above_of, above_length};
 ghost use Rattle.least.specs.Limits.{GoodPrices};
 ghost use Rattle.leaves.specs.Limits.{SmallLeast};
 ghost use Rattle.text.specs.Lines.{line_at, one_line};
-ghost use Rattle.text.specs.Forms.{plain, row_of};
+ghost use Rattle.text.specs.Forms.{plain, verdict_of};
 ghost use Rattle.tree.specs.NodeLines.{line_kind_of};
 ghost use Rattle.tree.specs.Refusals.{ramp_line};
 ghost use Rattle.tree.specs.Places.{ramp_priced, with_steps};
 ghost use Rattle.tree.specs.ReadAnswers.{leaf_read, part_read, Placed};
 ghost use Rattle.tree.specs.RampReads.{Padded, inner, steps_stored, unit_read, with_required, ramp_ended};
 
-use crate::leaf::{Read, read_reserve};
+use crate::leaf::read_reserve;
+use crate::read::{BrokenLine, NodeRead};
 use layout::{periods_in, units_in};
 use leaves::ramp::{add_unit, with_requirement};
 use model::figures::TreeFigures;
 use model::ranges::Span;
-use text::Verdict;
+use text::Fault;
 
-// What a unit's two lines are found to be: a refusal at a line, or the next line's start, with what the units so far answer.
+// What a unit's two good lines say: the next line's start, and what the units so far answer.
 #[derive(Clone, Copy)]
-pub enum UnitRead {
-    Refused { number: u64, line: usize },
-    Passed { next: usize, sum: Option<i64> },
+pub struct UnitLines {
+    pub next: usize,
+    pub sum: Option<i64>,
 }
 
-// What the line that starts at `at` with key is, where it has a multiplier for each step. Those read are stored between the first number of
-// out and its last.
-fn fill_steps(text: &[u8], at: usize, key: &[u8], out: &mut [u64]) -> Verdict
+// The next line's start, where the line that starts at `at` has key and a multiplier for each step, or what is wrong with it. Those read are
+// stored between the first number of out and its last.
+fn fill_steps(text: &[u8], at: usize, key: &[u8], out: &mut [u64]) -> Result<usize, Fault>
     requires { (one_line key.now ≡ true) × (3 ≤ length out.old) × (length out.old ≤ 49) }
-    ensures answer { result ≡ (row_of (plain key.now (inner out.old) 0 1000000000) (line_at text.now at) at).verdict }
+    ensures answer { result ≡ verdict_of (plain key.now (inner out.old) 0 1000000000) (line_at text.now at) at }
     ensures stored { out.new ≡ steps_stored key.now text.now at out.old }
 {
     let last = out.len() - 1;
     text::fill_row(text, at, key, Span::PRICE.least, Span::PRICE.most, &mut out[1..last])
 }
 
-// What the two lines of unit u are, the first of which starts at `at` and has this number; sum is what the units before it answer. The
+// The two lines of unit u, the first of which starts at `at` and has this number; sum is what the units before it answer. The
 // numbers in up and down are written over.
 fn read_unit(
     numbers: &[u64],
@@ -52,7 +53,7 @@ fn read_unit(
     down: &mut [u64],
     above: &[u8],
     sum: Option<i64>,
-) -> UnitRead
+) -> Result<UnitLines, BrokenLine>
     requires laid { Laid numbers.now × (2 ≤ (instance_in numbers.now).periods) × (u < length (instance_in numbers.now).units) }
     requires good_prices { GoodPrices (instance_in numbers.now).periods q.now s.now }
     requires padded_2 { Padded (instance_in numbers.now).periods up.old × Padded (instance_in numbers.now).periods down.old }
@@ -61,23 +62,13 @@ fn read_unit(
     ensures read { result ≡ unit_read (instance_in numbers.now) text.now at line (above_of (instance_in numbers.now) above.now) q.now s.now u sum }
     ensures padded { Padded (instance_in numbers.now).periods up.new × Padded (instance_in numbers.now).periods down.new }
 {
-    let rises = fill_steps(text, at, b"up=", up);
-    match rises {
-        Verdict::Refused { number } => UnitRead::Refused { number, line },
-        Verdict::Good { next } => {
-            let falls = fill_steps(text, next, b"down=", down);
-            match falls {
-                Verdict::Refused { number } => UnitRead::Refused {
-                    number,
-                    line: line + 1,
-                },
-                Verdict::Good { next } => {
-                    let sum = add_unit(numbers, u, q, s, up, down, above, sum);
-                    UnitRead::Passed { next, sum }
-                }
-            }
-        }
-    }
+    let falls = fill_steps(text, at, b"up=", up).map_err(|fault| BrokenLine::by(fault, line))?;
+    let next = fill_steps(text, falls, b"down=", down).map_err(|fault| BrokenLine::by(
+        fault,
+        line + 1,
+    ))?;
+    let sum = add_unit(numbers, u, q, s, up, down, above, sum);
+    Ok(UnitLines { next, sum })
 }
 
 // The leaf after its last line, where the units answered this: the next line starts at `next` and has this number.
@@ -89,24 +80,23 @@ fn end_ramp(
     line: usize,
     sum: Option<i64>,
     figures: TreeFigures,
-) -> Read
+) -> Result<NodeRead, BrokenLine>
     requires laid { Laid numbers.now }
     requires good_prices { GoodPrices (instance_in numbers.now).periods q.now s.now }
     requires small_least { SmallLeast sum × (1 ≤ line) × (figures.leaves < 2000000) }
     ensures { result ≡ ramp_ended next line figures (with_required (instance_in numbers.now) q.now s.now sum) }
 {
-    let least = with_requirement(numbers, q, s, sum);
-    let Some(v) = least else {
-        return Read::Refused {
+    let Some(value) = with_requirement(numbers, q, s, sum) else {
+        return Err(BrokenLine {
             number: 35,
             line: line - 1,
-        };
+        });
     };
-    Read::Tree {
+    Ok(NodeRead {
         next,
         line,
-        figures: figures.with_leaf(Some(v)),
-    }
+        figures: figures.with_leaf(Some(value)),
+    })
 }
 
 // The ramp leaf with the multipliers q and s whose units' lines start at `at`, the first of them with this number.
@@ -119,26 +109,24 @@ fn read_units(
     s: &[u64],
     above: &[u8],
     figures: TreeFigures,
-) -> Read
+) -> Result<NodeRead, BrokenLine>
     requires laid { Laid numbers.now × (2 ≤ (instance_in numbers.now).periods) }
     requires above_len { length above.now ≡ above_length }
     requires placed { Placed text.now at line figures }
     requires good_prices { GoodPrices (instance_in numbers.now).periods q.now s.now }
     ensures { result ≡ part_read (instance_in numbers.now) text.now at line figures (above_of (instance_in numbers.now) above.now) (with_steps q.now s.now []) }
 {
-    let units = units_in(numbers);
     let end = periods_in(numbers) + 1;
     let mut up = [0u64; 49];
     let mut down = [0u64; 49];
     let mut sum = Some(0);
-    let mut place = at;
+    let mut next = at;
     let mut here = line;
-    let mut u = 0;
-    while u < units {
-        let found = read_unit(
+    for u in 0..units_in(numbers) {
+        let lines = read_unit(
             numbers,
             text,
-            place,
+            next,
             here,
             u,
             q,
@@ -147,20 +135,12 @@ fn read_units(
             &mut down[..end],
             above,
             sum,
-        );
-        match found {
-            UnitRead::Refused { number, line } => {
-                return Read::Refused { number, line };
-            }
-            UnitRead::Passed { next, sum: more } => {
-                sum = more;
-                place = next;
-                here += 2;
-                u += 1;
-            }
-        }
+        )?;
+        sum = lines.sum;
+        next = lines.next;
+        here += 2;
     }
-    end_ramp(numbers, q, s, place, here, sum, figures)
+    end_ramp(numbers, q, s, next, here, sum, figures)
 }
 
 // The ramp leaf with the multipliers q, of two periods or more, whose reserve line starts at `at` and has this number.
@@ -172,7 +152,7 @@ fn read_ramp_reserve(
     q: [u64; 48],
     above: &[u8],
     figures: TreeFigures,
-) -> Read
+) -> Result<NodeRead, BrokenLine>
     requires laid { Laid numbers.now × (2 ≤ (instance_in numbers.now).periods) }
     requires above_len { length above.now ≡ above_length }
     requires placed { Placed text.now at line figures }
@@ -180,24 +160,19 @@ fn read_ramp_reserve(
     ensures { result ≡ part_read (instance_in numbers.now) text.now at line figures (above_of (instance_in numbers.now) above.now) (ramp_priced (take (instance_in numbers.now).periods q)) }
 {
     let n = periods_in(numbers);
-    let row = text::read_row(text, at, b"reserve=", n, Span::PRICE.least, Span::PRICE.most);
-    let verdict = row.verdict;
-    match verdict {
-        Verdict::Refused { number } => Read::Refused { number, line },
-        Verdict::Good { next } => {
-            let s = row.values;
-            read_units(
-                numbers,
-                text,
-                next,
-                line + 1,
-                &q[..n],
-                &s[..n],
-                above,
-                figures,
-            )
-        }
-    }
+    let row = text::read_row(text, at, b"reserve=", n, Span::PRICE.least, Span::PRICE.most).map_err(
+        |fault| BrokenLine::by(fault, line),
+    )?;
+    read_units(
+        numbers,
+        text,
+        row.next,
+        line + 1,
+        &q[..n],
+        &row.values[..n],
+        above,
+        figures,
+    )
 }
 
 // The ramp leaf whose rampprice line starts at `at` and has this number. In one period it is read as a price leaf is: no step is left.
@@ -208,7 +183,7 @@ pub fn read_ramp(
     line: usize,
     above: &[u8],
     figures: TreeFigures,
-) -> Read
+) -> Result<NodeRead, BrokenLine>
     requires laid { Laid numbers.now }
     requires above_len { length above.now ≡ above_length }
     requires placed { Placed text.now at line figures }
@@ -216,16 +191,27 @@ pub fn read_ramp(
     ensures { result ≡ leaf_read (instance_in numbers.now) text.now at line figures (above_of (instance_in numbers.now) above.now) }
 {
     let n = periods_in(numbers);
-    let row = text::read_row(text, at, b"rampprice=", n, Span::PRICE.least, Span::PRICE.most);
-    let verdict = row.verdict;
-    match verdict {
-        Verdict::Refused { number } => Read::Refused { number, line },
-        Verdict::Good { next } => {
-            let q = row.values;
-            if n == 1 {
-                return read_reserve(numbers, text, next, line + 1, q, above, figures);
-            }
-            read_ramp_reserve(numbers, text, next, line + 1, q, above, figures)
-        }
+    let row = text::read_row(text, at, b"rampprice=", n, Span::PRICE.least, Span::PRICE.most).map_err(
+        |fault| BrokenLine::by(fault, line),
+    )?;
+    if n == 1 {
+        return read_reserve(
+            numbers,
+            text,
+            row.next,
+            line + 1,
+            row.values,
+            above,
+            figures,
+        );
     }
+    read_ramp_reserve(
+        numbers,
+        text,
+        row.next,
+        line + 1,
+        row.values,
+        above,
+        figures,
+    )
 }

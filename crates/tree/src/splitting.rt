@@ -11,31 +11,29 @@ ghost use Rattle.tree.specs.ReadAnswers.{fork_line_read};
 
 use crate::above::{ForkLine, MOST_DEPTH, OFF, ON, Side, is_fixed};
 use layout::{periods_in, units_in};
-use text::Verdict;
 
-// The number that refuses a split on the status at a place (31, 32), or 0.
-fn refuse_split(above: &[u8], place: usize, depth: usize) -> u64
+// Whether the status at a place may be split on, or the number that refuses it (31, 32).
+fn refuse_split(above: &[u8], place: usize, depth: usize) -> Result<(), u64>
     requires { place < length above.now }
     ensures { result ≡ split_refusal above.now place depth }
 {
-    let status = above[place];
-    if is_fixed(status) {
-        return 31;
+    if is_fixed(above[place]) {
+        return Err(31);
     }
     if MOST_DEPTH < depth {
-        return 32;
+        return Err(32);
     }
-    0
+    Ok(())
 }
 
-// What the split line that starts at `at` is.
+// The split line that starts at `at`, or the number that refuses it.
 pub fn read_split_line(
     numbers: &[u64],
     text: &[u8],
     at: usize,
     depth: usize,
     above: &[u8],
-) -> ForkLine
+) -> Result<ForkLine, u64>
     requires laid { Laid numbers.now }
     requires above_len { length above.now ≡ above_length }
     requires text_len_bound { length text.now ≤ 1048576 }
@@ -44,27 +42,16 @@ pub fn read_split_line(
 {
     let units = units_in(numbers);
     let periods = periods_in(numbers);
-    let lows = [1u64, 1];
     let highs = [units as u64, periods as u64];
     let mut values = [0u64; 2];
-    let verdict = text::fill_line(text, at, b"split=", &lows, &highs, &mut values);
-    match verdict {
-        Verdict::Refused { number } => ForkLine::Refused { number },
-        Verdict::Good { next } => {
-            let unit = (values[0] - 1) as usize;
-            let period = (values[1] - 1) as usize;
-            let place = unit * periods + period;
-            let number = refuse_split(above, place, depth);
-            if number != 0 {
-                return ForkLine::Refused { number };
-            }
-            let first = Side { place, byte: OFF };
-            let second = Side { place, byte: ON };
-            ForkLine::Over {
-                first,
-                second,
-                next,
-            }
-        }
-    }
+    let next = text::fill_line(text, at, b"split=", &[1, 1], &highs, &mut values)?;
+    let unit = (values[0] - 1) as usize;
+    let period = (values[1] - 1) as usize;
+    let place = unit * periods + period;
+    refuse_split(above, place, depth)?;
+    Ok(ForkLine {
+        first: Side { place, byte: OFF },
+        second: Side { place, byte: ON },
+        next,
+    })
 }

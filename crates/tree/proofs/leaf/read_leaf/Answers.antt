@@ -1,5 +1,4 @@
 -- Each kind's own reader answers.
-use borrow.Author.Rules.{rules}
 use mathlib.Core.Path.{ap, ◌∙◌}
 use Rattle.tree.specs.Kinds.{leaf_kind}
 use Rattle.tree.proofs.leaf.read_leaf.Goals as goal

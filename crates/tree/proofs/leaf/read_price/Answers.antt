@@ -1,70 +1,61 @@
 -- The price line is read, and what follows it is the reserve line's to say.
 use borrow.Author.Rules.{rules}
-use mathlib.Core.Path.{◌≡◌, refl, ap, ◌∙◌}
+use mathlib.Core.Path.{◌≡◌, ap, ◌∙◌}
 use Prim.Native.Nat.{ℕ}
 use native.Mathlib.Omega.{arith}
 use lib.ListN.{take}
+use Rattle.std.specs.Prelude.{Err}
+use Rattle.std.proofs.lemmas.Result.{err_from_is_err_and}
 use Rattle.layout.specs.Numbers.{instance_in}
 use Rattle.walk.specs.Marks.{above_of}
 use Rattle.text.specs.Lines.{line_at}
-use Rattle.text.specs.Forms.{plain, row_of}
+use Rattle.text.specs.Forms.{plain, row_of, fault_number}
+use Rattle.tree.specs.declared.read.BrokenLine.{BrokenLine}
+use Rattle.tree.specs.ReadAnswers.{broken}
+use Rattle.tree.proofs.Mapped.{mapped_err, mapped_ok}
+use Rattle.tree.proofs.Rows.{row_refused, row_moved, taken_multipliers}
+use Rattle.tree.proofs.ReadLines.{moved_placed}
 use Rattle.tree.specs.Rendering.{price_key}
 use Rattle.tree.specs.Places.{priced}
 use Rattle.tree.specs.Refusals.{price_line, node_form}
-use Rattle.tree.proofs.Rows.{Moved, row_refused, row_moved, taken_multipliers}
-use Rattle.tree.proofs.ReadLines.{moved_placed}
 use Rattle.tree.proofs.WaysThrough.{node_refused, node_part}
 use Rattle.tree.proofs.Leaves.{line_refused, price_read}
 use Rattle.tree.proofs.leaf.read_price.Goals as goal
-use Rattle.tree.proofs.leaf.read_price.Tie as tie
-use Rattle.tree.proofs.leaf.read_price.Reads as reads
-use Rattle.tree.proofs.leaf.read_price.Lts as lts
 
-abbrev start : lts.After-read_row tie.the-claims reads.Pre reads.Post tie.handed_clauses → lts.Start tie.the-claims reads.Pre reads.Post tie.handed_clauses
-start c = c.before.before.before.before.before.before.before
-
--- the row is that of a price line of the problem
-is_row : (c : lts.After-read_row tie.the-claims reads.Pre reads.Post tie.handed_clauses) →
-    let a = (start c).args in
-    c.read_row-row.result ≡ row_of (node_form (instance_in a.numbers.now) price_line) (line_at a.text.now a.at) a.at
-is_row c =
-    let a = (start c).args in
-    c.read_row-row.ensures ∙ ap (λ (n : ℕ). row_of (plain price_key n 0 1000000000) (line_at a.text.now a.at) a.at) c.periods_in-periods.ensures
-
-moved : (c : lts.Past-After-known_told2 tie.the-claims reads.Pre reads.Post tie.handed_clauses) → Moved (start c.before).args.text.now (start c.before).args.at c.in-Good.next
-moved c =
-    let a = (start c.before).args in
-    row_moved (node_form (instance_in a.numbers.now) price_line) a.text.now a.at c.read_row-row.result (is_row c.before) c.in-Good.next c.in-Good.is
-
-pub periods_in-periods-requires : goal.periods_in-periods-requires
-periods_in-periods-requires c = c.requires.laid
-
-pub read_row-row-requires : goal.read_row-row-requires
-read_row-row-requires c =
-    let w = c.requires.laid.well_formed.periods_in in
-    (refl, (omega (arith, c.periods_in-periods.ensures, w.1), omega arith))
+pub returns-in_err-row : goal.returns-in_err-row
+returns-in_err-row c =
+    let a = c.args in
+    let P = instance_in a.numbers.now in
+    let A = above_of P a.above.now in
+    let is = c.read_row.ensures ∙ ap (λ (n : ℕ). row_of (plain price_key n 0 1000000000) (line_at a.text.now a.at) a.at) c.periods_in-periods.ensures in
+    let p = err_from_is_err_and c.from_residual.result c.from_residual.ensures.1 in
+    let m = mapped_err c.read_row.result c.map_err.result _ c.map_err.ensures.cases c.in_err-row.was in
+    let e : c.in_err-row.field-0.0 ≡ broken (fault_number m.fault) a.line = search (rules, m.met) in
+    rw (p.1, p.2) (ap (λ (x : BrokenLine). Err x) e ∙ node_refused P a.text.now a.at a.line a.figures A 0 _
+    (line_refused P a.text.now a.at A 0 price_line c.requires.at_value _ (row_refused (node_form P price_line) a.text.now a.at c.read_row.result is m.fault m.was)))
 
 pub read_reserve-requires : goal.read_reserve-requires
 read_reserve-requires c =
-    let s = start c.before.before.before in
-    let a = s.args in
-    record { laid = s.requires.laid; above_len = s.requires.above_len; placed = moved_placed a.text.now a.at a.line a.figures s.requires.placed c.in-Good.next (moved c.before.before) a.figures (omega arith); multipliers = taken_multipliers (instance_in a.numbers.now) price_key a.text.now a.at c.read_row-row.result (is_row c.before.before.before) c.in-Good.next c.in-Good.is }
-
-pub returns-in-Refused : goal.returns-in-Refused
-returns-in-Refused c =
-    let s = start c.before.before in
-    let a = s.args in
+    let a = c.args in
     let P = instance_in a.numbers.now in
     let A = above_of P a.above.now in
-    node_refused P a.text.now a.at a.line a.figures A 0 c.in-Refused.number
-    (line_refused P a.text.now a.at A 0 price_line s.requires.at_value c.in-Refused.number
-    (row_refused (node_form P price_line) a.text.now a.at c.read_row-row.result (is_row c.before.before) c.in-Refused.number c.in-Refused.is))
+    let is = c.read_row.ensures ∙ ap (λ (n : ℕ). row_of (plain price_key n 0 1000000000) (line_at a.text.now a.at) a.at) c.periods_in-periods.ensures in
+    let v = mapped_ok c.read_row.result c.map_err.result _ c.map_err.ensures.cases c.in_ok-row.was in
+    let row = c.in_ok-row.row in
+    record {
+      laid = c.requires.laid;
+      above_len = c.requires.above_len;
+      placed = moved_placed a.text.now a.at a.line a.figures c.requires.placed row.next (row_moved (node_form P price_line) a.text.now a.at c.read_row.result is row v) a.figures (omega arith);
+      multipliers = taken_multipliers P price_key a.text.now a.at c.read_row.result is row v;
+    }
 
-pub returns-in-Good : goal.returns-in-Good
-returns-in-Good c =
-    let s = start c.before.before.before.before in
-    let a = s.args in
+pub returns : goal.returns
+returns c =
+    let a = c.args in
     let P = instance_in a.numbers.now in
     let A = above_of P a.above.now in
-    node_part P a.text.now a.at a.line a.figures A 0 (priced (take P.periods c.read_row-row.result.values)) c.in-Good.next c.read_reserve.result
-    (price_read P a.text.now a.at A 0 s.requires.at_value c.read_row-row.result (is_row c.before.before.before.before) c.in-Good.next c.in-Good.is) (moved c.before.before.before) c.read_reserve.ensures
+    let is = c.read_row.ensures ∙ ap (λ (n : ℕ). row_of (plain price_key n 0 1000000000) (line_at a.text.now a.at) a.at) c.periods_in-periods.ensures in
+    let v = mapped_ok c.read_row.result c.map_err.result _ c.map_err.ensures.cases c.in_ok-row.was in
+    let row = c.in_ok-row.row in
+    node_part P a.text.now a.at a.line a.figures A 0 (priced (take P.periods row.values)) row.next c.read_reserve.result
+    (price_read P a.text.now a.at A 0 c.requires.at_value c.read_row.result is row v) (row_moved (node_form P price_line) a.text.now a.at c.read_row.result is row v) c.read_reserve.ensures

@@ -8,4 +8,4 @@ abbrev pub decreases-read_node : goal.decreases-read_node
 decreases-read_node l = 2 * unread l.text.now l.at
 
 abbrev pub decreases-read_split : goal.decreases-read_split
-decreases-read_split l = 2 * unread l.text.now l.at + 1
+decreases-read_split l = 2 * unread l.text.now l.fork.next + 1

@@ -1,5 +1,4 @@
 -- The keys are tried in the order of the definition.
-use borrow.Author.Rules.{rules}
 use mathlib.Core.Path.{sym, ◌∙◌}
 use mathlib.Core.Bool.{false}
 use Rattle.tree.specs.Rendering.{split_key, count_key, short_key, crowd_key, stuck_key, rampprice_key}

@@ -1,6 +1,5 @@
 -- The line's two numbers less 1 are the unit and the period, whose status has a place among the bytes.
-use borrow.Author.Rules.{rules}
-use mathlib.Core.Path.{◌≡◌, refl, sym, ap, ◌∙◌}
+use mathlib.Core.Path.{◌≡◌, refl, ap, ◌∙◌}
 use mathlib.Core.Bool.{true, cond}
 use mathlib.Core.List.{List, [], ◌∷◌}
 use Prim.Native.Nat.{ℕ, ◌+◌, ◌*◌, ◌-◌, ◌<◌}
@@ -8,50 +7,28 @@ use native.Mathlib.Omega.{arith}
 use lib.Dec.{ltb}
 use lib.ListN.{length}
 use borrow.Author.Tests.{lt-ltb}
+use Rattle.std.specs.Prelude.{Result, Ok, Err}
+use Rattle.std.proofs.lemmas.Result.{err_from_is_err_and}
 use Rattle.model.specs.Instance.{Instance, ◌at◌}
 use Rattle.model.specs.Ranges.{WellFormed}
 use Rattle.layout.specs.Numbers.{instance_in}
 use Rattle.walk.specs.Marks.{above_of}
-use Rattle.walk.proofs.AboveMarks.{marks_same}
 use Rattle.text.specs.Lines.{line_at}
-use Rattle.text.specs.declared.Verdict.{Verdict}
-use Rattle.text.specs.Forms.{form, row_of, all_below}
+use Rattle.text.specs.Forms.{form, verdict_of, all_below}
+use Rattle.text.specs.Scan.{stored_at}
+use Rattle.text.specs.declared.Fault.{Fault}
 use Rattle.text.proofs.Fills.{Filled, filled}
 use Rattle.text.proofs.Verdicts.{ruled_refused}
-use Rattle.tree.specs.Rendering.{split_key}
-use Rattle.tree.specs.NodeLines.{is_fixed}
-use Rattle.tree.specs.Refusals.{split_line, node_form}
-use Rattle.tree.specs.Coded.{split_refusal}
-use Rattle.tree.proofs.Places.{place_inside}
+use Rattle.walk.proofs.AboveMarks.{marks_same}
 use Rattle.tree.specs.declared.forking.ForkKind.TheVariants.{Split}
+use Rattle.tree.specs.Rendering.{split_key}
+use Rattle.tree.specs.Refusals.{split_line, node_form}
+use Rattle.tree.specs.NodeLines.{is_fixed}
+use Rattle.tree.specs.Coded.{split_refusal}
 use Rattle.tree.proofs.Keys.{split_begins}
-use Rattle.tree.proofs.ForkLines.{SplitValues, split_values, fork_refused, split_fails, split_good}
+use Rattle.tree.proofs.Places.{place_inside}
+use Rattle.tree.proofs.ForkLines.{split_values, fork_refused, split_fails, split_good}
 use Rattle.tree.proofs.splitting.read_split_line.Goals as goal
-use Rattle.text.specs.declared.Verdict.TheVariants.{Good}
-use Rattle.tree.proofs.splitting.read_split_line.Tie as tie
-use Rattle.tree.proofs.splitting.read_split_line.Reads as reads
-use Rattle.tree.proofs.splitting.read_split_line.Lts as lts
-
-abbrev start : lts.After-fill_line tie.the-claims reads.Pre reads.Post tie.handed_clauses → lts.Start tie.the-claims reads.Pre reads.Post tie.handed_clauses
-start c = c.before.before.before.before.before.before.before.before.before.before.before
-
--- the units and the periods that the code counts
-units_are : (c : lts.After-fill_line tie.the-claims reads.Pre reads.Post tie.handed_clauses) → c.units_in-units.result ≡ length (instance_in (start c).args.numbers.now).units
-units_are c = c.units_in-units.ensures
-
-periods_are : (c : lts.After-fill_line tie.the-claims reads.Pre reads.Post tie.handed_clauses) → c.periods_in-periods.result ≡ (instance_in (start c).args.numbers.now).periods
-periods_are c = c.periods_in-periods.ensures
-
--- the verdict is that of a split line of the problem
-is_verdict : (c : lts.After-fill_line tie.the-claims reads.Pre reads.Post tie.handed_clauses) →
-    let a = (start c).args in
-    c.fill_line-verdict.result ≡ (row_of (node_form (instance_in a.numbers.now) split_line) (line_at a.text.now a.at) a.at).verdict
-is_verdict c =
-    let a = (start c).args in
-    let due : ℕ → ℕ → Verdict = λ u t. (row_of (form split_key 0 (1 ∷ 1 ∷ []) (u ∷ t ∷ [])) (line_at a.text.now a.at) a.at).verdict in
-    c.fill_line-verdict.ensures.answer
-    ∙ ap (λ (u : ℕ). due u c.periods_in-periods.result) (units_are c)
-    ∙ ap (λ (t : ℕ). due (length (instance_in a.numbers.now).units) t) (periods_are c)
 
 -- neither count has too many digits
 counts-low : (P : Instance) → WellFormed P → all_below (length P.units ∷ P.periods ∷ []) ≡ true
@@ -60,105 +37,122 @@ counts-low P W =
     let b = W.periods_in in
     simp (lt-ltb (length P.units) 10000000000 (omega arith), lt-ltb P.periods 10000000000 (omega arith))
 
-abbrev filling : lts.Past-After-known_told2 tie.the-claims reads.Pre reads.Post tie.handed_clauses → lts.After-fill_line tie.the-claims reads.Pre reads.Post tie.handed_clauses
-filling c = c.before.before
+module _ (P : Instance) (text : List ℕ) (here : ℕ) where
+  -- the verdict is that of a split line of the problem, u and t being its units and periods
+  is_split : {u t : ℕ} → u ≡ length P.units → t ≡ P.periods → (v : Result ℕ Fault) → v ≡ verdict_of (form split_key 0 (1 ∷ 1 ∷ []) (u ∷ t ∷ [])) (line_at text here) here
+      → v ≡ verdict_of (node_form P split_line) (line_at text here) here
+  is_split e f v h = h ∙ (λ i. verdict_of (form split_key 0 (1 ∷ 1 ∷ []) (e i ∷ f i ∷ [])) (line_at text here) here)
 
--- what a good line leaves
-left_of : (f : lts.After-fill_line tie.the-claims reads.Pre reads.Post tie.handed_clauses) (next : ℕ) → f.fill_line-verdict.result ≡ Good next →
-    let a = (start f).args in
-    Filled (node_form (instance_in a.numbers.now) split_line) (line_at a.text.now a.at) a.at next f.fill_line-verdict.new.out
-left_of f next is =
-    let s = start f in
-    let a = s.args in
-    let P = instance_in a.numbers.now in
-    filled split_key (1 ∷ 1 ∷ []) (length P.units ∷ P.periods ∷ []) a.text.now (0 ∷ 0 ∷ []) a.at refl (counts-low P s.requires.laid.well_formed) refl f.fill_line-verdict.ensures.stored (is_verdict f)
-    is
-
-abbrev numbers : lts.Past-After-known_told2 tie.the-claims reads.Pre reads.Post tie.handed_clauses → List ℕ
-numbers c = (filling c).fill_line-verdict.new.out
-
-left : (c : lts.Past-After-known_told2 tie.the-claims reads.Pre reads.Post tie.handed_clauses) →
-    let a = (start (filling c)).args in
-    Filled (node_form (instance_in a.numbers.now) split_line) (line_at a.text.now a.at) a.at c.in-Good.next (filling c).fill_line-verdict.new.out
-left c = left_of (filling c) c.in-Good.next c.in-Good.is
-
--- the unit and the period that it names
-values_of : (f : lts.After-fill_line tie.the-claims reads.Pre reads.Post tie.handed_clauses) (next : ℕ) (is : f.fill_line-verdict.result ≡ Good next) →
-    let a = (start f).args in
-    SplitValues (instance_in a.numbers.now) a.text.now a.at (left_of f next is).line_good f.fill_line-verdict.new.out (left_of f next is).values
-values_of f next is =
-    let a = (start f).args in
-    split_values (instance_in a.numbers.now) a.text.now a.at (left_of f next is).line_good f.fill_line-verdict.new.out (left_of f next is).values
-
-values : (c : lts.Past-After-known_told2 tie.the-claims reads.Pre reads.Post tie.handed_clauses) →
-    let a = (start (filling c)).args in
-    SplitValues (instance_in a.numbers.now) a.text.now a.at (left_of (filling c) c.in-Good.next c.in-Good.is).line_good (filling c).fill_line-verdict.new.out (left_of (filling c) c.in-Good.next c.in-Good.is).values
-values c = values_of (filling c) c.in-Good.next c.in-Good.is
-
-inside : (c : lts.Past-After-known_told2 tie.the-claims reads.Pre reads.Post tie.handed_clauses) →
-    let f = filling c in
-    (numbers c at 0 - 1) * f.periods_in-periods.result + (numbers c at 1 - 1) < length (start f).args.above.now
-inside c =
-    let s = start (filling c) in
-    let w = values c in
-    omega (arith, place_inside (instance_in s.args.numbers.now) s.requires.laid.well_formed _ _ _ (periods_are (filling c)) w.unit w.period, s.requires.above_len)
+  -- what a good line leaves
+  left : WellFormed P → (v : Result ℕ Fault) → v ≡ verdict_of (node_form P split_line) (line_at text here) here → {next : ℕ} → v ≡ Ok next → {out : List ℕ}
+      → out ≡ stored_at split_key text here (0 ∷ 0 ∷ []) → Filled (node_form P split_line) (line_at text here) here next out
+  left W v is good stored = filled split_key (1 ∷ 1 ∷ []) (length P.units ∷ P.periods ∷ []) text (0 ∷ 0 ∷ []) here refl (counts-low P W) refl stored is good
 
 -- the number by the model's marks
-number_is : (c : lts.After-refuse_split tie.the-claims reads.Pre reads.Post tie.handed_clauses) →
-    let a = (start (filling c.before)).args in
-    c.refuse_split-number.result
-    ≡ cond (is_fixed ((above_of (instance_in a.numbers.now) a.above.now).marks (numbers c.before at 0 - 1) (numbers c.before at 1 - 1))) 31 (cond (ltb 63 a.depth) 32 0)
+number_is : (P : Instance) (bytes : List ℕ) (n U t d : ℕ) → n ≡ P.periods → U < length P.units → t < P.periods →
+    split_refusal bytes (U * n + t) d ≡ cond (is_fixed ((above_of P bytes).marks U t)) (Err 31) (cond (ltb 63 d) (Err 32) (Ok tt))
 unfolding split_refusal
-number_is c =
-    let a = (start (filling c.before)).args in
-    let P = instance_in a.numbers.now in
-    c.refuse_split-number.ensures
-    ∙ ap (λ (n : ℕ). split_refusal a.above.now ((numbers c.before at 0 - 1) * n + (numbers c.before at 1 - 1)) a.depth) (periods_are (filling c.before))
-    ∙ ap (λ (m : _). cond (is_fixed m) 31 (cond (ltb 63 a.depth) 32 0))
-    (marks_same (length P.units) P.periods a.above.now (numbers c.before at 0 - 1) (values c.before).unit (numbers c.before at 1 - 1) (values c.before).period)
+number_is P bytes n U t d e h k =
+    ap (λ (n : ℕ). split_refusal bytes (U * n + t) d) e
+    ∙ ap (λ (m : _). cond (is_fixed m) (Err 31) (cond (ltb 63 d) (Err 32) (Ok tt))) (marks_same (length P.units) P.periods bytes U h t k)
 
-pub units_in-units-requires : goal.units_in-units-requires
-units_in-units-requires c = c.requires.laid
-
-pub periods_in-periods-requires : goal.periods_in-periods-requires
-periods_in-periods-requires c = c.requires.laid
-
-pub fill_line-verdict-requires : goal.fill_line-verdict-requires
-fill_line-verdict-requires c =
+pub fill_line-requires : goal.fill_line-requires
+fill_line-requires c =
     let low = counts-low (instance_in c.args.numbers.now) c.requires.laid.well_formed in
     record { key_value = (refl, (omega arith, (refl, (rw (c.units_in-units.ensures, c.periods_in-periods.ensures) low, refl)))); s_value = split_begins c.args.text.now c.args.at c.requires.at_value }
 
+pub returns-in_err-next : goal.returns-in_err-next
+returns-in_err-next c =
+    let a = c.args in
+    let P = instance_in a.numbers.now in
+    let A = above_of P a.above.now in
+    let is = is_split P a.text.now a.at c.units_in-units.ensures c.periods_in-periods.ensures c.fill_line.result c.fill_line.ensures.answer in
+    let p = err_from_is_err_and c.from_residual.result c.from_residual.ensures.1 in
+    rw (p.1, p.2) (fork_refused P a.text.now a.at A a.depth Split _ (ruled_refused (node_form P split_line) (line_at a.text.now a.at) a.at c.fill_line.result is _ c.in_err-next.was))
+
 pub overflow_sub-unit : goal.overflow_sub-unit
-overflow_sub-unit c = (values_of c.before.before.before c.in-Good.next c.in-Good.is).low_unit
+overflow_sub-unit c =
+    let a = c.args in
+    let P = instance_in a.numbers.now in
+    let A = above_of P a.above.now in
+    let is = is_split P a.text.now a.at c.units_in-units.ensures c.periods_in-periods.ensures c.fill_line.result c.fill_line.ensures.answer in
+    let g = left P a.text.now a.at c.requires.laid.well_formed c.fill_line.result is c.in_ok-next.was c.fill_line.ensures.stored in
+    let vs = c.fill_line.new.out in
+    let w = split_values P a.text.now a.at g.line_good vs g.values in
+    w.low_unit
 
 pub overflow_sub-period : goal.overflow_sub-period
-overflow_sub-period c = (values c.before).low_period
+overflow_sub-period c =
+    let a = c.args in
+    let P = instance_in a.numbers.now in
+    let A = above_of P a.above.now in
+    let is = is_split P a.text.now a.at c.units_in-units.ensures c.periods_in-periods.ensures c.fill_line.result c.fill_line.ensures.answer in
+    let g = left P a.text.now a.at c.requires.laid.well_formed c.fill_line.result is c.in_ok-next.was c.fill_line.ensures.stored in
+    let vs = c.fill_line.new.out in
+    let w = split_values P a.text.now a.at g.line_good vs g.values in
+    w.low_period
 
 pub overflow_mul-place : goal.overflow_mul-place
-overflow_mul-place c = let p = (start (filling c.before)).requires.above_len in omega (arith, inside c.before)
+overflow_mul-place c =
+    let a = c.args in
+    let P = instance_in a.numbers.now in
+    let A = above_of P a.above.now in
+    let is = is_split P a.text.now a.at c.units_in-units.ensures c.periods_in-periods.ensures c.fill_line.result c.fill_line.ensures.answer in
+    let g = left P a.text.now a.at c.requires.laid.well_formed c.fill_line.result is c.in_ok-next.was c.fill_line.ensures.stored in
+    let vs = c.fill_line.new.out in
+    let w = split_values P a.text.now a.at g.line_good vs g.values in
+    let k = place_inside P c.requires.laid.well_formed c.periods_in-periods.result (vs at 0 - 1) (vs at 1 - 1) c.periods_in-periods.ensures w.unit w.period in
+    let long = c.requires.above_len in
+    omega (arith, k)
 
 pub overflow_add-place : goal.overflow_add-place
-overflow_add-place c = let p = (start (filling c.before)).requires.above_len in omega (arith, inside c.before)
-
-pub refuse_split-number-requires : goal.refuse_split-number-requires
-refuse_split-number-requires c = inside c.before
-
-pub returns-then-number-ne0 : goal.returns-then-number-ne0
-returns-then-number-ne0 c =
-    let a = (start (filling c.before.before.before)).args in
-    split_fails (instance_in a.numbers.now) a.text.now a.at (above_of (instance_in a.numbers.now) a.above.now) a.depth (left c.before.before.before).line_good (numbers c.before.before.before) (left c.before.before.before).values
-    c.refuse_split-number.result (number_is c.before.before) c.if-number-ne0.true
-
-pub returns-in-Refused : goal.returns-in-Refused
-returns-in-Refused c =
-    let a = (start c.before.before.before).args in
+overflow_add-place c =
+    let a = c.args in
     let P = instance_in a.numbers.now in
-    fork_refused P a.text.now a.at (above_of P a.above.now) a.depth Split c.in-Refused.number
-    (ruled_refused (node_form P split_line) (line_at a.text.now a.at) a.at c.fill_line-verdict.result (is_verdict c.before.before.before) c.in-Refused.number c.in-Refused.is)
+    let A = above_of P a.above.now in
+    let is = is_split P a.text.now a.at c.units_in-units.ensures c.periods_in-periods.ensures c.fill_line.result c.fill_line.ensures.answer in
+    let g = left P a.text.now a.at c.requires.laid.well_formed c.fill_line.result is c.in_ok-next.was c.fill_line.ensures.stored in
+    let vs = c.fill_line.new.out in
+    let w = split_values P a.text.now a.at g.line_good vs g.values in
+    let k = place_inside P c.requires.laid.well_formed c.periods_in-periods.result (vs at 0 - 1) (vs at 1 - 1) c.periods_in-periods.ensures w.unit w.period in
+    let long = c.requires.above_len in
+    omega (arith, k)
 
-pub returns-else-number-ne0 : goal.returns-else-number-ne0
-returns-else-number-ne0 c =
-    let a = (start (filling c.before.before.before)).args in
+pub refuse_split-requires : goal.refuse_split-requires
+refuse_split-requires c =
+    let a = c.args in
     let P = instance_in a.numbers.now in
-    split_good P a.text.now a.at (above_of P a.above.now) a.depth (left c.before.before.before).line_good (numbers c.before.before.before) (left c.before.before.before).values
-    (sym (number_is c.before.before) ∙ c.if-number-ne0.false) _ c.in-Good.next (periods_are (filling c.before.before.before)) (left c.before.before.before).next_is
+    let A = above_of P a.above.now in
+    let is = is_split P a.text.now a.at c.units_in-units.ensures c.periods_in-periods.ensures c.fill_line.result c.fill_line.ensures.answer in
+    let g = left P a.text.now a.at c.requires.laid.well_formed c.fill_line.result is c.in_ok-next.was c.fill_line.ensures.stored in
+    let vs = c.fill_line.new.out in
+    let w = split_values P a.text.now a.at g.line_good vs g.values in
+    let k = place_inside P c.requires.laid.well_formed c.periods_in-periods.result (vs at 0 - 1) (vs at 1 - 1) c.periods_in-periods.ensures w.unit w.period in
+    let long = c.requires.above_len in
+    omega (arith, k, long)
+
+pub returns-in_err-refuse_split : goal.returns-in_err-refuse_split
+returns-in_err-refuse_split c =
+    let a = c.args in
+    let P = instance_in a.numbers.now in
+    let A = above_of P a.above.now in
+    let is = is_split P a.text.now a.at c.units_in-units.ensures c.periods_in-periods.ensures c.fill_line.result c.fill_line.ensures.answer in
+    let g = left P a.text.now a.at c.requires.laid.well_formed c.fill_line.result is c.in_ok-next.was c.fill_line.ensures.stored in
+    let vs = c.fill_line.new.out in
+    let w = split_values P a.text.now a.at g.line_good vs g.values in
+    let p = err_from_is_err_and c.from_residual-in_err-refuse_split.result c.from_residual-in_err-refuse_split.ensures.1 in
+    rw (p.1, p.2) (split_fails P a.text.now a.at A a.depth g.line_good vs g.values c.refuse_split.result
+    (c.refuse_split.ensures ∙ number_is P a.above.now _ (vs at 0 - 1) (vs at 1 - 1) a.depth c.periods_in-periods.ensures w.unit w.period) _ c.in_err-refuse_split.was)
+
+pub returns : goal.returns
+returns c =
+    let a = c.args in
+    let P = instance_in a.numbers.now in
+    let A = above_of P a.above.now in
+    let is = is_split P a.text.now a.at c.units_in-units.ensures c.periods_in-periods.ensures c.fill_line.result c.fill_line.ensures.answer in
+    let g = left P a.text.now a.at c.requires.laid.well_formed c.fill_line.result is c.in_ok-next.was c.fill_line.ensures.stored in
+    let vs = c.fill_line.new.out in
+    let w = split_values P a.text.now a.at g.line_good vs g.values in
+    split_good P a.text.now a.at A a.depth g.line_good vs g.values c.refuse_split.result
+    (c.refuse_split.ensures ∙ number_is P a.above.now _ (vs at 0 - 1) (vs at 1 - 1) a.depth c.periods_in-periods.ensures w.unit w.period) _ c.in_ok-refuse_split.was
+    _ c.in_ok-next.next c.periods_in-periods.ensures g.next_is

@@ -1,5 +1,4 @@
 -- 31 first, then 32.
-use borrow.Author.Rules.{rules}
 use mathlib.Core.Path.{refl, sym, ◌∙◌}
 use borrow.Author.Tests.{lt-ltb, le-ltb}
 use Rattle.tree.specs.Coded.{split_refusal}
