@@ -5,7 +5,7 @@ ghost use Rattle.docket.specs.Lodging.{lodge_of};
 use crate::orders::Order;
 use crate::{questions, show, texts, words};
 use docket::Docket;
-use docket::held::{BoundBy, CostBy, Held, HeldBound, HeldCost};
+use docket::held::{BoundBy, CostBy, Held, HeldBound};
 
 // The docket in hand, and those that are kept under 1 to 7.
 #[derive(Clone, Copy)]
@@ -86,7 +86,7 @@ fn with_cost(d: Docket, cost: u64, writer: u64) -> Docket {
     let old = d.held;
     let bound = old.bound;
     let held = Held {
-        cost: HeldCost::Number(CostBy { cost, writer }),
+        cost: Some(CostBy { cost, writer }),
         bound,
     };
     after.held = held;

@@ -3,14 +3,13 @@ ghost use Rattle.std.specs.Prelude.{◌≡◌, ◌≤◌};
 ghost use Rattle.docket.specs.Lodging.{lodge_of};
 
 use answer::Answer;
-use docket::held::{HeldBound, HeldCost};
+use docket::held::{CostBy, HeldBound};
 use docket::taking::TakenAnswer;
 use docket::{Docket, Lodged};
 use leaves::short::Taken;
 use model::arrays::Problem;
 use model::figures::{Bound, TreeFigures};
 use refusal::Refusal;
-use report::ReportAnswer;
 use writer::Figure;
 
 // The file number of standard output.
@@ -109,11 +108,11 @@ fn print_problem(known: bool, problem: Problem) {
 }
 
 // Prints the held cost and its writer, or none.
-fn print_cost(cost: HeldCost) {
+fn print_cost(cost: Option<CostBy>) {
     print(b" cost=");
     match cost {
-        HeldCost::Nothing => print(b"none"),
-        HeldCost::Number(n) => {
+        None => print(b"none"),
+        Some(n) => {
             print_number(n.cost);
             print_value(n.writer);
         }
@@ -218,15 +217,15 @@ fn print_bytes(s: &[u8]) {
 }
 
 // Prints the answer to a report that was asked for.
-fn print_report(answer: ReportAnswer) {
+fn print_report(answer: Result<usize, Refusal>) {
     match answer {
-        ReportAnswer::Refused(r) => print_refusal(r),
-        ReportAnswer::Written(n) => print_number(n as u64),
+        Err(r) => print_refusal(r),
+        Ok(n) => print_number(n as u64),
     }
 }
 
 // Prints a line: the case's name, the answer, and the buffer.
-fn print_reported(name: &[u8], answer: ReportAnswer, buffer: &[u8]) {
+fn print_reported(name: &[u8], answer: Result<usize, Refusal>, buffer: &[u8]) {
     print(name);
     print(b": ");
     print_report(answer);
