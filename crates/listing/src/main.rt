@@ -4,7 +4,6 @@
 
 ghost use Rattle.std.specs.Prelude.{◌≡◌, length};
 
-use list::Listed;
 
 // The file number of standard input.
 const STDIN: i32 = 0;
@@ -30,11 +29,7 @@ fn main() {
     let mut input = input_room();
     let mut output = output_room();
     let n = io::read_full(STDIN, &mut input);
-    let listed = list::list(&input[..n], &mut output);
-    match listed {
-        Listed::TooSmall => {}
-        Listed::Written(k) => {
-            io::write_all(STDOUT, &output[..k]);
-        }
+    if let Some(k) = list::list(&input[..n], &mut output) {
+        io::write_all(STDOUT, &output[..k]);
     }
 }
