@@ -25,7 +25,7 @@ use Rattle.docket.specs.Texts.{Are}
 use Rattle.docket.specs.Lodging.{lodge_of}
 use Rattle.docket.specs.Report.{text_shown, report_of, buffer_of}
 use Rattle.docket.specs.ReportDue.{WrittenOr43, ReportDue}
-use Rattle.docket.specs.Promised.{after, answer}
+use Rattle.docket.specs.Promised.{after}
 use Rattle.docket.specs.Taking.{taken_of}
 use Rattle.docket.specs.Drafting.{runs_of}
 use Rattle.docket.specs.Forcing.{forced_of}

@@ -1,4 +1,5 @@
 -- A docket that keeps the last of equal schedules, or of equal trees, breaks demand 3, however it reports: the same text by another writer is passed.
+use Rattle.std.specs.Prelude.{None, Option, Some}
 use mathlib.Core.Path.{◌≡◌, refl, sym, subst}
 use mathlib.Core.Bool.{Bool, true, false, not, cond}
 use Prim.Native.Nat.{ℕ}
@@ -14,8 +15,6 @@ use Rattle.model.specs.declared.figures.TreeFigures.{TreeFigures}
 use Rattle.model.proofs.Integers.{ltZ→nat}
 use Rattle.docket.specs.declared.Docket.{Docket}
 use Rattle.docket.specs.declared.held.CostBy.{CostBy}
-use Rattle.docket.specs.declared.held.HeldCost.{HeldCost}
-use Rattle.docket.specs.declared.held.HeldCost.TheVariants as held_cost
 use Rattle.docket.specs.declared.held.HeldBound.{HeldBound}
 use Rattle.docket.specs.declared.held.HeldBound.TheVariants as held_bound
 use Rattle.answer.specs.declared.Answer.TheVariants.{ScheduleHeld, SchedulePassed, TreeHeld, TreePassed}
@@ -45,14 +44,14 @@ module _ (d : Docket) (s : Costed) where
       let z : ◌≡◌ {A = ℕ} 0 1 = cc in
       omega arith
 
-  told_held : (by : CostBy) (h : HeldCost) → h ≡ held_cost.Number by → Carries (told d s (wrong.not_more s.cost h)) (its_cost by.cost)
+  told_held : (by : CostBy) (h : Option CostBy) → h ≡ Some by → Carries (told d s (wrong.not_more s.cost h)) (its_cost by.cost)
       → IsHeld (told d s (wrong.not_more s.cost h))
-  told_held by held_cost.Nothing e c = tt
-  told_held by (held_cost.Number n) e c =
+  told_held by None e c = tt
+  told_held by (Some n) e c =
       let q : by.cost ≡ n.cost = cc in
       told_number n.cost (leb s.cost n.cost) refl (subst (λ (x : ℕ). Carries (told d s (leb s.cost n.cost)) (its_cost x)) q c)
 
-last_held : (d : Docket) (by : CostBy) (v : Verdict) → d.held.cost ≡ held_cost.Number by → Carries (stated (wrong.hold_last d v).answer) (its_cost by.cost)
+last_held : (d : Docket) (by : CostBy) (v : Verdict) → d.held.cost ≡ Some by → Carries (stated (wrong.hold_last d v).answer) (its_cost by.cost)
     → IsHeld (stated (wrong.hold_last d v).answer)
 last_held d by (refused r) e c = absurd c
 last_held d by (problem P) e c = tt

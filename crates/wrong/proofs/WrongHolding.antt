@@ -1,5 +1,6 @@
 -- Each wrong way of holding that is written out does what document 01 forbids, so demand 3 does not hold of it, however it reports. Up to the problem they
 -- hold what they should, so the docket after one text more is computed.
+use Rattle.std.specs.Prelude.{Some}
 use mathlib.Core.Path.{◌≡◌, refl, sym, ap, ◌∙◌}
 use mathlib.Core.Bool.{true}
 use mathlib.Core.List.Memᴰ
@@ -24,7 +25,6 @@ use Rattle.problem.proofs.Examples.{example, example_formed}
 use Rattle.docket.specs.declared.Docket.{Docket}
 use Rattle.docket.specs.declared.Lodged.{Lodged}
 use Rattle.docket.specs.declared.held.CostBy.{CostBy}
-use Rattle.docket.specs.declared.held.HeldCost.TheVariants as held_cost
 use Rattle.docket.specs.Docket.{fresh_docket}
 use Rattle.docket.specs.Verdicts.{Verdict, problem, schedule, tree}
 use Rattle.docket.specs.Texts.{Is}
@@ -84,7 +84,7 @@ rows_lost_fails D = states.other_schedule wrong.rows_lost D (record {
       omega arith;
 })
 
-one_writer_is : (a b : CostBy) → held_cost.Number a ≡ held_cost.Number b → a.writer ≡ b.writer
+one_writer_is : (a b : CostBy) → Some a ≡ Some b → a.writer ≡ b.writer
 one_writer_is a b e = cc
 
 pub one_writer_fails : {report : Reporting} {buffer : Writing} → Demand3 wrong.one_writer report buffer → ⊥

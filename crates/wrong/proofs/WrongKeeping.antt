@@ -1,4 +1,5 @@
 -- Each way of lodging that answers as it should and leaves something else breaks demand 3, however it reports.
+use Rattle.std.specs.Prelude.{Option, Some}
 use mathlib.Core.Bool.{cond}
 use mathlib.Core.Path.{◌≡◌, sym, ap, subst, ◌∙◌}
 use mathlib.Core.List.{List, [], ◌∷◌}
@@ -8,8 +9,6 @@ use Rattle.model.specs.Figures.{Bound}
 use Rattle.std.specs.Prelude.{None as never}
 use Rattle.docket.specs.declared.Docket.{Docket}
 use Rattle.docket.specs.declared.held.CostBy.{CostBy}
-use Rattle.docket.specs.declared.held.HeldCost.{HeldCost}
-use Rattle.docket.specs.declared.held.HeldCost.TheVariants as cost
 use Rattle.docket.specs.declared.held.HeldBound.{HeldBound}
 use Rattle.docket.specs.declared.held.HeldBound.TheVariants as bound
 use Rattle.answer.specs.declared.Answer.{Answer}
@@ -29,8 +28,8 @@ use Rattle.wrong.proofs.WrongStates as states
 pub keeping_first_fails : {report : Reporting} {buffer : Writing} → Demand3 wrong.keeping_first report buffer → ⊥
 keeping_first_fails D = states.keeps_first wrong.keeping_first D (λ texts text by e. stays (reached wrong.keeping_first texts) text by e)
   where
-    stays : (d : Docket) (text : List ℕ) (by : CostBy) → d.held.cost ≡ cost.Number by → (wrong.keeping_first d text).docket.held.cost ≡ cost.Number by
-    stays d text by e = ap (λ (c : HeldCost). (cond (no_cost c) (lodge_of d text) (lodged d (lodge_of d text).answer)).docket.held.cost) e ∙ e
+    stays : (d : Docket) (text : List ℕ) (by : CostBy) → d.held.cost ≡ Some by → (wrong.keeping_first d text).docket.held.cost ≡ Some by
+    stays d text by e = ap (λ (c : Option CostBy). (cond (no_cost c) (lodge_of d text) (lodged d (lodge_of d text).answer)).docket.held.cost) e ∙ e
 
 pub keeping_first_bound_fails : {report : Reporting} {buffer : Writing} → Demand3 wrong.keeping_first_bound report buffer → ⊥
 keeping_first_bound_fails D = states.keeps_first_bound wrong.keeping_first_bound D (λ texts text b i.

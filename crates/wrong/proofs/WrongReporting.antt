@@ -1,4 +1,5 @@
 -- Each wrong way of reporting that is written out breaks demand 3, however texts are lodged.
+use Rattle.std.specs.Prelude.{Ok, Err}
 use mathlib.Core.Path.{◌≡◌, refl, sym, ap, ◌∙◌}
 use mathlib.Core.Bool.{Bool, true, false, cond}
 use mathlib.Core.List.{List, [], ◌∷◌, ◌++◌, flatten}
@@ -16,7 +17,6 @@ use Rattle.writer.specs.declared.Figure.{Figure}
 use Rattle.writer.specs.declared.Figure.TheVariants.{Missing, Never, Number, Minus}
 use Rattle.report.specs.Report.{report_lines, has_room, put_at, written_at, placed_at}
 use Rattle.report.specs.declared.Figures as shown
-use Rattle.report.specs.declared.ReportAnswer.TheVariants.{Refused, Written}
 use Rattle.problem.proofs.Examples.{example}
 use Rattle.report.specs.StatedReports.{its_length, report_stated}
 use Rattle.docket.specs.declared.Docket.{Docket}
@@ -57,7 +57,7 @@ shown_by lodge f texts g s = go (has_room s.b s.k l) s.answer_is s.buffer_is
     l : List ℕ
     l = report_lines (f (reached lodge texts))
 
-    go : (t : Bool) → report_stated (cond t (Written (length l)) (Refused (refusal_of 43 0 0 0))) ≡ its_length (length (report_lines g))
+    go : (t : Bool) → report_stated (cond t (Ok (length l)) (Err (refusal_of 43 0 0 0))) ≡ its_length (length (report_lines g))
         → cond t (put_at s.b s.k l) s.b ≡ take s.k s.b ++ (report_lines g ++ drop (s.k + length (report_lines g)) s.b)
         → g ≡ f (reached lodge texts)
     go true a e =

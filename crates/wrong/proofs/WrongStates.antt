@@ -1,4 +1,5 @@
 -- Demand 3 refutes each wrong docket that holds otherwise: what a list leaves is the docket that its verdicts determine.
+use Rattle.std.specs.Prelude.{None, Some}
 use mathlib.Core.Path.{◌≡◌, refl, sym, ap, subst, ◌∙◌}
 use mathlib.Core.List.{List, [], ◌∷◌}
 use mathlib.Core.Option.{Option, none, some}
@@ -19,7 +20,6 @@ use Rattle.tree.specs.Acceptance.{Bounded}
 use Rattle.docket.specs.declared.Docket.{Docket}
 use Rattle.docket.specs.declared.held.CostBy.{CostBy}
 use Rattle.docket.specs.declared.held.Held.{Held}
-use Rattle.docket.specs.declared.held.HeldCost.TheVariants as cost
 use Rattle.docket.specs.declared.held.HeldBound.{HeldBound}
 use Rattle.docket.specs.Verdicts.{Costed, Verdict, schedules, trees, known_at_end}
 use Rattle.docket.specs.Texts.{Are}
@@ -35,10 +35,10 @@ use Rattle.wrong.specs.WrongDockets.{IsBound}
 use Rattle.wrong.specs.WrongStates.{IsBy, SomeList, NeverChanges, KeepsFirst, KeepsFirstBound, OneBoundHeld, OtherProblem, NeverUntrue, NumberUntrue, OtherSchedule, OtherBound, UnheldChanges}
 use Rattle.wrong.proofs.ShortLists.{begun, begun_as, begun_are, cheap_text, dear_text, cheap_are, dear_are, dear_cheap_are, tree_text, lone_text, tree_are, lone_are, lone_tree_are}
 
-not_held : (by : CostBy) → cost.Nothing ≡ cost.Number by → ⊥
+not_held : (by : CostBy) → None ≡ Some by → ⊥
 not_held by e = let z : ◌≡◌ {A = ℕ} 0 1 = cc in omega arith
 
-one_cost : (a b : CostBy) → cost.Number a ≡ cost.Number b → a.cost ≡ b.cost
+one_cost : (a b : CostBy) → Some a ≡ Some b → a.cost ≡ b.cost
 one_cost a b e = cc
 
 module _ (lodge : Lodging) {report : Reporting} {buffer : Writing} (D : Demand3 lodge report buffer) where

@@ -1,6 +1,6 @@
 -- Document 01, Conditions of acceptance, and document 02: how wrong dockets answer, each said of any way of lodging and of the dockets that it reaches from a fresh one.
 -- Demand 3 refutes each.
-use Rattle.std.specs.Prelude.{◌≡◌, true, List, ℕ, ◌<◌}
+use Rattle.std.specs.Prelude.{◌≡◌, true, List, ℕ, ◌<◌, Some}
 use Rattle.std.proofs.Math.Option.{none}
 use Rattle.model.specs.Instance.{Instance}
 use Rattle.model.specs.Ranges.{WellFormed, GoodWriter}
@@ -13,7 +13,6 @@ use Rattle.problem.specs.Rendering as problems
 use Rattle.tree.specs.Rendering as rendered
 use Rattle.tree.specs.Acceptance.{bounded}
 use Rattle.docket.specs.declared.held.CostBy.{CostBy}
-use Rattle.docket.specs.declared.held.HeldCost.TheVariants as cost
 use Rattle.docket.specs.declared.held.HeldBound.{HeldBound}
 use Rattle.docket.specs.declared.held.HeldBound.TheVariants as bound
 use Rattle.answer.specs.StatedAnswers.{its_cost, its_bound, Stated, refused, held, passed, stated, Carries}
@@ -109,7 +108,7 @@ module _ (lodge : Lodging) where
 
   -- keeping the last of the schedules with the least cost: one that costs what the held one costs is held
   abbrev pub KeepsLast : Type 0
-  KeepsLast = (texts : List (List ℕ)) (text : List ℕ) (by : CostBy) → (reached lodge texts).held.cost ≡ cost.Number by
+  KeepsLast = (texts : List (List ℕ)) (text : List ℕ) (by : CostBy) → (reached lodge texts).held.cost ≡ Some by
       → Carries (answer texts text) (its_cost by.cost)
       → IsHeld (answer texts text)
 

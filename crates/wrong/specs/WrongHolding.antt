@@ -1,5 +1,5 @@
 -- Wrong ways of holding what was judged, written out: each holds something else than document 01, The docket and its report, says.
-use Rattle.std.specs.Prelude.{Bool, true, false, not, cond, ℕ, leb, pos, ◌+ℤ◌, replicate}
+use Rattle.std.specs.Prelude.{Bool, true, false, not, cond, ℕ, leb, pos, ◌+ℤ◌, replicate, None, Option, Some}
 use Rattle.std.specs.Int.Signed.{lt_z}
 use Rattle.model.specs.declared.arrays.Problem.{Problem}
 use Rattle.model.specs.Held as arrays
@@ -10,8 +10,7 @@ use Rattle.model.specs.Figures.{tree_gives}
 use Rattle.tree.specs.Acceptance.{Bounded, bounded}
 use Rattle.docket.specs.declared.Docket.{Docket}
 use Rattle.docket.specs.declared.Lodged.{Lodged}
-use Rattle.docket.specs.declared.held.HeldCost.{HeldCost}
-use Rattle.docket.specs.declared.held.HeldCost.TheVariants as cost
+use Rattle.docket.specs.declared.held.CostBy.{CostBy}
 use Rattle.docket.specs.declared.held.HeldBound.{HeldBound}
 use Rattle.docket.specs.declared.held.HeldBound.TheVariants as bound
 use Rattle.answer.specs.declared.Answer.{Answer}
@@ -35,9 +34,9 @@ hold_schedule_if test held d (schedule s) = cond (test d s) (lodged (held d s) (
 hold_schedule_if test held d (tree F) = hold d d (tree F)
 
 -- the last of equals: one that costs no more than the held one
-abbrev pub not_more : ℕ → HeldCost → Bool
-not_more c cost.Nothing = true
-not_more c (cost.Number n) = leb c n.cost
+abbrev pub not_more : ℕ → Option CostBy → Bool
+not_more c None = true
+not_more c (Some n) = leb c n.cost
 
 abbrev pub hold_last : Docket → Verdict → Lodged
 hold_last = hold_schedule_if (λ d s. not_more s.cost d.held.cost) with_schedule

@@ -1,15 +1,13 @@
 -- Wrong ways of reporting, written out.
-use Rattle.std.specs.Prelude.{pos, ◌-ℤ◌, length, take}
+use Rattle.std.specs.Prelude.{pos, ◌-ℤ◌, length, take, None, Option, Some, Err}
 use Rattle.refusal.specs.Refusals.{refusal_of}
 use Rattle.writer.specs.Written.{figure_of}
 use Rattle.writer.specs.declared.Figure.{Figure}
 use Rattle.writer.specs.declared.Figure.TheVariants.{Missing, Never}
 use Rattle.report.specs.Report.{report_lines, put_at, written_at, placed_at}
 use Rattle.report.specs.declared.Figures as shown
-use Rattle.report.specs.declared.ReportAnswer.TheVariants.{Refused}
 use Rattle.docket.specs.declared.Docket.{Docket}
-use Rattle.docket.specs.declared.held.HeldCost.{HeldCost}
-use Rattle.docket.specs.declared.held.HeldCost.TheVariants as cost
+use Rattle.docket.specs.declared.held.CostBy.{CostBy}
 use Rattle.docket.specs.declared.held.HeldBound.{HeldBound}
 use Rattle.docket.specs.declared.held.HeldBound.TheVariants as bound
 use Rattle.docket.specs.Docket.{fresh_docket}
@@ -45,11 +43,11 @@ never_shown d = record {
 }
 
 -- bound minus cost
-abbrev pub turned : HeldCost → HeldBound → Figure
-turned cost.Nothing b = Missing
-turned (cost.Number c) bound.Nothing = Missing
-turned (cost.Number c) (bound.Number b) = figure_of (b.value -ℤ pos c.cost)
-turned (cost.Number c) (bound.Never b) = Missing
+abbrev pub turned : Option CostBy → HeldBound → Figure
+turned None b = Missing
+turned (Some c) bound.Nothing = Missing
+turned (Some c) (bound.Number b) = figure_of (b.value -ℤ pos c.cost)
+turned (Some c) (bound.Never b) = Missing
 
 abbrev pub gap_turned : Docket → shown.Figures
 gap_turned d = record {
@@ -72,7 +70,7 @@ as_far_as_room d b k = take (length b) (put_at b k (text_shown d))
 
 -- 43 always, and the buffer as it was
 abbrev pub refusing : Reporting
-refusing d b k = record { docket = d; answer = Refused (refusal_of 43 0 0 0) }
+refusing d b k = record { docket = d; answer = Err (refusal_of 43 0 0 0) }
 
 abbrev pub leaving : Writing
 leaving d b k = b

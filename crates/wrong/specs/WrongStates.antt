@@ -1,6 +1,6 @@
 -- Document 01, Conditions of acceptance: what wrong dockets hold, each said of any way of lodging and of the dockets that it reaches from a fresh one. Demand
 -- 3 refutes each.
-use Rattle.std.specs.Prelude.{◌≡◌, true, List, ℕ, pos, ◌≤ℤ◌}
+use Rattle.std.specs.Prelude.{◌≡◌, true, List, ℕ, pos, ◌≤ℤ◌, Some}
 use Rattle.std.proofs.Math.Option.{none, some}
 use Rattle.model.specs.Instance.{Instance, Schedule}
 use Rattle.model.specs.Rules.{Meets}
@@ -13,7 +13,6 @@ use Rattle.judge.specs.Rows.{schedule_of}
 use Rattle.tree.specs.Acceptance.{Bounded}
 use Rattle.docket.specs.declared.held.BoundBy.{BoundBy}
 use Rattle.docket.specs.declared.held.CostBy.{CostBy}
-use Rattle.docket.specs.declared.held.HeldCost.TheVariants as cost
 use Rattle.docket.specs.declared.held.NeverBy.{NeverBy}
 use Rattle.docket.specs.declared.held.HeldBound.{HeldBound}
 use Rattle.docket.specs.declared.held.HeldBound.TheVariants as bound
@@ -44,8 +43,8 @@ module _ (lodge : Lodging) where
 
   -- keeping the first schedule, or the first bound, whatever comes after
   abbrev pub KeepsFirst : Type 0
-  KeepsFirst = (texts : List (List ℕ)) (text : List ℕ) (by : CostBy) → (reached lodge texts).held.cost ≡ cost.Number by
-      → (lodge (reached lodge texts) text).docket.held.cost ≡ cost.Number by
+  KeepsFirst = (texts : List (List ℕ)) (text : List ℕ) (by : CostBy) → (reached lodge texts).held.cost ≡ Some by
+      → (lodge (reached lodge texts) text).docket.held.cost ≡ Some by
 
   abbrev pub KeepsFirstBound : Type 0
   KeepsFirstBound = (texts : List (List ℕ)) (text : List ℕ) (b : Bound) → IsBound (reached lodge texts).held.bound b
@@ -82,7 +81,7 @@ module _ (lodge : Lodging) where
     pub after : SomeList
     pub s : Costed
     pub first : FirstLeast (λ x. x.cost) s (schedules after.verdicts)
-    pub other : ((reached lodge after.texts).held.cost ≡ cost.Number (record { cost = s.cost; writer = s.writer }))
+    pub other : ((reached lodge after.texts).held.cost ≡ Some (record { cost = s.cost; writer = s.writer }))
         × (schedule_of (reached lodge after.texts).problem (reached lodge after.texts).rows ≡ s.rows)
         → ⊥
 

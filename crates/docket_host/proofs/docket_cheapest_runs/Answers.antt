@@ -1,11 +1,8 @@
 -- `docket_cheapest_runs` meets its contract.
-use mathlib.Core.Path.{◌≡◌, refl, sym, ap, subst, ◌∙◌}
+use mathlib.Core.Path.{sym, ap, subst, ◌∙◌}
 use Rattle.state.proofs.Opening.{opened_is, not_opened}
-use borrow.Author.Rules.{rules}
 use Rattle.docket.specs.declared.Docket.{Docket}
 use Rattle.docket.specs.Drafting.{runs_of}
-use Rattle.state.specs.Layout.{docket_in}
-use Rattle.state.proofs.Room.{long_room}
 use Rattle.docket_host.specs.Calls.{Few}
 use Rattle.docket_host.proofs.RunsCalls.{few_there, runs_small, runs_empty, runs_done, runs_other}
 use Rattle.docket_host.proofs.docket_cheapest_runs.Goals as goal

@@ -1,8 +1,6 @@
 -- `docket_forced_statuses` meets its contract.
-use mathlib.Core.Path.{sym, ap, ◌∙◌}
+use mathlib.Core.Path.{sym, ◌∙◌}
 use Rattle.state.proofs.Opening.{opened_is, not_opened}
-use borrow.Author.Rules.{rules}
-use Rattle.state.proofs.Room.{long_room}
 use Rattle.docket_host.proofs.ForcedCalls.{forced_small, forced_empty, forced_done}
 use Rattle.docket_host.proofs.docket_forced_statuses.Goals as goal
 

@@ -5,7 +5,6 @@ use Rattle.state.specs.Kept.{kept_numbers, kept_rows}
 use Rattle.state.proofs.Room.{long_room}
 use Rattle.docket_host.specs.Calls.{fresh_answer, fresh_numbers, fresh_rows}
 use Rattle.docket_host.proofs.Calls.{fresh_short}
-use borrow.Author.Rules.{rules}
 use Rattle.docket_host.proofs.docket_fresh.Goals as goal
 
 pub keep-requires : goal.keep-requires

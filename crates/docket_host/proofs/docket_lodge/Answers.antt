@@ -1,7 +1,6 @@
 -- `docket_lodge` meets its contract.
 use mathlib.Core.Path.{◌≡◌, sym, ap, ◌∙◌}
 use native.Mathlib.Omega.{arith}
-use Prim.Native.Nat.{◌≤◌}
 use lib.ListN.{length}
 use Rattle.docket.specs.declared.Docket.{Docket}
 use Rattle.docket.specs.Lodging.{lodge_of}

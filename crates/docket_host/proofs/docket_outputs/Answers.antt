@@ -1,11 +1,9 @@
 -- `docket_outputs` meets its contract.
 use mathlib.Core.Path.{sym, ap, ◌∙◌}
-use Rattle.state.proofs.Room.{long_room}
 use Rattle.docket.specs.Docket.{sound}
 use Rattle.state.proofs.Opening.{holds_sound}
 use Rattle.docket_host.proofs.Calls.{outputs_lent, outputs_short, outputs_none, outputs_done}
 use Rattle.state.proofs.Opening.{opened_is, not_opened}
-use borrow.Author.Rules.{rules}
 use Rattle.docket_host.proofs.docket_outputs.Goals as goal
 
 pub copy_outputs-requires : goal.copy_outputs-requires

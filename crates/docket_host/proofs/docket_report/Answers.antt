@@ -1,10 +1,8 @@
 -- `docket_report` meets its contract.
-use mathlib.Core.Path.{sym, ap, ◌∙◌}
-use Rattle.state.proofs.Room.{long_room}
+use mathlib.Core.Path.{sym, ◌∙◌}
 use Rattle.docket_host.proofs.HostAnswers.{told_or_43}
 use Rattle.docket_host.proofs.Calls.{report_short, report_none, report_done}
 use Rattle.state.proofs.Opening.{opened_is, not_opened}
-use borrow.Author.Rules.{rules}
 use Rattle.docket_host.proofs.docket_report.Goals as goal
 
 pub returns : goal.returns

@@ -1,9 +1,7 @@
 -- `docket_units_taken` meets its contract.
-use mathlib.Core.Path.{sym, ap, ◌∙◌}
-use Rattle.state.proofs.Room.{long_room}
+use mathlib.Core.Path.{sym, ◌∙◌}
 use Rattle.docket_host.proofs.Calls.{taken_lent, taken_short, taken_none, taken_done}
 use Rattle.state.proofs.Opening.{opened_is, not_opened}
-use borrow.Author.Rules.{rules}
 use Rattle.docket_host.proofs.docket_units_taken.Goals as goal
 
 pub tell_taken-requires : goal.tell_taken-requires
