@@ -56,15 +56,12 @@ pub fn find_unmet_demand(problem: Problem, rows: &[u16]) -> Option<Place>
     ensures { result ≡ place_found (place22 (view problem) (schedule_of problem rows.now)) }
 {
     let periods = problem.periods;
-    for t in 0..periods {
-        if sum_outputs(problem.units, periods, rows, t) < problem.demand[t] {
-            return Some(Place {
-                unit: 0,
-                period: t + 1,
-            });
-        }
-    }
-    None
+    let short = (0..periods).find(|t| sum_outputs(problem.units, periods, rows, *t)
+        < problem.demand[*t]);
+    short.map(|t| Place {
+        unit: 0,
+        period: t + 1,
+    })
 }
 
 // The first period in which the units that are on could not give its demand and its spare.
@@ -74,14 +71,11 @@ pub fn find_unmet_spare(problem: Problem, rows: &[u16]) -> Option<Place>
 {
     let periods = problem.periods;
     let capacities = list_capacities(problem);
-    for t in 0..periods {
-        let asked = problem.demand[t] + problem.spare[t];
-        if sum_capacities(&capacities[..problem.units], periods, rows, t) < asked {
-            return Some(Place {
-                unit: 0,
-                period: t + 1,
-            });
-        }
-    }
-    None
+    let units = &capacities[..problem.units];
+    let short = (0..periods).find(|t| sum_capacities(units, periods, rows, *t)
+        < problem.demand[*t] + problem.spare[*t]);
+    short.map(|t| Place {
+        unit: 0,
+        period: t + 1,
+    })
 }
