@@ -21,7 +21,8 @@ fn limits_value(g: Generator, price: u64, up: u64, down: u64) -> u64
     price * g.pU + up * g.UR + down * g.DR
 }
 
-// Writes what each period costs on and off, with what is added to it.
+// Writes what each period costs on and off, with what is added to it. One function for this and `fill_costs` would take both costs as
+// closures that ask for the period to be in every slice: no plainer than a loop each.
 fn fill_ramp_costs(
     g: Generator,
     q: &[u64],

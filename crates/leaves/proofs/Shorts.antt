@@ -20,7 +20,7 @@ use Rattle.model.specs.Turns.{turned, in_turn, took}
 use Rattle.model.proofs.Sorting.{falling_those, falling_map}
 use Rattle.model.proofs.Turns.{in_turn_total}
 use Rattle.layout.specs.Ranks.{rank, unit_of, pU_of, ranks_from, ranked}
-use Rattle.layout.proofs.Ranks.{unit_back, pU_back, ranks_at}
+use Rattle.layout.proofs.Ranks.{unit_back, pU_back, ranks_at, pU_inside}
 use Rattle.walk.specs.Marks.{most_of, above_of, upper_begin}
 use Rattle.walk.proofs.AboveMarks.{most_here}
 use Rattle.leaves.specs.LeafLeasts.{taken_in, taken_from}
@@ -89,6 +89,11 @@ module _ (gs : List Generator) (few : length gs ≤ 32) (m : Marks) (t : ℕ) wh
       (ap (map pU_of) (falling_those (usable_rank m t) (ranks_from 0 gs))
       ∙ falling_map pU_of (λ x y h. omega arith) (those (usable_rank m t) (ranks_from 0 gs))
       ∙ ap falling usable_ranks)
+
+  -- ---- what one unit adds is small
+
+  pub value_small : All GoodUnit gs → (i : ℕ) → i < length gs → (x : Mark) → total (unless_off x (pU_of (get_or (ranked gs) i 0)) []) ≤ 10000
+  value_small good i h x = omega (arith, adds_most x (pU_of (get_or (ranked gs) i 0)), pU_inside gs i few good h)
 
 -- ---- with the upper count's byte
 

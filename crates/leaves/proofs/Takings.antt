@@ -100,6 +100,9 @@ module _ (p : ℕ → Bool) (f : ℕ → ℕ) (c : List ℕ) (K d : ℕ) where
     pub sum : s ≡ total (take k all_taken)
     pub fewer : (j : ℕ) → j < k → total (take j all_taken) < d
 
+  pub passed_none : Passed 0 0 0
+  passed_none = record { within = omega arith; many = refl; room = omega arith; sum = refl; fewer = λ j h. absurd (omega arith) }
+
   counted : {i k k' s s' : ℕ} → k ≡ k' → s ≡ s' → Passed i k s → Passed i k' s'
   counted {i} {k} {k'} {s} {s'} e e' = subst (λ (j : ℕ). Passed i k s → Passed i j s') e (subst (λ (z : ℕ). Passed i k s → Passed i k z) e' (λ P. P))
 

@@ -46,7 +46,8 @@ fn take_by_number(numbers: &[u64], t: usize, above: &[u8], need: u64) -> Taken
     }
 }
 
-// Those units, taken the largest first, and `most` of them at most, until they reach the need.
+// Those units, taken the largest first, and `most` of them at most, until they reach the need. As a `for` with a `break` the loop takes a
+// twentieth more steps; by a closure for the place and the size it would be one with `take_by_number`, and ask of it what both ask: no plainer.
 fn take_largest(numbers: &[u64], t: usize, above: &[u8], need: u64, most: usize) -> Taken
     requires laid { Laid numbers.now }
     requires t_bound { t < (instance_in numbers.now).periods }
@@ -54,12 +55,11 @@ fn take_largest(numbers: &[u64], t: usize, above: &[u8], need: u64, most: usize)
     requires need_bound { need ≤ 640_000 }
     ensures { result ≡ taken_from (take most (falling (usable (instance_in numbers.now).units (above_of (instance_in numbers.now) above.now).marks t))) need }
 {
+    let units = units_in(numbers);
     let mut sum = 0;
     let mut taken = 0;
-    for i in 0..units_in(numbers) {
-        if taken == most {
-            break;
-        }
+    let mut i = 0;
+    while taken < most && i < units {
         if need <= sum {
             return Taken {
                 short: false,
@@ -69,6 +69,7 @@ fn take_largest(numbers: &[u64], t: usize, above: &[u8], need: u64, most: usize)
         let mark = above[place_at(numbers, i) + t];
         sum += usable_of(mark, size_at(numbers, i));
         taken += not_off_of(mark);
+        i += 1;
     }
     Taken {
         short: sum < need,

@@ -1,4 +1,5 @@
-// One period back over the table of a unit's states. A coded value is 0 where there is none, and v + 1 for the value v.
+// One period back over the table of a unit's states. A coded value is 0 where there is none, and v + 1 for the value v: so the definitions
+// have it (the model's Walk), and in one word each the loops over a table take four states at a time.
 ghost use Rattle.std.specs.Prelude.{◌≡◌, true, false, ℕ, ◌+◌, ◌≤◌, ◌<◌, length};
 ghost use Rattle.model.specs.Instance.{◌at◌};
 ghost use Rattle.model.specs.Ranges.{Between, GoodUnit};

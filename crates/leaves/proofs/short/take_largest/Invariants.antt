@@ -1,4 +1,7 @@
 -- `take_largest` meets its contract. The loop's invariant: of the ranks passed, those of units not fixed off are taken, and with fewer the sum was below the need.
+use mathlib.Core.Path.{◌≡◌}
+use Prim.Native.Nat.{◌-◌}
+use lib.ListN.{length}
 use Rattle.layout.specs.Ranks.{pU_of, ranked}
 use Rattle.layout.specs.Numbers.{instance_in}
 use Rattle.walk.specs.Marks.{above_of}
@@ -6,7 +9,9 @@ use Rattle.leaves.proofs.Takings.{Passed}
 use Rattle.leaves.proofs.Shorts.{usable_rank}
 use Rattle.leaves.proofs.short.take_largest.Given as goal
 
-abbrev pub invariant-loop-i : goal.invariant-loop-i
-invariant-loop-i l =
-    let P = instance_in l.numbers in
-    Passed (usable_rank (above_of P l.above).marks l.t) pU_of (ranked P.units) l.most l.need l.i l.taken l.sum
+abbrev pub invariant-loop-taken : goal.invariant-loop-taken
+invariant-loop-taken l = (l.units ≡ length (instance_in l.numbers).units)
+    × Passed (usable_rank (above_of (instance_in l.numbers) l.above).marks l.t) pU_of (ranked (instance_in l.numbers).units) l.most l.need l.i l.taken l.sum
+
+abbrev pub decreases-loop-taken : goal.decreases-loop-taken
+decreases-loop-taken l = l.units - l.i

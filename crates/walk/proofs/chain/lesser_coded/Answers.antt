@@ -1,6 +1,6 @@
 -- `lesser_coded` meets its contract: of no value and another, the lesser is the other.
-use Rattle.std.proofs.Common.{rules, arith, sym, ◌∙◌, ◌<◌}
-use Rattle.model.specs.Walk.{lesser, plus}
+use Rattle.std.proofs.Common.{rules, arith, ◌<◌}
+use Rattle.model.specs.Walk.{lesser}
 use Rattle.walk.proofs.chain.lesser_coded.Goals as goal
 use Rattle.walk.proofs.chain.lesser_coded.Goals.{else-not-this-via-then-not-this+else-x-eq0, else-not-this-via-else-not-this}
 

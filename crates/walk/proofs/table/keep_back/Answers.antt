@@ -1,8 +1,6 @@
 -- `keep_back` meets its contract: the three runs one after the other, the last state's value being read before any is written.
-use mathlib.Core.Path.{◌∙◌, ap}
 use mathlib.Core.Bool.{true}
 use native.Mathlib.Omega.{arith}
-use Rattle.model.specs.Walk.{lesser}
 use Rattle.walk.proofs.Chains.{backed_is}
 use Rattle.walk.proofs.table.keep_back.Goals as goal
 

@@ -1,9 +1,8 @@
 -- `marked_back` meets its contract: the values of leaving and starting are read from the old lists, before either changes.
-use Rattle.std.proofs.Common.{◌≡◌, ◌<◌, ◌+◌, ℕ, not, arith, rules}
+use Rattle.std.proofs.Common.{◌≡◌, ◌<◌, ℕ, not, arith}
 use lib.Dec.{eqb}
 use Rattle.model.specs.Table.{kept}
 use borrow.Author.Tests.{ne_eqb}
-use Rattle.model.specs.Instance.{◌at◌}
 use Rattle.model.proofs.Coded.{plus_some}
 use Rattle.walk.proofs.StatusMarks.{allows_on, allows_off}
 use Rattle.walk.proofs.table.marked_back.Goals as goal

@@ -1,8 +1,7 @@
 -- `on_back` meets its contract: the states that cannot be left and the last are the states one period back.
-use mathlib.Core.Path.{sym, ◌∙◌, ap}
+use mathlib.Core.Path.{sym}
 use mathlib.Core.Bool.{true, false}
 use native.Mathlib.Omega.{arith}
-use Rattle.model.specs.Walk.{lesser}
 use Rattle.model.proofs.Coded.{lesser_none}
 use Rattle.walk.proofs.Chains.{written_none, backed_is, backed_chained}
 use Rattle.walk.proofs.table.on_back.Goals as goal
