@@ -44,5 +44,6 @@ taken_under P period most fixed = cond (fits P period most fixed) (Ok (taken_in 
 abbrev pub problem_asked : Docket → Result (Unit {0}) Unanswered
 problem_asked d = cond (trusted d).known (Ok tt) (Err NoProblem)
 
+-- what is told of any docket
 unfoldable pub taken_of : Docket → ℕ → ℕ → List ℕ → Result Taken Unanswered
 taken_of d period most fixed = cond (trusted d).known (taken_under (view (trusted d).problem) period most fixed) (Err NoProblem)

@@ -25,7 +25,7 @@ fn is_fit(
     values == entries && stuck == entries && is_asked(periods, units, q, s, fixed)
 }
 
-// The entries written under the problem; or why there are none, and `values` and `stuck` are as they were.
+// The entries written under the problem; or why there are none, and `values` and `stuck` are as they were. A program in C lends the two as they are.
 pub fn answer_forced(
     problem: Problem,
     q: &[u64],

@@ -1,6 +1,6 @@
 // One period forward over the table of a unit's states: for each the least cost of the runs that end in it, on for 1 to TU periods and off for 1 to TD + Tcold + 1. The
 // table is of the runs that have changed their status, which before period t, counted from 0, have been in it for t periods at most; the run that has not is followed
-// alone. A coded value is 0 where there is none, and v + 1 for the value v.
+// alone. A coded value is 0 where there is none, and v + 1 for the value v, as in the kept table.
 ghost use Rattle.std.specs.Prelude.{◌≡◌, true, false, ℕ, ◌+◌, ◌-◌, ◌≤◌, ◌<◌, length};
 ghost use Rattle.model.specs.Instance.{◌at◌};
 ghost use Rattle.model.specs.Ranges.{GoodUnit};

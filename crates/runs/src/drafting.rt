@@ -19,9 +19,11 @@ pub enum NoRuns {
     Stuck(usize),
 }
 
+// A question without an answer has no runs, for the same reason.
 impl From<Unanswered> for NoRuns {
     ghost from_gives = { λ why e. e ≡ Question why };
 
+    // The reason, kept.
     fn from(why: Unanswered) -> NoRuns {
         NoRuns::Question(why)
     }

@@ -1,5 +1,6 @@
 // The values of a unit's states before every period and after the last, kept in one table: those before period t, counted from 0, from 145·t on, on for 1 to TU
-// periods first and, 48 places on, off for 1 to TD + Tcold + 1. A coded value is 0 where there is none, and v + 1 for the value v.
+// periods first and, 48 places on, off for 1 to TD + Tcold + 1. A coded value is 0 where there is none, and v + 1 for the value v:
+// an `Option` would double the table, which stands on the stack, since nothing here allocates.
 ghost use Rattle.std.specs.Prelude.{◌≡◌, ℕ, ◌+◌, ◌≤◌, ◌<◌, length};
 ghost use Rattle.model.specs.Instance.{◌at◌};
 ghost use Rattle.model.specs.Ranges.{GoodUnit};
