@@ -72,13 +72,6 @@ fn own_back(g: Generator, k: usize, mark: u8, on: u64, off: u64, after: After) -
     lesser_value(kept_value(may_on, g.Csc + on, after.started), staying)
 }
 
-// The smaller of two numbers of states.
-pub fn smaller(x: usize, y: usize) -> usize
-    ensures { result ≡ min x y }
-{
-    x.min(y)
-}
-
 // The least value, coded, of all periods from the state before period 1. Before period t a unit that has changed its status has
 // been in it for t periods at most, so that only so many states of the tables, which start with ones, are taken back.
 fn walk_reached(

@@ -7,13 +7,12 @@ use mathlib.Core.Bool.{true, false}
 use mathlib.Core.List.{List, [], ◌∷◌, ◌++◌, append_assoc}
 use lib.ListN.{length, drop}
 use Rattle.decimal.specs.Decimal.{digits}
-use Rattle.decimal.specs.NumberRead.{read_cap, leading_digits, number_at}
-use Rattle.decimal.specs.declared.Number.TheVariants.{Value}
+use Rattle.decimal.specs.NumberRead.{number, read_cap, leading_digits, number_at}
 use Rattle.decimal.proofs.Numerals.{read_digits}
 use Rattle.text.specs.Lines.{due, line_at, one_line}
 use Rattle.text.specs.Forms.{plain, place_after, pad_48, row_of}
 use Rattle.text.specs.Rendering.{rendered}
-use Rattle.text.specs.declared.Verdict.TheVariants.{Good}
+use Rattle.std.specs.Prelude.{Ok}
 use Rattle.text.proofs.Accepted.{rendered_read, rendered_cut, rendered_line}
 use Rattle.text.proofs.Plain.{plain_fits, one_between}
 use Rattle.writer.specs.Written.{over, figure, line}
@@ -22,10 +21,10 @@ use Rattle.writer.specs.declared.Figure.TheVariants.{Number, Minus}
 -- ---- a number
 
 -- the digits of n over a buffer in which no digit follows them are read as n
-pub number_back : (n : ℕ) (b : List ℕ) → leading_digits (drop (length (digits n)) b) ≡ [] → number_at (over (digits n) b) 0 ≡ Value (min read_cap n) (length (digits n))
+pub number_back : (n : ℕ) (b : List ℕ) → leading_digits (drop (length (digits n)) b) ≡ [] → number_at (over (digits n) b) 0 ≡ number (min read_cap n) (length (digits n))
 number_back n b h =
     read_digits (over (digits n) b) (drop (length (digits n)) b) 0 n refl h
-    ∙ ap (Value (min read_cap n)) (zero-add (length (digits n)))
+    ∙ ap (number (min read_cap n)) (zero-add (length (digits n)))
 
 -- ---- a line
 
@@ -41,7 +40,7 @@ line_minus key n = sym (append_assoc key (45 ∷ digits n) (10 ∷ []))
 -- the line of n over a buffer is read as n
 pub line_back : (key : List ℕ) (n lo hi : ℕ) (b : List ℕ) → one_line key ≡ true → lo ≤ n → n ≤ hi
     → row_of (plain key 1 lo hi) (line_at (over (line key (Number n)) b) 0) 0
-    ≡ record { verdict = Good (place_after (rendered_line (plain key 1 lo hi) false (n ∷ [])) 0); minus = false; values = pad_48 (n ∷ []) }
+    ≡ Ok (record { next = place_after (rendered_line (plain key 1 lo hi) false (n ∷ [])) 0; minus = false; values = pad_48 (n ∷ []) })
 line_back key n lo hi b one h k =
     let f = plain_fits key 1 lo hi (n ∷ []) (omega arith) refl (one_between lo hi n h k) in
     let rest = drop (length (line key (Number n))) b in

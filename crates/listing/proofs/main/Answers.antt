@@ -10,10 +10,10 @@ use Rattle.listing.proofs.main.Reads as reads
 use Rattle.listing.proofs.main.Lts as lts
 
 module _ (c : lts.Past-After-known_told tie.the-claims reads.Pre reads.Post tie.handed_clauses) where
-  within : c.in-Written.k ≤ length c.list.new.output
+  within : c.in-Some.k ≤ length c.list.new.output
   within =
       let l = c.list in
-      omega (arith, written_within _ _ _ (sym l.ensures.answer ∙ c.in-Written.is), ap length l.ensures.bytes)
+      omega (arith, written_within _ _ _ (sym l.ensures.answer ∙ c.in-Some.is), ap length l.ensures.bytes)
 
 pub slice_bounds-output-end : goal.slice_bounds-output-end
 slice_bounds-output-end c = omega (arith, within c)
