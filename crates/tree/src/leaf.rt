@@ -132,9 +132,15 @@ pub fn read_reserve(
     ensures { result ≡ part_read (instance_in numbers.now) text.now at line figures (above_of (instance_in numbers.now) above.now) (priced (take (instance_in numbers.now).periods q)) }
 {
     let periods = periods_in(numbers);
-    let row = text::read_row(text, at, b"reserve=", periods, Span::PRICE.least, Span::PRICE.most).map_err(
-        |fault| BrokenLine::by(fault, line),
-    )?;
+    let row = text::read_row(
+        text,
+        at,
+        b"reserve=",
+        periods,
+        Span::PRICE.least,
+        Span::PRICE.most,
+    )
+    .map_err(|fault| BrokenLine::by(fault, line))?;
     let Some(value) = leaf_value(numbers, &q[..periods], &row.values[..periods], above) else {
         return Err(BrokenLine { number: 35, line });
     };
@@ -161,9 +167,15 @@ fn read_price(
     ensures { result ≡ leaf_read (instance_in numbers.now) text.now at line figures (above_of (instance_in numbers.now) above.now) }
 {
     let periods = periods_in(numbers);
-    let row = text::read_row(text, at, b"price=", periods, Span::PRICE.least, Span::PRICE.most).map_err(
-        |fault| BrokenLine::by(fault, line),
-    )?;
+    let row = text::read_row(
+        text,
+        at,
+        b"price=",
+        periods,
+        Span::PRICE.least,
+        Span::PRICE.most,
+    )
+    .map_err(|fault| BrokenLine::by(fault, line))?;
     read_reserve(
         numbers,
         text,

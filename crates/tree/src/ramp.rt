@@ -36,7 +36,14 @@ fn fill_steps(text: &[u8], at: usize, key: &[u8], out: &mut [u64]) -> Result<usi
     ensures stored { out.new ≡ steps_stored key.now text.now at out.old }
 {
     let last = out.len() - 1;
-    text::fill_row(text, at, key, Span::PRICE.least, Span::PRICE.most, &mut out[1..last])
+    text::fill_row(
+        text,
+        at,
+        key,
+        Span::PRICE.least,
+        Span::PRICE.most,
+        &mut out[1..last],
+    )
 }
 
 // The two lines of unit u, the first of which starts at `at` and has this number; sum is what the units before it answer. The
@@ -160,9 +167,15 @@ fn read_ramp_reserve(
     ensures { result ≡ part_read (instance_in numbers.now) text.now at line figures (above_of (instance_in numbers.now) above.now) (ramp_priced (take (instance_in numbers.now).periods q)) }
 {
     let n = periods_in(numbers);
-    let row = text::read_row(text, at, b"reserve=", n, Span::PRICE.least, Span::PRICE.most).map_err(
-        |fault| BrokenLine::by(fault, line),
-    )?;
+    let row = text::read_row(
+        text,
+        at,
+        b"reserve=",
+        n,
+        Span::PRICE.least,
+        Span::PRICE.most,
+    )
+    .map_err(|fault| BrokenLine::by(fault, line))?;
     read_units(
         numbers,
         text,
@@ -191,9 +204,15 @@ pub fn read_ramp(
     ensures { result ≡ leaf_read (instance_in numbers.now) text.now at line figures (above_of (instance_in numbers.now) above.now) }
 {
     let n = periods_in(numbers);
-    let row = text::read_row(text, at, b"rampprice=", n, Span::PRICE.least, Span::PRICE.most).map_err(
-        |fault| BrokenLine::by(fault, line),
-    )?;
+    let row = text::read_row(
+        text,
+        at,
+        b"rampprice=",
+        n,
+        Span::PRICE.least,
+        Span::PRICE.most,
+    )
+    .map_err(|fault| BrokenLine::by(fault, line))?;
     if n == 1 {
         return read_reserve(
             numbers,
