@@ -77,6 +77,7 @@ fn read_first(s: &[u8], at: usize) -> DigitsRead
 }
 
 // The digits that stand at the place `at` of a text.
+#[inline(always)]
 fn read_digits(s: &[u8], at: usize) -> DigitsRead
     ensures { result ≡ digits_at s.now at }
 {
@@ -88,6 +89,7 @@ fn read_digits(s: &[u8], at: usize) -> DigitsRead
 }
 
 // The number that starts at the place `at` of a text, or that there is none.
+#[inline(always)]
 pub fn read_number(s: &[u8], at: usize) -> Option<Number>
     ensures { result ≡ number_at s.now at }
 {

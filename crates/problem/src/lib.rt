@@ -60,9 +60,15 @@ fn read_from_demand(s: &[u8], at: usize, periods: usize, units: usize) -> Result
     requires { (periods ≤ 48) × (units ≤ 32) }
     ensures { result ≡ read_from s.now at 4 (demand_due periods units) }
 {
-    let row = text::read_row(s, at, b"demand=", periods, Span::LOAD.least, Span::LOAD.most).map_err(
-        |fault| refuse_line(fault, 4),
-    )?;
+    let row = text::read_row(
+        s,
+        at,
+        b"demand=",
+        periods,
+        Span::LOAD.least,
+        Span::LOAD.most,
+    )
+    .map_err(|fault| refuse_line(fault, 4))?;
     read_from_spare(s, row.next, periods, units, row.values)
 }
 

@@ -76,7 +76,14 @@ fn read_from_runs(problem: Problem, text: &[u8], at: usize, writer: u64) -> Sche
     let mut next = at;
     for k in 0..problem.units {
         let outputs = &mut values[..periods];
-        match text::fill_row(text, next, b"run=", Span::OUTPUT.least, Span::OUTPUT.most, outputs) {
+        match text::fill_row(
+            text,
+            next,
+            b"run=",
+            Span::OUTPUT.least,
+            Span::OUTPUT.most,
+            outputs,
+        ) {
             Ok(after) => next = after,
             Err(fault) => return refuse_line(fault, k + 3),
         }

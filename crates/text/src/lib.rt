@@ -100,6 +100,7 @@ pub fn is_line(s: &[u8], at: usize, word: &[u8]) -> bool
 }
 
 // The value without a sign that starts at `at`.
+#[inline(always)]
 fn read_unsigned(s: &[u8], at: usize, minus: bool) -> Option<Field>
     ensures { result ≡ ended_at s.now at minus }
 {

@@ -39,15 +39,6 @@ use Rattle.tree.proofs.WaysThrough.{AtNode, AtPart}
 
 -- ---- where a node is due
 
--- what a rule is, by its test
-pub holding : (b x : Bool) → not b ≡ false → b ≡ x → true ≡ x
-holding true x e h = h
-holding false x e h = absurd (let z : ◌≡◌ {A = ℕ} 0 1 = cc in omega arith)
-
-pub failing : (b x : Bool) → not b ≡ true → b ≡ x → false ≡ x
-failing true x e h = absurd (let z : ◌≡◌ {A = ℕ} 0 1 = cc in omega arith)
-failing false x e h = h
-
 module _ (P : Instance) (text : List ℕ) (here : ℕ) (A : Above) (d : ℕ) where
   -- the tests by the line's kind
   pub judge_by : (k : LineKind) → line_kind_of (line_at text here) ≡ k → (F : Bounded) (rest : List Pending)

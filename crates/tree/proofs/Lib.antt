@@ -35,6 +35,7 @@ pub mod WaysThrough
 pub mod Marked
 pub mod Keys
 pub mod Leaves
+pub mod RuledLeaves
 pub mod RampLeaves
 pub mod RampReading
 pub mod ForkLines

@@ -1,17 +1,11 @@
 -- What is known of a line's reader where `map_err` has made the line that is refused of what is wrong with it.
-use mathlib.Core.Path.{◌≡◌, refl, sym, ap, subst, ◌∙◌}
-use mathlib.Core.List.{List}
+use mathlib.Core.Path.{◌≡◌, refl, ap, subst, ◌∙◌}
 use Prim.Native.Nat.{ℕ}
 use native.Mathlib.Omega.{arith}
 use Rattle.std.specs.Prelude.{Result, Ok, Err}
 use Rattle.std.specs.Result.{MatchResult, IsErrAnd}
-use Rattle.text.specs.Lines.{line_at}
-use Rattle.text.specs.Forms.{plain, fault_number}
 use Rattle.text.specs.declared.Fault.{Fault}
-use Rattle.tree.specs.declared.naming.NamedLine.{NamedLine}
 use Rattle.tree.specs.declared.read.BrokenLine.{BrokenLine}
-use Rattle.tree.specs.ReadAnswers.{named_line_read}
-use Rattle.tree.proofs.Rows.{LineRefused, NamesOne, names_one, names_none}
 
 -- what is wrong with the line, of which b was made
 pub record Broke {T : Type 0} (read : Result T Fault) (made : Fault → BrokenLine → Type 0) (b : BrokenLine) : Type 0 where
@@ -35,14 +29,3 @@ module _ {T : Type 0} (read : Result T Fault) (r : Result T BrokenLine) (made : 
       go : (y : Result T Fault) → read ≡ y → MatchResult y (λ x. r ≡ Ok x) (λ e. IsErrAnd r (made e)) → read ≡ Ok x
       go (Ok y) p h = let q : y ≡ x = cc in p ∙ ap (λ (z : T). Ok z) q
       go (Err w) p h = absurd (subst (λ (z : Result T BrokenLine). IsErrAnd z (made w)) e h)
-
--- a line that names a unit or a period, n being the number of them
-module _ (key : List ℕ) (most : ℕ) (text : List ℕ) (at n : ℕ) (e : n ≡ most) (read : Result NamedLine Fault) (is : read ≡ named_line_read key n text at) where
-  there : read ≡ named_line_read key most text at
-  there = is ∙ ap (λ (m : ℕ). named_line_read key m text at) e
-
-  pub names_nothing : (w : Fault) → read ≡ Err w → LineRefused (plain key 1 1 most) (line_at text at) (fault_number w)
-  names_nothing w v = names_none key most text at w (sym v ∙ there)
-
-  pub names_it : (x : NamedLine) → read ≡ Ok x → NamesOne key most text at x.index x.next
-  names_it x v = names_one key most text at x (sym v ∙ there)

@@ -1,12 +1,13 @@
 -- What the readers of a tree answer: to read a node is to go through the lines of Course as far as its last line.
-use Rattle.std.specs.Prelude.{List, [], ◌∷◌, ℕ, suc, ◌+◌, ◌*◌, ◌≤◌, length, drop, Result, Ok, Err}
+use Rattle.std.specs.Prelude.{Bool, cond, List, [], ◌∷◌, ℕ, suc, ◌+◌, ◌*◌, ◌≤◌, length, drop, None, Result, Ok, Err}
 use Rattle.std.proofs.Math.Option.{Option, none, some}
 use Rattle.model.specs.Instance.{Instance}
 use Rattle.model.specs.Above.{Above}
 use Rattle.model.specs.declared.figures.TreeFigures.{TreeFigures}
+use Rattle.model.specs.Figures.{add_leaf}
 use Rattle.walk.specs.Marks.{upper_begin, lower_begin}
 use Rattle.text.specs.Lines.{Line, lines_of, line_at, end_tree}
-use Rattle.text.specs.Forms.{plain, place_after, form_tests, fault_of}
+use Rattle.text.specs.Forms.{plain, place_after, form_tests, fault_number, fault_of}
 use Rattle.text.specs.declared.Fault.{Fault}
 use Rattle.text.specs.Course.{Found, refused, good, Judged, refused_at, accepted}
 use Rattle.text.specs.Tests.{found}
@@ -99,6 +100,11 @@ part_read P text at l S A p = read_from P text at l (part_due (bounded 0 S) A p 
 -- of a leaf: its depth plays no part, and 0 stands for it
 abbrev pub leaf_read : Instance → List ℕ → ℕ → ℕ → TreeFigures → Above → Read
 leaf_read P text at l S A = node_read P text at l S A 0
+
+-- the number n, or the leaf after it, of a line l that names one of which p holds or not
+abbrev pub ruled : ℕ → (ℕ → Bool) → ℕ → TreeFigures → Result NamedLine Fault → Read
+ruled n p l S (Err w) = stopped (fault_number w) l
+ruled n p l S (Ok x) = cond (p x.index) (reached x.next (l + 1) (add_leaf S None)) (stopped n l)
 
 -- ---- places and counts
 

@@ -1,14 +1,14 @@
 // The leaves: short, crowd, stuck, and a price leaf's two lines; a ramp leaf's are in ramp.rt.
-ghost use Rattle.std.specs.Prelude.{◌≡◌, length, take};
+ghost use Rattle.std.specs.Prelude.{◌≡◌, true, Bool, ℕ, ◌≤◌, ◌<◌, length, take, drop};
 ghost use Rattle.model.specs.Tree.{Multipliers};
 ghost use Rattle.layout.specs.Plans.{instance_of};
 ghost use Rattle.walk.specs.Marks.{above_of, above_length};
-ghost use Rattle.text.specs.Lines.{line_at};
+ghost use Rattle.text.specs.Lines.{one_line, begins, line_at};
 ghost use Rattle.tree.specs.NodeLines.{line_kind_of};
 ghost use Rattle.tree.specs.Refusals.{short_line, crowd_line, stuck_line, price_line};
 ghost use Rattle.tree.specs.Kinds.{leaf_kind};
 ghost use Rattle.tree.specs.Places.{priced};
-ghost use Rattle.tree.specs.ReadAnswers.{leaf_read, part_read, Placed};
+ghost use Rattle.tree.specs.ReadAnswers.{named_line_read, ruled, leaf_read, part_read, Placed};
 
 use crate::naming::read_named;
 use crate::ramp::read_ramp;
@@ -31,6 +31,35 @@ pub enum LeafKind {
     Ramp,
 }
 
+// The leaf whose line starts at `at` and has this number, begins with key and may name 1 to most: read where its rule holds of the one that it
+// names, from 0, and otherwise refused by the rule's number.
+fn read_ruled<F: Fn(usize) -> bool>(
+    text: &[u8],
+    at: usize,
+    line: usize,
+    figures: TreeFigures,
+    key: &[u8],
+    most: usize,
+    number: u64,
+    holds: F,
+) -> Result<NodeRead, BrokenLine>
+    requires placed { Placed text.now at line figures }
+    requires key_value { (one_line key.now ≡ true) × (most ≤ 48) }
+    requires text_value { begins key.now (drop at text.now) ≡ true }
+    requires callable { (i : ℕ) → i < most → F.pre holds i }
+    ensures { (p : ℕ → Bool) → ((i : ℕ) → (b : Bool) → i < most → F.post holds i b → b ≡ p i) → result ≡ ruled number p line figures (named_line_read key.now most text.now at) }
+{
+    let named = read_named(text, at, key, most).map_err(|fault| BrokenLine::by(fault, line))?;
+    if !holds(named.index) {
+        return Err(BrokenLine { number, line });
+    }
+    Ok(NodeRead {
+        next: named.next,
+        line: line + 1,
+        figures: figures.with_leaf(None),
+    })
+}
+
 // The short leaf whose line starts at `at` and has this number.
 fn read_short(
     plan: Plan,
@@ -45,17 +74,17 @@ fn read_short(
     requires at_value { line_kind_of (line_at text.now at) ≡ short_line }
     ensures { result ≡ leaf_read (instance_of plan.entry) text.now at line figures (above_of (instance_of plan.entry) above.now) }
 {
-    let named = read_named(text, at, b"short=", plan.periods()).map_err(|fault| BrokenLine::by(
-        fault, line,
-    ))?;
-    if !sum_until(plan, named.index, above).short {
-        return Err(BrokenLine { number: 33, line });
-    }
-    Ok(NodeRead {
-        next: named.next,
-        line: line + 1,
-        figures: figures.with_leaf(None),
-    })
+    let most = plan.periods();
+    read_ruled(
+        text,
+        at,
+        line,
+        figures,
+        b"short=",
+        most,
+        33,
+        |t| sum_until(plan, t, above).short,
+    )
 }
 
 // The crowd leaf whose line starts at `at` and has this number.
@@ -72,17 +101,17 @@ fn read_crowd(
     requires at_value { line_kind_of (line_at text.now at) ≡ crowd_line }
     ensures { result ≡ leaf_read (instance_of plan.entry) text.now at line figures (above_of (instance_of plan.entry) above.now) }
 {
-    let named = read_named(text, at, b"crowd=", plan.periods()).map_err(|fault| BrokenLine::by(
-        fault, line,
-    ))?;
-    if !is_crowd(plan, named.index, above) {
-        return Err(BrokenLine { number: 36, line });
-    }
-    Ok(NodeRead {
-        next: named.next,
-        line: line + 1,
-        figures: figures.with_leaf(None),
-    })
+    let most = plan.periods();
+    read_ruled(
+        text,
+        at,
+        line,
+        figures,
+        b"crowd=",
+        most,
+        36,
+        |t| is_crowd(plan, t, above),
+    )
 }
 
 // The stuck leaf whose line starts at `at` and has this number.
@@ -99,17 +128,17 @@ fn read_stuck(
     requires at_value { line_kind_of (line_at text.now at) ≡ stuck_line }
     ensures { result ≡ leaf_read (instance_of plan.entry) text.now at line figures (above_of (instance_of plan.entry) above.now) }
 {
-    let named = read_named(text, at, b"stuck=", plan.units()).map_err(|fault| BrokenLine::by(
-        fault, line,
-    ))?;
-    if !is_unit_stuck(plan, named.index, above) {
-        return Err(BrokenLine { number: 34, line });
-    }
-    Ok(NodeRead {
-        next: named.next,
-        line: line + 1,
-        figures: figures.with_leaf(None),
-    })
+    let most = plan.units();
+    read_ruled(
+        text,
+        at,
+        line,
+        figures,
+        b"stuck=",
+        most,
+        34,
+        |u| is_unit_stuck(plan, u, above),
+    )
 }
 
 // The price leaf with the multipliers q whose reserve line starts at `at` and has this number.

@@ -22,6 +22,7 @@ pub enum NodeKind {
 }
 
 // Which node line starts at `at`, by its key; where it has none of the keys, a price line is missed.
+// The keys are of two lengths, so a `match` on the bytes would be no shorter than these tests in turn.
 fn find_kind(text: &[u8], at: usize) -> NodeKind
     ensures { line_kind result ≡ line_kind_of (line_at text.now at) }
 {

@@ -11,8 +11,8 @@ use Rattle.state.proofs.Outputs.{outputs_few}
 use borrow.Author.Rules.{rules}
 use Rattle.state.proofs.copy_outputs.Goals as goal
 
-pub slice_bounds-kept-end : goal.slice_bounds-kept-end
-slice_bounds-kept-end c =
+pub shared_ref_as_front-store : goal.shared_ref_as_front-store
+shared_ref_as_front-store c =
     let long : length c.args.docket.rows ≡ 1536 = search rules in
     omega (arith, c.count_outputs-n.ensures, outputs_few c.args.docket c.requires.docket_value, long)
 

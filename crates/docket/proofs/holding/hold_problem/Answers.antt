@@ -1,5 +1,5 @@
 -- An accepted problem is held, and nothing under it.
 use Rattle.docket.proofs.holding.hold_problem.Goals as goal
 
-pub returns-in-Accepted : goal.returns-in-Accepted
-returns-in-Accepted c = simp c.in-Accepted.is
+pub returns-in-Ok : goal.returns-in-Ok
+returns-in-Ok c = simp c.in-Ok.is

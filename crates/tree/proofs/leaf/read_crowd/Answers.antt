@@ -1,59 +1,33 @@
--- The line is the one that names a period, and what the code finds of the rule decides between good and 36.
-use mathlib.Core.Path.{◌≡◌, refl, sym, ap, ◌∙◌}
+-- The line is the one that names a period, and the rule decides between good and 36.
 use borrow.Author.Rules.{rules}
+use mathlib.Core.Path.{refl, ap, ◌∙◌}
+use Prim.Native.Nat.{ℕ, ◌<◌}
 use native.Mathlib.Omega.{arith}
-use Rattle.std.specs.Prelude.{None as Never, Err}
-use Rattle.std.proofs.lemmas.Result.{err_from_is_err_and}
 use Rattle.layout.specs.Numbers.{instance_in}
 use Rattle.walk.specs.Marks.{above_of}
-use Rattle.tree.specs.declared.read.BrokenLine.{BrokenLine}
-use Rattle.text.specs.Forms.{fault_number}
-use Rattle.tree.specs.ReadAnswers.{broken}
+use Rattle.leaves.specs.LeafLeasts.{crowd_at}
 use Rattle.tree.specs.Rendering.{crowd_key}
-use Rattle.tree.specs.Refusals.{crowd_line}
+use Rattle.tree.specs.ReadAnswers.{named_line_read, ruled}
 use Rattle.tree.proofs.Keys.{crowd_begins}
-use Rattle.tree.proofs.Mapped.{mapped_err, mapped_ok, names_nothing, names_it}
-use Rattle.tree.proofs.WaysThrough.{node_refused, node_leaf}
-use Rattle.tree.proofs.Leaves.{line_refused, crowd_holds, crowd_fails}
+use Rattle.tree.proofs.RuledLeaves.{crowd_ruled}
 use Rattle.tree.proofs.leaf.read_crowd.Goals as goal
 
-pub read_named-requires : goal.read_named-requires
-read_named-requires c =
-    record { key_value = (refl, omega (arith, c.periods.ensures, c.args.plan.laid.well_formed.periods_in.1)); text_value = crowd_begins c.args.text.now c.args.at c.requires.at_value }
-
-pub returns-in_err-named : goal.returns-in_err-named
-returns-in_err-named c =
-    let a = c.args in
-    let P = instance_in a.plan.numbers.now in
-    let A = above_of P a.above.now in
-    let p = err_from_is_err_and c.from_residual.result c.from_residual.ensures.1 in
-    let m = mapped_err c.read_named.result c.map_err.result _ c.map_err.ensures.cases c.in_err-named.was in
-    let e : c.in_err-named.field-0.0 ≡ broken (fault_number m.fault) a.line = search (rules, m.met) in
-    rw (p.1, p.2) (ap (λ (x : BrokenLine). Err x) e ∙ node_refused P a.text.now a.at a.line a.figures A 0 _
-    (line_refused P a.text.now a.at A 0 crowd_line c.requires.at_value _ (names_nothing crowd_key P.periods a.text.now a.at _ c.periods.ensures _ c.read_named.ensures m.fault m.was)))
-
-pub is_crowd-requires : goal.is_crowd-requires
-is_crowd-requires c =
-    let a = c.args in
-    let P = instance_in a.plan.numbers.now in
-    let n = names_it crowd_key P.periods a.text.now a.at _ c.periods.ensures _ c.read_named.ensures _ (mapped_ok c.read_named.result c.map_err.result _ c.map_err.ensures.cases c.in_ok-named.was) in
-    record { t_bound = n.below; above_len = c.requires.above_len }
-
-pub returns-then-not-is_crowd : goal.returns-then-not-is_crowd
-returns-then-not-is_crowd c =
-    let a = c.args in
-    let P = instance_in a.plan.numbers.now in
-    let A = above_of P a.above.now in
-    let n = names_it crowd_key P.periods a.text.now a.at _ c.periods.ensures _ c.read_named.ensures _ (mapped_ok c.read_named.result c.map_err.result _ c.map_err.ensures.cases c.in_ok-named.was) in
-    node_refused P a.text.now a.at a.line a.figures A 0 36
-    (crowd_fails P a.text.now a.at A 0 c.requires.at_value n.line_good _ n.is_named (sym c.if-not-is_crowd.true ∙ c.is_crowd.ensures))
+pub read_ruled-requires : goal.read_ruled-requires
+read_ruled-requires c =
+    let few = c.args.plan.laid.well_formed.periods_in.1 in record {
+      placed = c.requires.placed;
+      key_value = (refl, omega (arith, c.periods-most.ensures, few));
+      text_value = crowd_begins c.args.text.now c.args.at c.requires.at_value;
+      callable = λ i h.
+          let k : i < (instance_in c.args.plan.numbers.now).periods = omega (arith, h, c.periods-most.ensures) in
+          search (rules, k, c.args.plan.laid, c.requires.above_len);
+    }
 
 pub returns : goal.returns
 returns c =
     let a = c.args in
     let P = instance_in a.plan.numbers.now in
     let A = above_of P a.above.now in
-    let n = names_it crowd_key P.periods a.text.now a.at _ c.periods.ensures _ c.read_named.ensures _ (mapped_ok c.read_named.result c.map_err.result _ c.map_err.ensures.cases c.in_ok-named.was) in
-    node_leaf P a.text.now a.at a.line a.figures A 0 Never _ c.with_leaf.result
-    (crowd_holds P a.text.now a.at A 0 c.requires.at_value n.line_good _ n.is_named (sym c.if-not-is_crowd.false ∙ c.is_crowd.ensures))
-    n.moved c.with_leaf.ensures
+    c.read_ruled.ensures (crowd_at P A) (λ i b h post. search (rules, post))
+    ∙ ap (λ (n : ℕ). ruled 36 (crowd_at P A) a.line a.figures (named_line_read crowd_key n a.text.now a.at)) c.periods-most.ensures
+    ∙ crowd_ruled P a.text.now a.at a.line a.figures A 0 c.requires.at_value
