@@ -5,6 +5,7 @@ ghost use Rattle.leaves.specs.LeafLeasts.{taken_in};
 ghost use Rattle.docket.specs.Taking.{fits_in, fits, asked, taken_under};
 
 use layout::copies::store;
+use layout::plan::Plan;
 use layout::ranking::lay_out_ranked;
 use leaves::counts::UPPER;
 use leaves::short::{Taken, sum_until};
@@ -31,7 +32,7 @@ fn take_units(problem: Problem, period: usize, most: usize, fixed: &[u8]) -> Tak
     let mut above = [0u8; 1632];
     store(&mut above, 0, fixed);
     above[UPPER + t] = most as u8;
-    sum_until(&numbers, t, &above)
+    sum_until(Plan::of(&numbers), t, &above)
 }
 
 // What is answered under the problem.

@@ -4,6 +4,7 @@ ghost use Rattle.model.specs.Held.{view, Valid};
 ghost use Rattle.forced.specs.Answers.{fits_in, told_under};
 
 use crate::units::write_forced;
+use layout::plan::Plan;
 use layout::ranking::lay_out_ranked;
 use model::arrays::Problem;
 use runs::question::{Unanswered, is_asked};
@@ -52,6 +53,6 @@ pub fn answer_forced(
         return Err(Unanswered::Unfit);
     }
     let numbers = lay_out_ranked(problem);
-    write_forced(&numbers, q, s, fixed, values, stuck);
+    write_forced(Plan::of(&numbers), q, s, fixed, values, stuck);
     Ok(())
 }

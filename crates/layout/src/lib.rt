@@ -1,16 +1,15 @@
 // A problem's numbers in one array, so that they can be lent.
 #![tactic(auto)]
 
-ghost use Rattle.std.specs.Prelude.{◌≡◌, ◌≤◌, ◌<◌, length, get_or};
-ghost use Rattle.model.specs.Instance.{◌at◌};
-ghost use Rattle.model.specs.Held.{blank_generator};
-ghost use Rattle.layout.specs.Numbers.{generator_numbers, laid_out, generator_of, instance_in, Laid};
+ghost use Rattle.std.specs.Prelude.{◌≡◌, ◌≤◌, length};
+ghost use Rattle.layout.specs.Numbers.{generator_numbers, laid_out, generator_of};
 
 use crate::copies::store;
 use model::arrays::Problem;
 use model::generator::Generator;
 
 pub mod copies;
+pub mod plan;
 pub mod ranking;
 pub mod reading;
 
@@ -54,49 +53,6 @@ pub fn lay_out(problem: Problem) -> [u64; 610]
     numbers
 }
 
-// The periods.
-pub fn periods_in(numbers: &[u64]) -> usize
-    requires { Laid numbers.now }
-    ensures { result ≡ (instance_in numbers.now).periods }
-{
-    numbers[0] as usize
-}
-
-// The number of units.
-pub fn units_in(numbers: &[u64]) -> usize
-    requires { Laid numbers.now }
-    ensures { result ≡ length (instance_in numbers.now).units }
-{
-    numbers[1] as usize
-}
-
-// The demand of period t.
-pub fn demand_at(numbers: &[u64], t: usize) -> u64
-    requires laid { Laid numbers.now }
-    requires t_bound { t < (instance_in numbers.now).periods }
-    ensures { result ≡ (instance_in numbers.now).demand at t }
-{
-    numbers[2 + t]
-}
-
-// The spare of period t.
-pub fn spare_at(numbers: &[u64], t: usize) -> u64
-    requires laid { Laid numbers.now }
-    requires t_bound { t < (instance_in numbers.now).periods }
-    ensures { result ≡ (instance_in numbers.now).spare at t }
-{
-    numbers[50 + t]
-}
-
-// The pU of unit u.
-pub fn pU_at(numbers: &[u64], u: usize) -> u64
-    requires laid { Laid numbers.now }
-    requires u_in_bounds { u < length (instance_in numbers.now).units }
-    ensures { result ≡ (get_or (instance_in numbers.now).units u blank_generator).pU }
-{
-    numbers[98 + u * 16 + 4]
-}
-
 // The generator that these numbers are.
 fn generator_of(values: &[u64]) -> Generator
     requires { 16 ≤ length values.now }
@@ -120,14 +76,4 @@ fn generator_of(values: &[u64]) -> Generator
         Dc: values[14],
         p0: values[15],
     }
-}
-
-// The generator of unit u.
-pub fn generator_at(numbers: &[u64], u: usize) -> Generator
-    requires laid { Laid numbers.now }
-    requires u_in_bounds { u < length (instance_in numbers.now).units }
-    ensures { result ≡ get_or (instance_in numbers.now).units u blank_generator }
-{
-    let from = 98 + u * 16;
-    generator_of(&numbers[from..])
 }

@@ -2,10 +2,10 @@
 ghost use Rattle.std.specs.Prelude.{◌≡◌, ◌*◌, ◌≤◌, ◌<◌, length};
 ghost use Rattle.model.specs.Ranges.{Between, GoodUnit};
 ghost use Rattle.model.specs.Leaf.{is_stuck, stuck_at};
-ghost use Rattle.layout.specs.Numbers.{instance_in, Laid};
+ghost use Rattle.layout.specs.Plans.{instance_of};
 ghost use Rattle.walk.specs.Marks.{marks_of, above_of};
 
-use layout::{generator_at, periods_in};
+use layout::plan::Plan;
 use model::generator::Generator;
 use walk::walk_value;
 
@@ -21,14 +21,13 @@ fn is_stuck(g: Generator, fixed: &[u8]) -> bool
 }
 
 // Whether unit u is stuck.
-pub fn is_unit_stuck(numbers: &[u64], u: usize, above: &[u8]) -> bool
-    requires laid { Laid numbers.now }
-    requires u_in_bounds { u < length (instance_in numbers.now).units }
-    requires numbers_in_bounds { length (instance_in numbers.now).units * (instance_in numbers.now).periods ≤ length above.now }
-    ensures { result ≡ stuck_at (instance_in numbers.now).periods (instance_in numbers.now).units (above_of (instance_in numbers.now) above.now).marks u }
+pub fn is_unit_stuck(plan: Plan, u: usize, above: &[u8]) -> bool
+    requires u_in_bounds { u < length (instance_of plan).units }
+    requires numbers_in_bounds { length (instance_of plan).units * (instance_of plan).periods ≤ length above.now }
+    ensures { result ≡ stuck_at (instance_of plan.entry).periods (instance_of plan.entry).units (above_of (instance_of plan.entry) above.now).marks u }
 {
-    let n = periods_in(numbers);
+    let n = plan.periods();
     let begin = u * n;
     let end = begin + n;
-    is_stuck(generator_at(numbers, u), &above[begin..end])
+    is_stuck(plan.generator(u), &above[begin..end])
 }

@@ -2,14 +2,13 @@
 ghost use Rattle.std.specs.Prelude.{◌≡◌, ◌*◌, ◌≤◌, ◌<◌, length, take};
 ghost use Rattle.model.specs.Largest.{falling};
 ghost use Rattle.model.specs.Leaf.{usable};
-ghost use Rattle.layout.specs.Numbers.{instance_in, Laid};
+ghost use Rattle.layout.specs.Plans.{instance_of};
 ghost use Rattle.walk.specs.Marks.{above_of, above_length};
 ghost use Rattle.leaves.specs.LeafLeasts.{taken_in, taken_from};
 
 use crate::counts::UPPER;
 use crate::marks::{not_off_of, usable_of};
-use layout::ranking::{place_at, size_at};
-use layout::{demand_at, pU_at, periods_in, spare_at, units_in};
+use layout::plan::Plan;
 
 // Whether the units taken are short, and how many they are.
 #[derive(Clone, Copy)]
@@ -19,17 +18,16 @@ pub struct Taken {
 }
 
 // The units that are free or fixed on in period t, taken by number until they reach the need.
-fn take_by_number(numbers: &[u64], t: usize, above: &[u8], need: u64) -> Taken
-    requires laid { Laid numbers.now }
-    requires t_bound { t < (instance_in numbers.now).periods }
-    requires numbers_in_bounds { length (instance_in numbers.now).units * (instance_in numbers.now).periods ≤ length above.now }
+fn take_by_number(plan: Plan, t: usize, above: &[u8], need: u64) -> Taken
+    requires t_bound { t < (instance_of plan).periods }
+    requires numbers_in_bounds { length (instance_of plan).units * (instance_of plan).periods ≤ length above.now }
     requires need_bound { need ≤ 640_000 }
-    ensures { result ≡ taken_from (usable (instance_in numbers.now).units (above_of (instance_in numbers.now) above.now).marks t) need }
+    ensures { result ≡ taken_from (usable (instance_of plan.entry).units (above_of (instance_of plan.entry) above.now).marks t) need }
 {
-    let n = periods_in(numbers);
+    let n = plan.periods();
     let mut sum = 0;
     let mut taken = 0;
-    for u in 0..units_in(numbers) {
+    for u in 0..plan.units() {
         if need <= sum {
             return Taken {
                 short: false,
@@ -37,7 +35,7 @@ fn take_by_number(numbers: &[u64], t: usize, above: &[u8], need: u64) -> Taken
             };
         }
         let mark = above[u * n + t];
-        sum += usable_of(mark, pU_at(numbers, u));
+        sum += usable_of(mark, plan.pU(u));
         taken += not_off_of(mark);
     }
     Taken {
@@ -48,14 +46,13 @@ fn take_by_number(numbers: &[u64], t: usize, above: &[u8], need: u64) -> Taken
 
 // Those units, taken the largest first, and `most` of them at most, until they reach the need. As a `for` with a `break` the loop takes a
 // twentieth more steps; by a closure for the place and the size it would be one with `take_by_number`, and ask of it what both ask: no plainer.
-fn take_largest(numbers: &[u64], t: usize, above: &[u8], need: u64, most: usize) -> Taken
-    requires laid { Laid numbers.now }
-    requires t_bound { t < (instance_in numbers.now).periods }
-    requires numbers_in_bounds { length (instance_in numbers.now).units * (instance_in numbers.now).periods ≤ length above.now }
+fn take_largest(plan: Plan, t: usize, above: &[u8], need: u64, most: usize) -> Taken
+    requires t_bound { t < (instance_of plan).periods }
+    requires numbers_in_bounds { length (instance_of plan).units * (instance_of plan).periods ≤ length above.now }
     requires need_bound { need ≤ 640_000 }
-    ensures { result ≡ taken_from (take most (falling (usable (instance_in numbers.now).units (above_of (instance_in numbers.now) above.now).marks t))) need }
+    ensures { result ≡ taken_from (take most (falling (usable (instance_of plan.entry).units (above_of (instance_of plan.entry) above.now).marks t))) need }
 {
-    let units = units_in(numbers);
+    let units = plan.units();
     let mut sum = 0;
     let mut taken = 0;
     let mut i = 0;
@@ -66,8 +63,8 @@ fn take_largest(numbers: &[u64], t: usize, above: &[u8], need: u64, most: usize)
                 units: taken,
             };
         }
-        let mark = above[place_at(numbers, i) + t];
-        sum += usable_of(mark, size_at(numbers, i));
+        let mark = above[plan.place(i) + t];
+        sum += usable_of(mark, plan.size(i));
         taken += not_off_of(mark);
         i += 1;
     }
@@ -79,16 +76,15 @@ fn take_largest(numbers: &[u64], t: usize, above: &[u8], need: u64, most: usize)
 
 // Whether what can be on in period t is short of demand and spare, and how many units were taken until that was plain: by number, or the largest first
 // where an upper count stands, and no more than it.
-pub fn sum_until(numbers: &[u64], t: usize, above: &[u8]) -> Taken
-    requires laid { Laid numbers.now }
-    requires t_bound { t < (instance_in numbers.now).periods }
+pub fn sum_until(plan: Plan, t: usize, above: &[u8]) -> Taken
+    requires t_bound { t < (instance_of plan).periods }
     requires above_len { length above.now ≡ above_length }
-    ensures { result ≡ taken_in (instance_in numbers.now) (above_of (instance_in numbers.now) above.now) t }
+    ensures { result ≡ taken_in (instance_of plan.entry) (above_of (instance_of plan.entry) above.now) t }
 {
-    let need = demand_at(numbers, t) + spare_at(numbers, t);
+    let need = plan.demand(t) + plan.spare(t);
     let upper = above[UPPER + t];
     if upper == 0 {
-        return take_by_number(numbers, t, above, need);
+        return take_by_number(plan, t, above, need);
     }
-    take_largest(numbers, t, above, need, usize::from(upper - 1))
+    take_largest(plan, t, above, need, usize::from(upper - 1))
 }

@@ -1,13 +1,14 @@
 // What is answered to a question about the runs of a price leaf.
 ghost use Rattle.std.specs.Prelude.{◌≡◌, true, ◌≤◌, length};
 ghost use Rattle.model.specs.Held.{view, Valid};
-ghost use Rattle.layout.specs.Numbers.{instance_in, Laid};
+ghost use Rattle.layout.specs.Plans.{instance_of};
 ghost use Rattle.runs.specs.Drafts.{fits_in, fits, drafted, draft_under};
 ghost use Rattle.runs.specs.declared.drafting.NoRuns.TheVariants.{Question};
 
 use crate::question::{Unanswered, is_asked};
 use crate::short::write_short;
 use crate::units::{first_stuck, write_runs};
+use layout::plan::Plan;
 use layout::ranking::lay_out_ranked;
 use leaves::price::leaf_value;
 use model::arrays::Problem;
@@ -47,24 +48,23 @@ fn is_fit(
 
 // The draft of a leaf that fits: the leaf's value, with the runs and the shortfalls written, or a stuck unit.
 fn draft(
-    numbers: &[u64],
+    plan: Plan,
     q: &[u64],
     s: &[u64],
     fixed: &[u8],
     rows: &mut [u64],
     short: &mut [u64],
 ) -> Result<i64, NoRuns>
-    requires laid { Laid numbers.now }
-    requires short_value { fits (instance_in numbers.now) q.now s.now fixed.now (length rows.old) (length short.old) ≡ true }
-    ensures answer { result ≡ (drafted (instance_in numbers.now) q.now s.now fixed.now rows.old short.old).answer }
-    ensures rows { rows.new ≡ (drafted (instance_in numbers.now) q.now s.now fixed.now rows.old short.old).rows }
-    ensures short { short.new ≡ (drafted (instance_in numbers.now) q.now s.now fixed.now rows.old short.old).short }
+    requires { fits (instance_of plan) q.now s.now fixed.now (length rows.old) (length short.old) ≡ true }
+    ensures answer { result ≡ (drafted (instance_of plan.entry) q.now s.now fixed.now rows.old short.old).answer }
+    ensures rows { rows.new ≡ (drafted (instance_of plan.entry) q.now s.now fixed.now rows.old short.old).rows }
+    ensures short { short.new ≡ (drafted (instance_of plan.entry) q.now s.now fixed.now rows.old short.old).short }
 {
-    match leaf_value(numbers, q, s, fixed) {
-        None => Err(NoRuns::Stuck(first_stuck(numbers, fixed) + 1)),
+    match leaf_value(plan, q, s, fixed) {
+        None => Err(NoRuns::Stuck(first_stuck(plan, fixed) + 1)),
         Some(value) => {
-            write_runs(numbers, q, s, fixed, rows);
-            write_short(numbers, rows, short);
+            write_runs(plan, q, s, fixed, rows);
+            write_short(plan, rows, short);
             Ok(value)
         }
     }
@@ -97,5 +97,5 @@ pub fn answer_runs(
         return Err(NoRuns::Question(Unanswered::Unfit));
     }
     let numbers = lay_out_ranked(problem);
-    draft(&numbers, q, s, fixed, rows, short)
+    draft(Plan::of(&numbers), q, s, fixed, rows, short)
 }

@@ -1,11 +1,11 @@
 // How far rows that stand one after the other fall short of the demand.
 ghost use Rattle.std.specs.Prelude.{◌≡◌, ◌*◌, ◌-◌, ◌≤◌, ◌<◌, length};
 ghost use Rattle.model.specs.Ranges.{All, GoodOutput};
-ghost use Rattle.layout.specs.Numbers.{instance_in, Laid};
+ghost use Rattle.layout.specs.Plans.{instance_of};
 ghost use Rattle.judge.specs.Loads.{output_in};
 ghost use Rattle.runs.specs.Columns.{short_of};
 
-use layout::{demand_at, periods_in, units_in};
+use layout::plan::Plan;
 
 // What the rows of so many units give in period t.
 fn sum_column(units: usize, periods: usize, rows: &[u64], t: usize) -> u64
@@ -21,15 +21,14 @@ fn sum_column(units: usize, periods: usize, rows: &[u64], t: usize) -> u64
 }
 
 // Writes how far the units' rows fall short of the demand in each period.
-pub fn write_short(numbers: &[u64], rows: &[u64], short: &mut [u64])
-    requires laid { Laid numbers.now }
-    requires rows_len { (length rows.now ≡ length (instance_in numbers.now).units * (instance_in numbers.now).periods) × All GoodOutput rows.now }
-    requires short_len { length short.old ≡ (instance_in numbers.now).periods }
-    ensures { short.new ≡ short_of (instance_in numbers.now) rows.now }
+pub fn write_short(plan: Plan, rows: &[u64], short: &mut [u64])
+    requires rows_len { (length rows.now ≡ length (instance_of plan).units * (instance_of plan).periods) × All GoodOutput rows.now }
+    requires short_len { length short.old ≡ (instance_of plan).periods }
+    ensures { short.new ≡ short_of (instance_of plan.entry) rows.now }
 {
-    let n = periods_in(numbers);
-    let units = units_in(numbers);
+    let n = plan.periods();
+    let units = plan.units();
     for (t, missing) in short.iter_mut().enumerate() {
-        *missing = demand_at(numbers, t).saturating_sub(sum_column(units, n, rows, t));
+        *missing = plan.demand(t).saturating_sub(sum_column(units, n, rows, t));
     }
 }

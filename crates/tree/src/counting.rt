@@ -1,6 +1,6 @@
 // A count line.
 ghost use Rattle.std.specs.Prelude.{◌≡◌, ◌≤◌, ◌<◌, length};
-ghost use Rattle.layout.specs.Numbers.{instance_in, Laid};
+ghost use Rattle.layout.specs.Plans.{instance_of};
 ghost use Rattle.walk.specs.Marks.{most_of, above_of, above_length};
 ghost use Rattle.tree.specs.declared.forking.ForkKind.TheVariants.{Count};
 ghost use Rattle.text.specs.Lines.{line_at};
@@ -10,7 +10,7 @@ ghost use Rattle.tree.specs.Coded.{count_refusal};
 ghost use Rattle.tree.specs.ReadAnswers.{fork_line_read};
 
 use crate::above::{ForkLine, MOST_DEPTH, Side};
-use layout::{periods_in, units_in};
+use layout::plan::Plan;
 use leaves::counts::{LOWER, UPPER};
 
 // Whether the count is not below the lower one and below the upper one, as these bytes hold them.
@@ -36,20 +36,19 @@ fn refuse_count(above: &[u8], t: usize, count: usize, depth: usize) -> Result<()
 
 // The count line that starts at `at`, or the number that refuses it.
 pub fn read_count_line(
-    numbers: &[u64],
+    plan: Plan,
     text: &[u8],
     at: usize,
     depth: usize,
     above: &[u8],
 ) -> Result<ForkLine, u64>
-    requires laid { Laid numbers.now }
     requires above_len { length above.now ≡ above_length }
     requires text_len_bound { length text.now ≤ 1048576 }
     requires at_value { line_kind_of (line_at text.now at) ≡ count_line }
-    ensures { result ≡ fork_line_read (instance_in numbers.now) text.now at (above_of (instance_in numbers.now) above.now) depth Count }
+    ensures { result ≡ fork_line_read (instance_of plan.entry) text.now at (above_of (instance_of plan.entry) above.now) depth Count }
 {
-    let units = units_in(numbers);
-    let periods = periods_in(numbers);
+    let units = plan.units();
+    let periods = plan.periods();
     let highs = [periods as u64, (units - 1) as u64];
     let mut values = [0u64; 2];
     let next = text::fill_line(text, at, b"count=", &[1, 0], &highs, &mut values)?;

@@ -1,6 +1,6 @@
 // The line of a node with two trees below it.
 ghost use Rattle.std.specs.Prelude.{◌≡◌, ◌≤◌, length};
-ghost use Rattle.layout.specs.Numbers.{instance_in, Laid};
+ghost use Rattle.layout.specs.Plans.{instance_of};
 ghost use Rattle.walk.specs.Marks.{above_of, above_length};
 ghost use Rattle.text.specs.Lines.{line_at};
 ghost use Rattle.tree.specs.NodeLines.{line_kind_of};
@@ -10,6 +10,7 @@ ghost use Rattle.tree.specs.ReadAnswers.{fork_line_read};
 use crate::above::ForkLine;
 use crate::counting::read_count_line;
 use crate::splitting::read_split_line;
+use layout::plan::Plan;
 
 // The two kinds of such lines.
 #[derive(Clone, Copy)]
@@ -20,21 +21,20 @@ pub enum ForkKind {
 
 // The line of this kind that starts at `at`, or the number that refuses it.
 pub fn read_fork_line(
-    numbers: &[u64],
+    plan: Plan,
     text: &[u8],
     at: usize,
     depth: usize,
     kind: ForkKind,
     above: &[u8],
 ) -> Result<ForkLine, u64>
-    requires laid { Laid numbers.now }
     requires above_len { length above.now ≡ above_length }
     requires text_len_bound { length text.now ≤ 1048576 }
     requires at_value { line_kind_of (line_at text.now at) ≡ fork_kind kind }
-    ensures { result ≡ fork_line_read (instance_in numbers.now) text.now at (above_of (instance_in numbers.now) above.now) depth kind }
+    ensures { result ≡ fork_line_read (instance_of plan.entry) text.now at (above_of (instance_of plan.entry) above.now) depth kind }
 {
     match kind {
-        ForkKind::Split => read_split_line(numbers, text, at, depth, above),
-        ForkKind::Count => read_count_line(numbers, text, at, depth, above),
+        ForkKind::Split => read_split_line(plan, text, at, depth, above),
+        ForkKind::Count => read_count_line(plan, text, at, depth, above),
     }
 }

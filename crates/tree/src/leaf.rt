@@ -1,7 +1,7 @@
 // The leaves: short, crowd, stuck, and a price leaf's two lines; a ramp leaf's are in ramp.rt.
 ghost use Rattle.std.specs.Prelude.{◌≡◌, true, Bool, ℕ, ◌≤◌, ◌<◌, length, take, drop};
 ghost use Rattle.model.specs.Tree.{Multipliers};
-ghost use Rattle.layout.specs.Numbers.{instance_in, Laid};
+ghost use Rattle.layout.specs.Plans.{instance_of};
 ghost use Rattle.walk.specs.Marks.{above_of, above_length};
 ghost use Rattle.text.specs.Lines.{one_line, begins, line_at};
 ghost use Rattle.tree.specs.NodeLines.{line_kind_of};
@@ -13,7 +13,7 @@ ghost use Rattle.tree.specs.ReadAnswers.{named_line_read, ruled, leaf_read, part
 use crate::naming::read_named;
 use crate::ramp::read_ramp;
 use crate::read::{BrokenLine, NodeRead};
-use layout::{periods_in, units_in};
+use layout::plan::Plan;
 use least::stuck::is_unit_stuck;
 use leaves::crowd::is_crowd;
 use leaves::price::leaf_value;
@@ -62,20 +62,19 @@ fn read_ruled<F: Fn(usize) -> bool>(
 
 // The short leaf whose line starts at `at` and has this number.
 fn read_short(
-    numbers: &[u64],
+    plan: Plan,
     text: &[u8],
     at: usize,
     line: usize,
     above: &[u8],
     figures: TreeFigures,
 ) -> Result<NodeRead, BrokenLine>
-    requires laid { Laid numbers.now }
     requires above_len { length above.now ≡ above_length }
     requires placed { Placed text.now at line figures }
     requires at_value { line_kind_of (line_at text.now at) ≡ short_line }
-    ensures { result ≡ leaf_read (instance_in numbers.now) text.now at line figures (above_of (instance_in numbers.now) above.now) }
+    ensures { result ≡ leaf_read (instance_of plan.entry) text.now at line figures (above_of (instance_of plan.entry) above.now) }
 {
-    let most = periods_in(numbers);
+    let most = plan.periods();
     read_ruled(
         text,
         at,
@@ -84,26 +83,25 @@ fn read_short(
         b"short=",
         most,
         33,
-        |t| sum_until(numbers, t, above).short,
+        |t| sum_until(plan, t, above).short,
     )
 }
 
 // The crowd leaf whose line starts at `at` and has this number.
 fn read_crowd(
-    numbers: &[u64],
+    plan: Plan,
     text: &[u8],
     at: usize,
     line: usize,
     above: &[u8],
     figures: TreeFigures,
 ) -> Result<NodeRead, BrokenLine>
-    requires laid { Laid numbers.now }
     requires above_len { length above.now ≡ above_length }
     requires placed { Placed text.now at line figures }
     requires at_value { line_kind_of (line_at text.now at) ≡ crowd_line }
-    ensures { result ≡ leaf_read (instance_in numbers.now) text.now at line figures (above_of (instance_in numbers.now) above.now) }
+    ensures { result ≡ leaf_read (instance_of plan.entry) text.now at line figures (above_of (instance_of plan.entry) above.now) }
 {
-    let most = periods_in(numbers);
+    let most = plan.periods();
     read_ruled(
         text,
         at,
@@ -112,26 +110,25 @@ fn read_crowd(
         b"crowd=",
         most,
         36,
-        |t| is_crowd(numbers, t, above),
+        |t| is_crowd(plan, t, above),
     )
 }
 
 // The stuck leaf whose line starts at `at` and has this number.
 fn read_stuck(
-    numbers: &[u64],
+    plan: Plan,
     text: &[u8],
     at: usize,
     line: usize,
     above: &[u8],
     figures: TreeFigures,
 ) -> Result<NodeRead, BrokenLine>
-    requires laid { Laid numbers.now }
     requires above_len { length above.now ≡ above_length }
     requires placed { Placed text.now at line figures }
     requires at_value { line_kind_of (line_at text.now at) ≡ stuck_line }
-    ensures { result ≡ leaf_read (instance_in numbers.now) text.now at line figures (above_of (instance_in numbers.now) above.now) }
+    ensures { result ≡ leaf_read (instance_of plan.entry) text.now at line figures (above_of (instance_of plan.entry) above.now) }
 {
-    let most = units_in(numbers);
+    let most = plan.units();
     read_ruled(
         text,
         at,
@@ -140,13 +137,13 @@ fn read_stuck(
         b"stuck=",
         most,
         34,
-        |u| is_unit_stuck(numbers, u, above),
+        |u| is_unit_stuck(plan, u, above),
     )
 }
 
 // The price leaf with the multipliers q whose reserve line starts at `at` and has this number.
 pub fn read_reserve(
-    numbers: &[u64],
+    plan: Plan,
     text: &[u8],
     at: usize,
     line: usize,
@@ -154,13 +151,12 @@ pub fn read_reserve(
     above: &[u8],
     figures: TreeFigures,
 ) -> Result<NodeRead, BrokenLine>
-    requires laid { Laid numbers.now }
     requires above_len { length above.now ≡ above_length }
     requires placed { Placed text.now at line figures }
-    requires multipliers { Multipliers (instance_in numbers.now) (take (instance_in numbers.now).periods q) }
-    ensures { result ≡ part_read (instance_in numbers.now) text.now at line figures (above_of (instance_in numbers.now) above.now) (priced (take (instance_in numbers.now).periods q)) }
+    requires multipliers { Multipliers (instance_of plan) (take (instance_of plan).periods q) }
+    ensures { result ≡ part_read (instance_of plan.entry) text.now at line figures (above_of (instance_of plan.entry) above.now) (priced (take (instance_of plan.entry).periods q)) }
 {
-    let periods = periods_in(numbers);
+    let periods = plan.periods();
     let row = text::read_row(
         text,
         at,
@@ -170,7 +166,7 @@ pub fn read_reserve(
         Span::PRICE.most,
     )
     .map_err(|fault| BrokenLine::by(fault, line))?;
-    let Some(value) = leaf_value(numbers, &q[..periods], &row.values[..periods], above) else {
+    let Some(value) = leaf_value(plan, &q[..periods], &row.values[..periods], above) else {
         return Err(BrokenLine { number: 35, line });
     };
     Ok(NodeRead {
@@ -182,20 +178,19 @@ pub fn read_reserve(
 
 // The price leaf whose price line starts at `at` and has this number.
 fn read_price(
-    numbers: &[u64],
+    plan: Plan,
     text: &[u8],
     at: usize,
     line: usize,
     above: &[u8],
     figures: TreeFigures,
 ) -> Result<NodeRead, BrokenLine>
-    requires laid { Laid numbers.now }
     requires above_len { length above.now ≡ above_length }
     requires placed { Placed text.now at line figures }
     requires at_value { line_kind_of (line_at text.now at) ≡ price_line }
-    ensures { result ≡ leaf_read (instance_in numbers.now) text.now at line figures (above_of (instance_in numbers.now) above.now) }
+    ensures { result ≡ leaf_read (instance_of plan.entry) text.now at line figures (above_of (instance_of plan.entry) above.now) }
 {
-    let periods = periods_in(numbers);
+    let periods = plan.periods();
     let row = text::read_row(
         text,
         at,
@@ -205,20 +200,12 @@ fn read_price(
         Span::PRICE.most,
     )
     .map_err(|fault| BrokenLine::by(fault, line))?;
-    read_reserve(
-        numbers,
-        text,
-        row.next,
-        line + 1,
-        row.values,
-        above,
-        figures,
-    )
+    read_reserve(plan, text, row.next, line + 1, row.values, above, figures)
 }
 
 // The leaf of this kind whose first line starts at `at` and has this number.
 pub fn read_leaf(
-    numbers: &[u64],
+    plan: Plan,
     text: &[u8],
     at: usize,
     line: usize,
@@ -226,17 +213,16 @@ pub fn read_leaf(
     above: &[u8],
     figures: TreeFigures,
 ) -> Result<NodeRead, BrokenLine>
-    requires laid { Laid numbers.now }
     requires above_len { length above.now ≡ above_length }
     requires placed { Placed text.now at line figures }
     requires at_value { line_kind_of (line_at text.now at) ≡ leaf_kind kind }
-    ensures { result ≡ leaf_read (instance_in numbers.now) text.now at line figures (above_of (instance_in numbers.now) above.now) }
+    ensures { result ≡ leaf_read (instance_of plan.entry) text.now at line figures (above_of (instance_of plan.entry) above.now) }
 {
     match kind {
-        LeafKind::Short => read_short(numbers, text, at, line, above, figures),
-        LeafKind::Crowd => read_crowd(numbers, text, at, line, above, figures),
-        LeafKind::Stuck => read_stuck(numbers, text, at, line, above, figures),
-        LeafKind::Price => read_price(numbers, text, at, line, above, figures),
-        LeafKind::Ramp => read_ramp(numbers, text, at, line, above, figures),
+        LeafKind::Short => read_short(plan, text, at, line, above, figures),
+        LeafKind::Crowd => read_crowd(plan, text, at, line, above, figures),
+        LeafKind::Stuck => read_stuck(plan, text, at, line, above, figures),
+        LeafKind::Price => read_price(plan, text, at, line, above, figures),
+        LeafKind::Ramp => read_ramp(plan, text, at, line, above, figures),
     }
 }

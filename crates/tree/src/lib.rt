@@ -8,6 +8,7 @@ ghost use Rattle.tree.specs.ReadAnswers.{Placed, ended_as, tree_read};
 
 use crate::node::read_node;
 use crate::read::{BrokenLine, NodeRead};
+use layout::plan::Plan;
 use layout::ranking::lay_out_ranked;
 use model::arrays::Problem;
 use model::figures::TreeFigures;
@@ -60,7 +61,7 @@ pub fn read_tree(problem: Problem, text: &[u8]) -> Result<TreeRead, Refusal>
     let numbers = lay_out_ranked(problem);
     let mut above = [0u8; 1632];
     let read = read_node(
-        &numbers,
+        Plan::of(&numbers),
         text,
         line.next,
         3,

@@ -1,6 +1,6 @@
 // A tree: a leaf, or a fork with two trees.
 ghost use Rattle.std.specs.Prelude.{◌≡◌, ◌+◌, ◌≤◌, ◌<◌, length, set};
-ghost use Rattle.layout.specs.Numbers.{instance_in, Laid};
+ghost use Rattle.layout.specs.Plans.{instance_of};
 ghost use Rattle.walk.specs.Marks.{above_of, above_length};
 ghost use Rattle.text.specs.Lines.{line_at};
 ghost use Rattle.tree.specs.NodeLines.{line_kind_of};
@@ -11,6 +11,7 @@ use crate::above::ForkLine;
 use crate::forking::{ForkKind, read_fork_line};
 use crate::leaf::{LeafKind, read_leaf};
 use crate::read::{BrokenLine, NodeRead};
+use layout::plan::Plan;
 use model::figures::TreeFigures;
 
 // The node lines: of a fork, with two trees below it, or of a leaf.
@@ -49,7 +50,7 @@ fn find_kind(text: &[u8], at: usize) -> NodeKind
 // The tree whose first line starts at `at` and has this number, with what stands above it, which is left as it was.
 #[cycle(read_node_read_split)]
 pub fn read_node(
-    numbers: &[u64],
+    plan: Plan,
     text: &[u8],
     at: usize,
     line: usize,
@@ -57,21 +58,20 @@ pub fn read_node(
     above: &mut [u8],
     figures: TreeFigures,
 ) -> Result<NodeRead, BrokenLine>
-    requires laid { Laid numbers.now }
     requires placed { Placed text.now at line figures }
     requires depth_bound { (depth ≤ 64) × (length above.old ≡ above_length) }
-    ensures read { result ≡ node_read (instance_in numbers.now) text.now at line figures (above_of (instance_in numbers.now) above.old) depth }
+    ensures read { result ≡ node_read (instance_of plan.entry) text.now at line figures (above_of (instance_of plan.entry) above.old) depth }
     ensures same { above.new ≡ above.old }
 {
     match find_kind(text, at) {
-        NodeKind::Leaf(leaf) => read_leaf(numbers, text, at, line, leaf, above, figures),
+        NodeKind::Leaf(leaf) => read_leaf(plan, text, at, line, leaf, above, figures),
         NodeKind::Fork(kind) => {
-            let fork = match read_fork_line(numbers, text, at, depth, kind, above) {
+            let fork = match read_fork_line(plan, text, at, depth, kind, above) {
                 Ok(fork) => fork,
                 Err(number) => return Err(BrokenLine { number, line }),
             };
             let more = figures.with_split();
-            read_split(numbers, text, line + 1, depth + 1, fork, above, more)
+            read_split(plan, text, line + 1, depth + 1, fork, above, more)
         }
     }
 }
@@ -80,7 +80,7 @@ pub fn read_node(
 // left as they were.
 #[cycle(read_node_read_split)]
 fn read_split(
-    numbers: &[u64],
+    plan: Plan,
     text: &[u8],
     line: usize,
     depth: usize,
@@ -88,23 +88,22 @@ fn read_split(
     above: &mut [u8],
     figures: TreeFigures,
 ) -> Result<NodeRead, BrokenLine>
-    requires laid { Laid numbers.now }
     requires placed { Placed text.now fork.next line figures }
     requires depth_bound { (depth ≤ 64) × (length above.old ≡ above_length) }
     requires place_lt_above_length { (fork.first.place < above_length) × (fork.second.place < above_length) }
-    ensures read { result ≡ trees_read (instance_in numbers.now) text.now fork.next line figures (above_of (instance_in numbers.now) (set above.old fork.first.place fork.first.byte)) (above_of (instance_in numbers.now) (set above.old fork.second.place fork.second.byte)) depth }
+    ensures read { result ≡ trees_read (instance_of plan.entry) text.now fork.next line figures (above_of (instance_of plan.entry) (set above.old fork.first.place fork.first.byte)) (above_of (instance_of plan.entry) (set above.old fork.second.place fork.second.byte)) depth }
     ensures same { above.new ≡ above.old }
 {
     let place = fork.first.place;
     let was = above[place];
     above[place] = fork.first.byte;
-    let one = read_node(numbers, text, fork.next, line, depth, above, figures);
+    let one = read_node(plan, text, fork.next, line, depth, above, figures);
     above[place] = was;
     let one = one?;
     let place = fork.second.place;
     let was = above[place];
     above[place] = fork.second.byte;
-    let two = read_node(numbers, text, one.next, one.line, depth, above, one.figures);
+    let two = read_node(plan, text, one.next, one.line, depth, above, one.figures);
     above[place] = was;
     two
 }

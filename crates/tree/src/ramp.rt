@@ -1,7 +1,7 @@
 // A leaf with prices on the ramps: its rampprice line, its reserve line, and two lines for each unit.
 ghost use Rattle.std.specs.Prelude.{◌≡◌, true, [], ◌*◌, ◌≤◌, ◌<◌, length, take};
 ghost use Rattle.model.specs.Tree.{Multipliers};
-ghost use Rattle.layout.specs.Numbers.{instance_in, Laid};
+ghost use Rattle.layout.specs.Plans.{instance_of};
 ghost use Rattle.walk.specs.Marks.{above_of, above_length};
 ghost use Rattle.least.specs.Limits.{GoodPrices};
 ghost use Rattle.leaves.specs.Limits.{SmallLeast};
@@ -15,7 +15,7 @@ ghost use Rattle.tree.specs.RampReads.{Padded, inner, steps_stored, unit_read, w
 
 use crate::leaf::read_reserve;
 use crate::read::{BrokenLine, NodeRead};
-use layout::{periods_in, units_in};
+use layout::plan::Plan;
 use leaves::ramp::{add_unit, with_requirement};
 use model::figures::TreeFigures;
 use model::ranges::Span;
@@ -49,7 +49,7 @@ fn fill_steps(text: &[u8], at: usize, key: &[u8], out: &mut [u64]) -> Result<usi
 // The two lines of unit u, the first of which starts at `at` and has this number; sum is what the units before it answer. The
 // numbers in up and down are written over.
 fn read_unit(
-    numbers: &[u64],
+    plan: Plan,
     text: &[u8],
     at: usize,
     line: usize,
@@ -61,26 +61,27 @@ fn read_unit(
     above: &[u8],
     sum: Option<i64>,
 ) -> Result<UnitLines, BrokenLine>
-    requires laid { Laid numbers.now × (2 ≤ (instance_in numbers.now).periods) × (u < length (instance_in numbers.now).units) }
-    requires good_prices { GoodPrices (instance_in numbers.now).periods q.now s.now }
-    requires padded_2 { Padded (instance_in numbers.now).periods up.old × Padded (instance_in numbers.now).periods down.old }
-    requires numbers_in_bounds { length (instance_in numbers.now).units * (instance_in numbers.now).periods ≤ length above.now }
+    requires periods_bound { 2 ≤ (instance_of plan).periods }
+    requires u_in_bounds { u < length (instance_of plan).units }
+    requires good_prices { GoodPrices (instance_of plan).periods q.now s.now }
+    requires padded_2 { Padded (instance_of plan).periods up.old × Padded (instance_of plan).periods down.old }
+    requires numbers_in_bounds { length (instance_of plan).units * (instance_of plan).periods ≤ length above.now }
     requires small_least { SmallLeast sum × (line ≤ 1048577) }
-    ensures read { result ≡ unit_read (instance_in numbers.now) text.now at line (above_of (instance_in numbers.now) above.now) q.now s.now u sum }
-    ensures padded { Padded (instance_in numbers.now).periods up.new × Padded (instance_in numbers.now).periods down.new }
+    ensures read { result ≡ unit_read (instance_of plan.entry) text.now at line (above_of (instance_of plan.entry) above.now) q.now s.now u sum }
+    ensures padded { Padded (instance_of plan.entry).periods up.new × Padded (instance_of plan.entry).periods down.new }
 {
     let falls = fill_steps(text, at, b"up=", up).map_err(|fault| BrokenLine::by(fault, line))?;
     let next = fill_steps(text, falls, b"down=", down).map_err(|fault| BrokenLine::by(
         fault,
         line + 1,
     ))?;
-    let sum = add_unit(numbers, u, q, s, up, down, above, sum);
+    let sum = add_unit(plan, u, q, s, up, down, above, sum);
     Ok(UnitLines { next, sum })
 }
 
 // The leaf after its last line, where the units answered this: the next line starts at `next` and has this number.
 fn end_ramp(
-    numbers: &[u64],
+    plan: Plan,
     q: &[u64],
     s: &[u64],
     next: usize,
@@ -88,12 +89,11 @@ fn end_ramp(
     sum: Option<i64>,
     figures: TreeFigures,
 ) -> Result<NodeRead, BrokenLine>
-    requires laid { Laid numbers.now }
-    requires good_prices { GoodPrices (instance_in numbers.now).periods q.now s.now }
+    requires good_prices { GoodPrices (instance_of plan).periods q.now s.now }
     requires small_least { SmallLeast sum × (1 ≤ line) × (figures.leaves < 2000000) }
-    ensures { result ≡ ramp_ended next line figures (with_required (instance_in numbers.now) q.now s.now sum) }
+    ensures { result ≡ ramp_ended next line figures (with_required (instance_of plan.entry) q.now s.now sum) }
 {
-    let Some(value) = with_requirement(numbers, q, s, sum) else {
+    let Some(value) = with_requirement(plan, q, s, sum) else {
         return Err(BrokenLine {
             number: 35,
             line: line - 1,
@@ -108,7 +108,7 @@ fn end_ramp(
 
 // The ramp leaf with the multipliers q and s whose units' lines start at `at`, the first of them with this number.
 fn read_units(
-    numbers: &[u64],
+    plan: Plan,
     text: &[u8],
     at: usize,
     line: usize,
@@ -117,21 +117,21 @@ fn read_units(
     above: &[u8],
     figures: TreeFigures,
 ) -> Result<NodeRead, BrokenLine>
-    requires laid { Laid numbers.now × (2 ≤ (instance_in numbers.now).periods) }
+    requires periods_bound { 2 ≤ (instance_of plan).periods }
     requires above_len { length above.now ≡ above_length }
     requires placed { Placed text.now at line figures }
-    requires good_prices { GoodPrices (instance_in numbers.now).periods q.now s.now }
-    ensures { result ≡ part_read (instance_in numbers.now) text.now at line figures (above_of (instance_in numbers.now) above.now) (with_steps q.now s.now []) }
+    requires good_prices { GoodPrices (instance_of plan).periods q.now s.now }
+    ensures { result ≡ part_read (instance_of plan.entry) text.now at line figures (above_of (instance_of plan.entry) above.now) (with_steps q.now s.now []) }
 {
-    let end = periods_in(numbers) + 1;
+    let end = plan.periods() + 1;
     let mut up = [0u64; 49];
     let mut down = [0u64; 49];
     let mut sum = Some(0);
     let mut next = at;
     let mut here = line;
-    for u in 0..units_in(numbers) {
+    for u in 0..plan.units() {
         let lines = read_unit(
-            numbers,
+            plan,
             text,
             next,
             here,
@@ -147,12 +147,12 @@ fn read_units(
         next = lines.next;
         here += 2;
     }
-    end_ramp(numbers, q, s, next, here, sum, figures)
+    end_ramp(plan, q, s, next, here, sum, figures)
 }
 
 // The ramp leaf with the multipliers q, of two periods or more, whose reserve line starts at `at` and has this number.
 fn read_ramp_reserve(
-    numbers: &[u64],
+    plan: Plan,
     text: &[u8],
     at: usize,
     line: usize,
@@ -160,13 +160,13 @@ fn read_ramp_reserve(
     above: &[u8],
     figures: TreeFigures,
 ) -> Result<NodeRead, BrokenLine>
-    requires laid { Laid numbers.now × (2 ≤ (instance_in numbers.now).periods) }
+    requires periods_bound { 2 ≤ (instance_of plan).periods }
     requires above_len { length above.now ≡ above_length }
     requires placed { Placed text.now at line figures }
-    requires multipliers { Multipliers (instance_in numbers.now) (take (instance_in numbers.now).periods q) }
-    ensures { result ≡ part_read (instance_in numbers.now) text.now at line figures (above_of (instance_in numbers.now) above.now) (ramp_priced (take (instance_in numbers.now).periods q)) }
+    requires multipliers { Multipliers (instance_of plan) (take (instance_of plan).periods q) }
+    ensures { result ≡ part_read (instance_of plan.entry) text.now at line figures (above_of (instance_of plan.entry) above.now) (ramp_priced (take (instance_of plan.entry).periods q)) }
 {
-    let n = periods_in(numbers);
+    let n = plan.periods();
     let row = text::read_row(
         text,
         at,
@@ -177,7 +177,7 @@ fn read_ramp_reserve(
     )
     .map_err(|fault| BrokenLine::by(fault, line))?;
     read_units(
-        numbers,
+        plan,
         text,
         row.next,
         line + 1,
@@ -190,20 +190,19 @@ fn read_ramp_reserve(
 
 // The ramp leaf whose rampprice line starts at `at` and has this number. In one period it is read as a price leaf is: no step is left.
 pub fn read_ramp(
-    numbers: &[u64],
+    plan: Plan,
     text: &[u8],
     at: usize,
     line: usize,
     above: &[u8],
     figures: TreeFigures,
 ) -> Result<NodeRead, BrokenLine>
-    requires laid { Laid numbers.now }
     requires above_len { length above.now ≡ above_length }
     requires placed { Placed text.now at line figures }
     requires at_value { line_kind_of (line_at text.now at) ≡ ramp_line }
-    ensures { result ≡ leaf_read (instance_in numbers.now) text.now at line figures (above_of (instance_in numbers.now) above.now) }
+    ensures { result ≡ leaf_read (instance_of plan.entry) text.now at line figures (above_of (instance_of plan.entry) above.now) }
 {
-    let n = periods_in(numbers);
+    let n = plan.periods();
     let row = text::read_row(
         text,
         at,
@@ -214,23 +213,7 @@ pub fn read_ramp(
     )
     .map_err(|fault| BrokenLine::by(fault, line))?;
     if n == 1 {
-        return read_reserve(
-            numbers,
-            text,
-            row.next,
-            line + 1,
-            row.values,
-            above,
-            figures,
-        );
+        return read_reserve(plan, text, row.next, line + 1, row.values, above, figures);
     }
-    read_ramp_reserve(
-        numbers,
-        text,
-        row.next,
-        line + 1,
-        row.values,
-        above,
-        figures,
-    )
+    read_ramp_reserve(plan, text, row.next, line + 1, row.values, above, figures)
 }

@@ -1,6 +1,6 @@
 // A split line.
 ghost use Rattle.std.specs.Prelude.{◌≡◌, ◌+◌, ◌*◌, ◌≤◌, ◌<◌, length};
-ghost use Rattle.layout.specs.Numbers.{instance_in, Laid};
+ghost use Rattle.layout.specs.Plans.{instance_of};
 ghost use Rattle.walk.specs.Marks.{above_of, above_length};
 ghost use Rattle.text.specs.Lines.{line_at};
 ghost use Rattle.tree.specs.NodeLines.{line_kind_of};
@@ -10,7 +10,7 @@ ghost use Rattle.tree.specs.declared.forking.ForkKind.TheVariants.{Split};
 ghost use Rattle.tree.specs.ReadAnswers.{fork_line_read};
 
 use crate::above::{ForkLine, MOST_DEPTH, OFF, ON, Side, is_fixed};
-use layout::{periods_in, units_in};
+use layout::plan::Plan;
 
 // Whether the status at a place may be split on, or the number that refuses it (31, 32).
 fn refuse_split(above: &[u8], place: usize, depth: usize) -> Result<(), u64>
@@ -28,20 +28,19 @@ fn refuse_split(above: &[u8], place: usize, depth: usize) -> Result<(), u64>
 
 // The split line that starts at `at`, or the number that refuses it.
 pub fn read_split_line(
-    numbers: &[u64],
+    plan: Plan,
     text: &[u8],
     at: usize,
     depth: usize,
     above: &[u8],
 ) -> Result<ForkLine, u64>
-    requires laid { Laid numbers.now }
     requires above_len { length above.now ≡ above_length }
     requires text_len_bound { length text.now ≤ 1048576 }
     requires at_value { line_kind_of (line_at text.now at) ≡ split_line }
-    ensures { result ≡ fork_line_read (instance_in numbers.now) text.now at (above_of (instance_in numbers.now) above.now) depth Split }
+    ensures { result ≡ fork_line_read (instance_of plan.entry) text.now at (above_of (instance_of plan.entry) above.now) depth Split }
 {
-    let units = units_in(numbers);
-    let periods = periods_in(numbers);
+    let units = plan.units();
+    let periods = plan.periods();
     let highs = [units as u64, periods as u64];
     let mut values = [0u64; 2];
     let next = text::fill_line(text, at, b"split=", &[1, 1], &highs, &mut values)?;

@@ -15,6 +15,7 @@ use Rattle.text.specs.Lines.{line_at}
 use Rattle.text.specs.Forms.{fault_number}
 use Rattle.walk.specs.Marks.{above_of}
 use Rattle.reader.proofs.WriterLines.{line_refused, line_written}
+use Rattle.layout.specs.Numbers.{instance_in}
 use Rattle.tree.specs.declared.read.BrokenLine.{BrokenLine}
 use Rattle.tree.specs.ReadAnswers.{broken, read_as, tree_read, node_read}
 use Rattle.tree.proofs.Mapped.{mapped_err, mapped_ok}
@@ -29,7 +30,7 @@ read_node-requires c =
     let text = c.args.text.now in
     let line = c.in_ok-line.line in
     let good = line_written (line_at text 10) 10 c.read_writer.result c.read_writer.ensures _ (mapped_ok c.read_writer.result c.map_err.result _ c.map_err.ensures.cases c.in_ok-line.was) in
-    record { laid = c.lay_out_ranked-numbers.ensures.read.0; placed = rw c.none.ensures (tree_placed P text good c.requires.text_len_bound); depth_bound = (omega arith, refl) }
+    record { placed = rw c.none.ensures (tree_placed P text good c.requires.text_len_bound); depth_bound = (omega arith, refl) }
 
 pub returns-in_err-line : goal.returns-in_err-line
 unfolding tree_read read_as
@@ -49,7 +50,7 @@ returns-in_err-read c =
     let text = c.args.text.now in
     let line = c.in_ok-line.line in
     let good = line_written (line_at text 10) 10 c.read_writer.result c.read_writer.ensures _ (mapped_ok c.read_writer.result c.map_err.result _ c.map_err.ensures.cases c.in_ok-line.was) in
-    let tree = subst (λ (Q : Instance). c.read_node.result ≡ node_read Q text line.next 3 c.none.result (above_of Q (replicate 1632 0)) 0) c.lay_out_ranked-numbers.ensures.read.1 c.read_node.ensures.read in
+    let tree = subst (λ (Q : Instance). c.read_node.result ≡ node_read Q text line.next 3 c.none.result (above_of Q (replicate 1632 0)) 0) (ap instance_in c.of.ensures ∙ c.lay_out_ranked-numbers.ensures.read.1) c.read_node.ensures.read in
     let node = rw (root_is P, c.none.ensures) at tree in
     let whole =
     text_read P text c.requires.tree ∙ writer_line_read P text good
@@ -72,7 +73,7 @@ returns c =
     let text = c.args.text.now in
     let line = c.in_ok-line.line in
     let good = line_written (line_at text 10) 10 c.read_writer.result c.read_writer.ensures _ (mapped_ok c.read_writer.result c.map_err.result _ c.map_err.ensures.cases c.in_ok-line.was) in
-    let tree = subst (λ (Q : Instance). c.read_node.result ≡ node_read Q text line.next 3 c.none.result (above_of Q (replicate 1632 0)) 0) c.lay_out_ranked-numbers.ensures.read.1 c.read_node.ensures.read in
+    let tree = subst (λ (Q : Instance). c.read_node.result ≡ node_read Q text line.next 3 c.none.result (above_of Q (replicate 1632 0)) 0) (ap instance_in c.of.ensures ∙ c.lay_out_ranked-numbers.ensures.read.1) c.read_node.ensures.read in
     let node = rw (root_is P, c.none.ensures) at tree in
     let whole =
     text_read P text c.requires.tree ∙ writer_line_read P text good

@@ -7,6 +7,7 @@ use borrow.Author.Rules.{rules}
 use lib.ListN.{set, replicate}
 use Rattle.model.specs.Instance.{Instance}
 use Rattle.model.specs.Held.{view}
+use Rattle.layout.specs.Numbers.{instance_in}
 use Rattle.walk.specs.Marks.{above_of, upper_begin}
 use Rattle.layout.proofs.Fronts.{paste_front}
 use Rattle.leaves.specs.LeafLeasts.{taken_in}
@@ -39,14 +40,14 @@ bounds-above-t c = omega (arith, (fit c.before.before.before.before.before.befor
 
 pub sum_until-requires : goal.sum_until-requires
 sum_until-requires c =
-    let P = view c.args.problem in record { laid = c.lay_out_ranked-numbers.ensures.read.0; t_bound = rw c.lay_out_ranked-numbers.ensures.read.1 (t_within P c.requires.valid.well_formed c.args.period c.args.most c.args.fixed.now (fit c.before.before.before.before.before.before.before.before)); above_len = search rules }
+    let P = view c.args.problem in record { t_bound = rw (ap instance_in c.of.ensures ∙ c.lay_out_ranked-numbers.ensures.read.1) (t_within P c.requires.valid.well_formed c.args.period c.args.most c.args.fixed.now (fit c.before.before.before.before.before.before.before.before.before)); above_len = search rules }
 
 pub returns : goal.returns
 returns c =
     let a = c.args in
     let P = view a.problem in
     let t = a.period - 1 in
-    let here = subst (λ (Q : Instance). c.sum_until.result ≡ taken_in Q (above_of Q (set c.store.new.numbers (upper_begin + t) a.most)) t) c.lay_out_ranked-numbers.ensures.read.1 c.sum_until.ensures in
+    let here = subst (λ (Q : Instance). c.sum_until.result ≡ taken_in Q (above_of Q (set c.store.new.numbers (upper_begin + t) a.most)) t) (ap instance_in c.of.ensures ∙ c.lay_out_ranked-numbers.ensures.read.1) c.sum_until.ensures in
     here
     ∙ ap (λ (b : List ℕ). taken_in P (above_of P (set b (upper_begin + t) a.most)) t) (c.store.ensures ∙ paste_front (replicate 1632 0) a.fixed.now)
-    ∙ taken_asked P c.requires.valid.well_formed a.period a.most a.fixed.now (fit c.before.before.before.before.before.before.before.before.before)
+    ∙ taken_asked P c.requires.valid.well_formed a.period a.most a.fixed.now (fit c.before.before.before.before.before.before.before.before.before.before)

@@ -6,6 +6,7 @@ use lib.ListN.{length}
 use lib.Seq.{length-take-le}
 use Rattle.model.specs.Instance.{Instance}
 use Rattle.model.specs.Held.{view}
+use Rattle.layout.specs.Numbers.{instance_in}
 use Rattle.forced.specs.Answers.{Told, fits_in, fits}
 use Rattle.forced.proofs.Answers.{fit_limits, found, fit_told, unfit_told}
 use Rattle.forced.proofs.answering.answer_forced.Goals as goal
@@ -37,16 +38,15 @@ is_fit-fits-requires c = (c.requires.well_formed.periods_in.1, c.requires.units_
 pub write_forced-requires : goal.write_forced-requires
 write_forced-requires c =
     let a = c.args in
-    let laid = c.lay_out_ranked-numbers.ensures.read in
-    let rest = fit_limits _ a.q.now a.s.now a.fixed.now laid.0.well_formed (length a.values.now) (length a.stuck.now)
-    (ap (λ (P : Instance). fits P a.q.now a.s.now a.fixed.now (length a.values.now) (length a.stuck.now)) laid.1 ∙ sym (fits_by c.before.before.before.before.before.before) ∙ c.if-not-fits.false) in
-    record { laid = laid.0; good_prices = rest.0; numbers_in_bounds = rest.1.0; values_len = rest.1.1 }
+    let rest = fit_limits _ a.q.now a.s.now a.fixed.now c.of.result.laid.well_formed (length a.values.now) (length a.stuck.now)
+    (ap (λ (P : Instance). fits P a.q.now a.s.now a.fixed.now (length a.values.now) (length a.stuck.now)) (ap instance_in c.of.ensures ∙ c.lay_out_ranked-numbers.ensures.read.1) ∙ sym (fits_by c.before.before.before.before.before.before.before) ∙ c.if-not-fits.false) in
+    record { good_prices = rest.0; numbers_in_bounds = rest.1.0; values_len = rest.1.1 }
 
 pub returns : goal.returns
 returns c =
     let a = c.args in
-    let e = ap (λ (P : Instance). found P a.q.now a.s.now a.fixed.now) c.lay_out_ranked-numbers.ensures.read.1
-    ∙ fit_told (view a.problem) a.q.now a.s.now a.fixed.now a.values.now a.stuck.now (sym (fits_by c.before.before.before.before.before.before.before.before.before.before) ∙ c.if-not-fits.false) in
+    let e = ap (λ (P : Instance). found P a.q.now a.s.now a.fixed.now) (ap instance_in c.of.ensures ∙ c.lay_out_ranked-numbers.ensures.read.1)
+    ∙ fit_told (view a.problem) a.q.now a.s.now a.fixed.now a.values.now a.stuck.now (sym (fits_by c.before.before.before.before.before.before.before.before.before.before.before) ∙ c.if-not-fits.false) in
     record { answer = ap (λ (x : Told). x.answer) e; values = c.write_forced.ensures.values ∙ ap (λ (x : Told). x.values) e; stuck = c.write_forced.ensures.stuck ∙ ap (λ (x : Told). x.stuck) e }
 
 pub returns-then-not-fits : goal.returns-then-not-fits

@@ -17,19 +17,19 @@ use Rattle.least.proofs.stuck.is_unit_stuck.Reads as reads
 use Rattle.least.proofs.stuck.is_unit_stuck.Lts as lts
 
 -- the unit's part is within the fixed statuses
-within : (c : lts.After-periods_in tie.the-claims reads.Pre reads.Post tie.handed_clauses) →
-    c.args.u * c.periods_in-n.result + c.periods_in-n.result ≤ length c.args.above.now
+within : (c : lts.After-periods tie.the-claims reads.Pre reads.Post tie.handed_clauses) →
+    c.args.u * c.periods-n.result + c.periods-n.result ≤ length c.args.above.now
 within c =
-    let n = c.periods_in-n.result in
-    let units = (instance_in c.args.numbers.now).units in
-    part_within (length units) n c.args.u (length c.args.above.now) c.requires.u_in_bounds (rw c.periods_in-n.ensures c.requires.numbers_in_bounds)
+    let n = c.periods-n.result in
+    let units = (instance_in c.args.plan.numbers.now).units in
+    part_within (length units) n c.args.u (length c.args.above.now) c.requires.u_in_bounds (rw c.periods-n.ensures c.requires.numbers_in_bounds)
 
 -- and as long as the periods
-long : (c : lts.After-periods_in tie.the-claims reads.Pre reads.Post tie.handed_clauses) →
-    let n = c.periods_in-n.result in
+long : (c : lts.After-periods tie.the-claims reads.Pre reads.Post tie.handed_clauses) →
+    let n = c.periods-n.result in
     length (take (c.args.u * n + n - c.args.u * n) (drop (c.args.u * n) c.args.above.now)) ≡ n
 long c =
-    let n = c.periods_in-n.result in
+    let n = c.periods-n.result in
     part_long n (c.args.u * n) c.args.above.now (within c)
 
 pub overflow_mul-begin : goal.overflow_mul-begin
@@ -43,14 +43,14 @@ slice_bounds-is_stuck-end c = within c.before.before
 
 pub is_stuck-requires : goal.is_stuck-requires
 is_stuck-requires c =
-    let W = c.requires.laid.well_formed in record { good_unit = rw c.generator_at.ensures (all_get_d GoodUnit c.args.u (instance_in c.args.numbers.now).units blank_generator c.requires.u_in_bounds W.units_good); between = rw (long c.before.before.before, c.periods_in-n.ensures) W.periods_in }
+    let W = c.args.plan.laid.well_formed in record { good_unit = rw c.generator.ensures (all_get_d GoodUnit c.args.u (instance_in c.args.plan.numbers.now).units blank_generator c.requires.u_in_bounds W.units_good); between = rw (long c.before.before.before, c.periods-n.ensures) W.periods_in }
 
 pub returns : goal.returns
 returns c =
     let a = c.args in
-    let n = c.periods_in-n.result in
+    let n = c.periods-n.result in
     let part = take (a.u * n + n - a.u * n) (drop (a.u * n) a.above.now) in
-    let units = (instance_in a.numbers.now).units in
-    c.is_stuck.ensures ∙ ap (λ (g : Generator). is_stuck (length part) g (marks_of part)) c.generator_at.ensures
+    let units = (instance_in a.plan.numbers.now).units in
+    c.is_stuck.ensures ∙ ap (λ (g : Generator). is_stuck (length part) g (marks_of part)) c.generator.ensures
     ∙ part_stuck n a.u units blank_generator a.above.now c.requires.u_in_bounds (length part) (a.u * n + n - a.u * n) (long c.before.before.before.before) (omega arith)
-    ∙ ap (λ (k : ℕ). stuck_at k units (marks_in (length units) k a.above.now) a.u) c.periods_in-n.ensures
+    ∙ ap (λ (k : ℕ). stuck_at k units (marks_in (length units) k a.above.now) a.u) c.periods-n.ensures

@@ -21,25 +21,25 @@ byte_most false = omega arith
 
 pub bounds-above-u : goal.bounds-above-u
 bounds-above-u g c =
-    let P = instance_in c.args.numbers.now in
-    let n = c.periods_in-n.result in
-    let inside : c.loop-u.u < length P.units = omega (arith, c.units_in-u-end.ensures, c.loop-u-test.true) in
-    let within : c.loop-u.u * n + n ≤ length c.args.above.now = part_within (length P.units) n c.loop-u.u (length c.args.above.now) inside (rw c.periods_in-n.ensures c.requires.numbers_in_bounds) in
-    omega (arith, within, c.periods_in-n.ensures, c.requires.t_bound)
+    let P = instance_in c.args.plan.numbers.now in
+    let n = c.periods-n.result in
+    let inside : c.loop-u.u < length P.units = omega (arith, c.units-u-end.ensures, c.loop-u-test.true) in
+    let within : c.loop-u.u * n + n ≤ length c.args.above.now = part_within (length P.units) n c.loop-u.u (length c.args.above.now) inside (rw c.periods-n.ensures c.requires.numbers_in_bounds) in
+    omega (arith, within, c.periods-n.ensures, c.requires.t_bound)
 
 pub loop-u-preserved : goal.loop-u-preserved
 loop-u-preserved g c =
     let a = c.args in
-    let P = instance_in a.numbers.now in
+    let P = instance_in a.plan.numbers.now in
     let u = c.loop-u.u in
     let m = (above_of P a.above.now).marks in
-    let inside : u < length P.units = omega (arith, c.units_in-u-end.ensures, c.loop-u-test.true) in
+    let inside : u < length P.units = omega (arith, c.units-u-end.ensures, c.loop-u-test.true) in
     record {
       few = omega (arith, c.from-count.ensures, byte_most c.counts.result, c.loop-u.invariant.few);
       so_far = λ p h.
           let here : c.counts.result ≡ p (m u a.t) =
-          h (a.above.now at (u * c.periods_in-n.result + a.t)) c.counts.result c.counts.ensures
-          ∙ ap (λ (k : ℕ). p (mark_of (a.above.now at (u * k + a.t)))) c.periods_in-n.ensures
+          h (a.above.now at (u * c.periods-n.result + a.t)) c.counts.result c.counts.ensures
+          ∙ ap (λ (k : ℕ). p (mark_of (a.above.now at (u * k + a.t)))) c.periods-n.ensures
           ∙ ap p (marks_same (length P.units) P.periods a.above.now u inside a.t c.requires.t_bound) in
           let one : c.from-count.result ≡ cond (p (m u a.t)) 1 0 = c.from-count.ensures ∙ byte_is c.counts.result ∙ ap (λ (b : Bool). cond b 1 0) here in
           rw (add-one u) (omega (arith, c.loop-u.invariant.so_far p h, one, counted_more p u P.units m a.t inside));
@@ -48,7 +48,7 @@ loop-u-preserved g c =
 pub returns : goal.returns
 returns g c p h =
     let a = c.args in
-    let P = instance_in a.numbers.now in
-    let end : c.loop-u.u ≡ length P.units = omega (arith, c.units_in-u-end.ensures, c.loop-u-test.false, c.loop-u.auto.u-end) in
+    let P = instance_in a.plan.numbers.now in
+    let end : c.loop-u.u ≡ length P.units = omega (arith, c.units-u-end.ensures, c.loop-u-test.false, c.loop-u.auto.u-end) in
     let all : take c.loop-u.u P.units ≡ P.units = rw end (take-length P.units) in
     c.loop-u.invariant.so_far p h ∙ ap (λ (gs : List Generator). counted p gs (above_of P a.above.now).marks a.t) all

@@ -6,4 +6,4 @@ use Rattle.leaves.proofs.Requirements.{required_at}
 use Rattle.leaves.proofs.price.sum_requirement.Given as goal
 
 abbrev pub invariant-loop-t : goal.invariant-loop-t
-invariant-loop-t l = l.sum ≡ sum_of l.t (λ i. required_at (instance_in l.numbers) l.q l.s i)
+invariant-loop-t l = l.sum ≡ sum_of l.t (λ i. required_at (instance_in l.plan.numbers.now) l.q l.s i)

@@ -16,8 +16,8 @@ use Rattle.leaves.proofs.ramp.add_unit.Goals as goal
 pub add-requires : goal.add-requires
 add-requires c =
     let a = c.args in
-    let P = instance_in a.numbers.now in
-    let W = c.requires.laid.well_formed in
+    let P = instance_in a.plan.numbers.now in
+    let W = c.args.plan.laid.well_formed in
     let prices = c.requires.good_prices in
     let rises = c.requires.good_steps.0 in
     let falls = c.requires.good_steps.1 in

@@ -15,7 +15,7 @@ use Rattle.leaves.proofs.ramp.with_requirement.Lts as lts
 -- the requirement is small
 required : (c : lts.After-sum_requirement tie.the-claims reads.Pre reads.Post tie.handed_clauses) → c.sum_requirement-requirement.result < 2 ^ 61
 required c =
-    omega (arith, c.sum_requirement-requirement.ensures, required_sum_fits (instance_in c.args.numbers.now) c.args.q.now c.args.s.now c.requires.laid.well_formed c.requires.good_prices)
+    omega (arith, c.sum_requirement-requirement.ensures, required_sum_fits (instance_in c.args.plan.numbers.now) c.args.q.now c.args.s.now c.args.plan.laid.well_formed c.requires.good_prices)
 
 pub overflow_cast-requirement : goal.overflow_cast-requirement
 overflow_cast-requirement c = pos_fits _ (omega (arith, required c.before))
@@ -39,4 +39,4 @@ returns c =
     let read : to_z w64 x ≡ pos x = to_z_pos w64 x (omega (arith, required c.before.before)) in
     let was : Some v ≡ a.sum = cc in
     ap Some (sum ∙ c.add.ensures ∙ ap₂ ◌+ℤ◌ same (read ∙ ap pos c.sum_requirement-requirement.ensures))
-    ∙ ap (plus_requirement (instance_in a.numbers.now) (λ t. a.q.now at t) (λ t. a.s.now at t)) was
+    ∙ ap (plus_requirement (instance_in a.plan.numbers.now) (λ t. a.q.now at t) (λ t. a.s.now at t)) was

@@ -9,5 +9,5 @@ use Rattle.leaves.proofs.short.take_by_number.Given as goal
 
 abbrev pub invariant-loop-u : goal.invariant-loop-u
 invariant-loop-u l =
-    let P = instance_in l.numbers in
+    let P = instance_in l.plan.numbers.now in
     Passed (usable_rank (above_of P l.above).marks l.t) pU_of (ranks_from 0 P.units) (length P.units) l.need l.u l.taken l.sum

@@ -10,8 +10,8 @@ use Rattle.leaves.proofs.Shorts.{usable_rank}
 use Rattle.leaves.proofs.short.take_largest.Given as goal
 
 abbrev pub invariant-loop-taken : goal.invariant-loop-taken
-invariant-loop-taken l = (l.units ≡ length (instance_in l.numbers).units)
-    × Passed (usable_rank (above_of (instance_in l.numbers) l.above).marks l.t) pU_of (ranked (instance_in l.numbers).units) l.most l.need l.i l.taken l.sum
+invariant-loop-taken l = (l.units ≡ length (instance_in l.plan.numbers.now).units)
+    × Passed (usable_rank (above_of (instance_in l.plan.numbers.now) l.above).marks l.t) pU_of (ranked (instance_in l.plan.numbers.now).units) l.most l.need l.i l.taken l.sum
 
 abbrev pub decreases-loop-taken : goal.decreases-loop-taken
 decreases-loop-taken l = l.units - l.i

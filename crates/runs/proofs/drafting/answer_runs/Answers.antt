@@ -6,6 +6,7 @@ use lib.ListN.{length}
 use lib.Seq.{length-take-le}
 use Rattle.model.specs.Instance.{Instance}
 use Rattle.model.specs.Held.{view}
+use Rattle.layout.specs.Numbers.{instance_in}
 use Rattle.runs.specs.Drafts.{Drafted, fits_in, fits, drafted}
 use Rattle.runs.proofs.Drafts.{Drafts, fit_drafted, unfit_drafted}
 use Rattle.runs.proofs.drafting.answer_runs.Goals as goal
@@ -36,18 +37,16 @@ is_fit-fits-requires c = (c.requires.well_formed.periods_in.1, c.requires.units_
 
 pub draft-requires : goal.draft-requires
 draft-requires c =
-    let a = c.args in record {
-      laid = c.lay_out_ranked-numbers.ensures.read.0;
-      short_value = ap (λ (P : Instance). fits P a.q.now a.s.now a.fixed.now (length a.rows.now) (length a.short.now)) c.lay_out_ranked-numbers.ensures.read.1
-          ∙ sym (fits_by c.before.before.before.before.before.before) ∙ c.if-not-fits.false;
-    }
+    let a = c.args in
+    ap (λ (P : Instance). fits P a.q.now a.s.now a.fixed.now (length a.rows.now) (length a.short.now)) (ap instance_in c.of.ensures ∙ c.lay_out_ranked-numbers.ensures.read.1)
+    ∙ sym (fits_by c.before.before.before.before.before.before.before) ∙ c.if-not-fits.false
 
 pub returns : goal.returns
 returns c =
     let a = c.args in
     let P = view a.problem in
-    let e = ap (λ (P : Instance). drafted P a.q.now a.s.now a.fixed.now a.rows.now a.short.now) c.lay_out_ranked-numbers.ensures.read.1
-    ∙ fit_drafted P a.q.now a.s.now a.fixed.now a.rows.now a.short.now (sym (fits_by c.before.before.before.before.before.before.before.before.before.before.before) ∙ c.if-not-fits.false) in
+    let e = ap (λ (P : Instance). drafted P a.q.now a.s.now a.fixed.now a.rows.now a.short.now) (ap instance_in c.of.ensures ∙ c.lay_out_ranked-numbers.ensures.read.1)
+    ∙ fit_drafted P a.q.now a.s.now a.fixed.now a.rows.now a.short.now (sym (fits_by c.before.before.before.before.before.before.before.before.before.before.before.before) ∙ c.if-not-fits.false) in
     let whole = subst (λ (x : Drafted). Drafts c.draft.result c.draft.new.rows c.draft.new.short x) e (c.draft.ensures.answer, (c.draft.ensures.rows, c.draft.ensures.short)) in record { answer = whole.0; rows = whole.1.0; short = whole.1.1 }
 
 pub returns-then-not-fits : goal.returns-then-not-fits

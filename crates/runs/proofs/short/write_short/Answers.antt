@@ -7,5 +7,5 @@ use Rattle.runs.proofs.short.write_short.Goals as goal
 
 pub returns : goal.returns
 returns c =
-    let P = instance_in c.args.numbers.now in
+    let P = instance_in c.args.plan.numbers.now in
     filled (short_at P c.args.rows.now) P.periods c.loop-t.short (c.loop-t.auto.short ∙ c.requires.short_len) (λ t h. c.loop-t.invariant t (omega (arith, c.requires.short_len, c.loop-t-test.false)))

@@ -7,4 +7,4 @@ use Rattle.runs.proofs.Columns.{short_at}
 use Rattle.runs.proofs.short.write_short.Given as goal
 
 abbrev pub invariant-loop-t : goal.invariant-loop-t
-invariant-loop-t l = (k : ℕ) → k < l.t → l.short at k ≡ short_at (instance_in l.numbers) l.rows k
+invariant-loop-t l = (k : ℕ) → k < l.t → l.short at k ≡ short_at (instance_in l.plan.numbers.now) l.rows k

@@ -5,4 +5,4 @@ use Rattle.runs.proofs.FirstStuck.{Free}
 use Rattle.runs.proofs.units.first_stuck.Given as goal
 
 abbrev pub invariant-loop-u : goal.invariant-loop-u
-invariant-loop-u l = Free (instance_in l.numbers).periods (instance_in l.numbers).units (above_of (instance_in l.numbers) l.fixed).marks l.u
+invariant-loop-u l = Free (instance_in l.plan.numbers.now).periods (instance_in l.plan.numbers.now).units (above_of (instance_in l.plan.numbers.now) l.fixed).marks l.u

@@ -10,4 +10,4 @@ use Rattle.runs.proofs.units.write_runs.Given as goal
 
 abbrev pub invariant-loop-u : goal.invariant-loop-u
 invariant-loop-u l =
-    take (l.u * l.n) l.rows ≡ front_runs (instance_in l.numbers).periods (λ t. l.q at t) (λ t. l.s at t) l.u (instance_in l.numbers).units (above_of (instance_in l.numbers) l.fixed).marks
+    take (l.u * l.n) l.rows ≡ front_runs (instance_in l.plan.numbers.now).periods (λ t. l.q at t) (λ t. l.s at t) l.u (instance_in l.plan.numbers.now).units (above_of (instance_in l.plan.numbers.now) l.fixed).marks

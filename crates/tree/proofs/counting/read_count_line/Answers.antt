@@ -55,57 +55,57 @@ number_is P bytes t K d h = rw (lt-ltb t P.periods h) refl
 
 pub fill_line-requires : goal.fill_line-requires
 fill_line-requires c =
-    let low = ends_low (instance_in c.args.numbers.now) c.requires.laid.well_formed in
-    record { key_value = (refl, (omega arith, (refl, (rw (c.units_in-units.ensures, c.periods_in-periods.ensures) low, refl)))); s_value = count_begins c.args.text.now c.args.at c.requires.at_value }
+    let low = ends_low (instance_in c.args.plan.numbers.now) c.args.plan.laid.well_formed in
+    record { key_value = (refl, (omega arith, (refl, (rw (c.units-units.ensures, c.periods-periods.ensures) low, refl)))); s_value = count_begins c.args.text.now c.args.at c.requires.at_value }
 
 pub returns-in_err-next : goal.returns-in_err-next
 returns-in_err-next c =
     let a = c.args in
-    let P = instance_in a.numbers.now in
+    let P = instance_in a.plan.numbers.now in
     let A = above_of P a.above.now in
-    let is = is_count P a.text.now a.at c.units_in-units.ensures c.periods_in-periods.ensures c.fill_line.result c.fill_line.ensures.answer in
+    let is = is_count P a.text.now a.at c.units-units.ensures c.periods-periods.ensures c.fill_line.result c.fill_line.ensures.answer in
     let p = err_from_is_err_and c.from_residual.result c.from_residual.ensures.1 in
     rw (p.1, p.2) (fork_refused P a.text.now a.at A a.depth Count _ (ruled_refused (node_form P count_line) (line_at a.text.now a.at) a.at c.fill_line.result is _ c.in_err-next.was))
 
 pub overflow_sub-period : goal.overflow_sub-period
 overflow_sub-period c =
     let a = c.args in
-    let P = instance_in a.numbers.now in
+    let P = instance_in a.plan.numbers.now in
     let A = above_of P a.above.now in
-    let is = is_count P a.text.now a.at c.units_in-units.ensures c.periods_in-periods.ensures c.fill_line.result c.fill_line.ensures.answer in
-    let g = left P a.text.now a.at c.requires.laid.well_formed c.fill_line.result is c.in_ok-next.was c.fill_line.ensures.stored in
+    let is = is_count P a.text.now a.at c.units-units.ensures c.periods-periods.ensures c.fill_line.result c.fill_line.ensures.answer in
+    let g = left P a.text.now a.at c.args.plan.laid.well_formed c.fill_line.result is c.in_ok-next.was c.fill_line.ensures.stored in
     let w = count_values P a.text.now a.at g.line_good c.fill_line.new.out g.values in
     w.low_period
 
 pub overflow_cast-count : goal.overflow_cast-count
 overflow_cast-count c =
     let a = c.args in
-    let P = instance_in a.numbers.now in
+    let P = instance_in a.plan.numbers.now in
     let A = above_of P a.above.now in
-    let is = is_count P a.text.now a.at c.units_in-units.ensures c.periods_in-periods.ensures c.fill_line.result c.fill_line.ensures.answer in
-    let g = left P a.text.now a.at c.requires.laid.well_formed c.fill_line.result is c.in_ok-next.was c.fill_line.ensures.stored in
+    let is = is_count P a.text.now a.at c.units-units.ensures c.periods-periods.ensures c.fill_line.result c.fill_line.ensures.answer in
+    let g = left P a.text.now a.at c.args.plan.laid.well_formed c.fill_line.result is c.in_ok-next.was c.fill_line.ensures.stored in
     let w = count_values P a.text.now a.at g.line_good c.fill_line.new.out g.values in
-    let k = c.requires.laid.well_formed.units_in in
+    let k = c.args.plan.laid.well_formed.units_in in
     omega (arith, w.few, k.1)
 
 pub refuse_count-requires : goal.refuse_count-requires
 refuse_count-requires c =
     let a = c.args in
-    let P = instance_in a.numbers.now in
+    let P = instance_in a.plan.numbers.now in
     let A = above_of P a.above.now in
-    let is = is_count P a.text.now a.at c.units_in-units.ensures c.periods_in-periods.ensures c.fill_line.result c.fill_line.ensures.answer in
-    let g = left P a.text.now a.at c.requires.laid.well_formed c.fill_line.result is c.in_ok-next.was c.fill_line.ensures.stored in
+    let is = is_count P a.text.now a.at c.units-units.ensures c.periods-periods.ensures c.fill_line.result c.fill_line.ensures.answer in
+    let g = left P a.text.now a.at c.args.plan.laid.well_formed c.fill_line.result is c.in_ok-next.was c.fill_line.ensures.stored in
     let w = count_values P a.text.now a.at g.line_good c.fill_line.new.out g.values in
-    let few = c.requires.laid.well_formed.periods_in.1 in
+    let few = c.args.plan.laid.well_formed.periods_in.1 in
     (omega (arith, w.period, few), c.requires.above_len)
 
 pub returns-in_err-refuse_count : goal.returns-in_err-refuse_count
 returns-in_err-refuse_count c =
     let a = c.args in
-    let P = instance_in a.numbers.now in
+    let P = instance_in a.plan.numbers.now in
     let A = above_of P a.above.now in
-    let is = is_count P a.text.now a.at c.units_in-units.ensures c.periods_in-periods.ensures c.fill_line.result c.fill_line.ensures.answer in
-    let g = left P a.text.now a.at c.requires.laid.well_formed c.fill_line.result is c.in_ok-next.was c.fill_line.ensures.stored in
+    let is = is_count P a.text.now a.at c.units-units.ensures c.periods-periods.ensures c.fill_line.result c.fill_line.ensures.answer in
+    let g = left P a.text.now a.at c.args.plan.laid.well_formed c.fill_line.result is c.in_ok-next.was c.fill_line.ensures.stored in
     let w = count_values P a.text.now a.at g.line_good c.fill_line.new.out g.values in
     let p = err_from_is_err_and c.from_residual-in_err-refuse_count.result c.from_residual-in_err-refuse_count.ensures.1 in
     let vs = c.fill_line.new.out in
@@ -115,43 +115,43 @@ returns-in_err-refuse_count c =
 pub overflow_add-byte : goal.overflow_add-byte
 overflow_add-byte c =
     let a = c.args in
-    let P = instance_in a.numbers.now in
+    let P = instance_in a.plan.numbers.now in
     let A = above_of P a.above.now in
-    let is = is_count P a.text.now a.at c.units_in-units.ensures c.periods_in-periods.ensures c.fill_line.result c.fill_line.ensures.answer in
-    let g = left P a.text.now a.at c.requires.laid.well_formed c.fill_line.result is c.in_ok-next.was c.fill_line.ensures.stored in
+    let is = is_count P a.text.now a.at c.units-units.ensures c.periods-periods.ensures c.fill_line.result c.fill_line.ensures.answer in
+    let g = left P a.text.now a.at c.args.plan.laid.well_formed c.fill_line.result is c.in_ok-next.was c.fill_line.ensures.stored in
     let w = count_values P a.text.now a.at g.line_good c.fill_line.new.out g.values in
-    let k = c.requires.laid.well_formed.units_in in
+    let k = c.args.plan.laid.well_formed.units_in in
     omega (arith, w.few, k.1)
 
 pub overflow_add-first : goal.overflow_add-first
 overflow_add-first c =
     let a = c.args in
-    let P = instance_in a.numbers.now in
+    let P = instance_in a.plan.numbers.now in
     let A = above_of P a.above.now in
-    let is = is_count P a.text.now a.at c.units_in-units.ensures c.periods_in-periods.ensures c.fill_line.result c.fill_line.ensures.answer in
-    let g = left P a.text.now a.at c.requires.laid.well_formed c.fill_line.result is c.in_ok-next.was c.fill_line.ensures.stored in
+    let is = is_count P a.text.now a.at c.units-units.ensures c.periods-periods.ensures c.fill_line.result c.fill_line.ensures.answer in
+    let g = left P a.text.now a.at c.args.plan.laid.well_formed c.fill_line.result is c.in_ok-next.was c.fill_line.ensures.stored in
     let w = count_values P a.text.now a.at g.line_good c.fill_line.new.out g.values in
-    let few = c.requires.laid.well_formed.periods_in.1 in
+    let few = c.args.plan.laid.well_formed.periods_in.1 in
     omega (arith, w.period, few)
 
 pub overflow_add-second : goal.overflow_add-second
 overflow_add-second c =
     let a = c.args in
-    let P = instance_in a.numbers.now in
+    let P = instance_in a.plan.numbers.now in
     let A = above_of P a.above.now in
-    let is = is_count P a.text.now a.at c.units_in-units.ensures c.periods_in-periods.ensures c.fill_line.result c.fill_line.ensures.answer in
-    let g = left P a.text.now a.at c.requires.laid.well_formed c.fill_line.result is c.in_ok-next.was c.fill_line.ensures.stored in
+    let is = is_count P a.text.now a.at c.units-units.ensures c.periods-periods.ensures c.fill_line.result c.fill_line.ensures.answer in
+    let g = left P a.text.now a.at c.args.plan.laid.well_formed c.fill_line.result is c.in_ok-next.was c.fill_line.ensures.stored in
     let w = count_values P a.text.now a.at g.line_good c.fill_line.new.out g.values in
-    let few = c.requires.laid.well_formed.periods_in.1 in
+    let few = c.args.plan.laid.well_formed.periods_in.1 in
     omega (arith, w.period, few)
 
 pub returns : goal.returns
 returns c =
     let a = c.args in
-    let P = instance_in a.numbers.now in
+    let P = instance_in a.plan.numbers.now in
     let A = above_of P a.above.now in
-    let is = is_count P a.text.now a.at c.units_in-units.ensures c.periods_in-periods.ensures c.fill_line.result c.fill_line.ensures.answer in
-    let g = left P a.text.now a.at c.requires.laid.well_formed c.fill_line.result is c.in_ok-next.was c.fill_line.ensures.stored in
+    let is = is_count P a.text.now a.at c.units-units.ensures c.periods-periods.ensures c.fill_line.result c.fill_line.ensures.answer in
+    let g = left P a.text.now a.at c.args.plan.laid.well_formed c.fill_line.result is c.in_ok-next.was c.fill_line.ensures.stored in
     let w = count_values P a.text.now a.at g.line_good c.fill_line.new.out g.values in
     let vs = c.fill_line.new.out in
     count_good P a.text.now a.at A a.depth g.line_good vs g.values c.refuse_count.result

@@ -10,21 +10,21 @@ use Rattle.tree.proofs.forking.read_fork_line.Goals as goal
 pub read_split_line-requires : goal.read_split_line-requires
 read_split_line-requires c =
     let p = c.requires in
-    record { laid = p.laid; above_len = p.above_len; text_len_bound = p.text_len_bound; at_value = p.at_value ∙ ap fork_kind c.in-Split.is }
+    record { above_len = p.above_len; text_len_bound = p.text_len_bound; at_value = p.at_value ∙ ap fork_kind c.in-Split.is }
 
 pub read_count_line-requires : goal.read_count_line-requires
 read_count_line-requires c =
     let p = c.requires in
-    record { laid = p.laid; above_len = p.above_len; text_len_bound = p.text_len_bound; at_value = p.at_value ∙ ap fork_kind c.in-Count.is }
+    record { above_len = p.above_len; text_len_bound = p.text_len_bound; at_value = p.at_value ∙ ap fork_kind c.in-Count.is }
 
 pub returns-in-Split : goal.returns-in-Split
 returns-in-Split c =
     let a = c.args in
-    let P = instance_in a.numbers.now in
+    let P = instance_in a.plan.numbers.now in
     c.read_split_line.ensures ∙ ap (λ (k : ForkKind). fork_line_read P a.text.now a.at (above_of P a.above.now) a.depth k) (sym c.in-Split.is)
 
 pub returns-in-Count : goal.returns-in-Count
 returns-in-Count c =
     let a = c.args in
-    let P = instance_in a.numbers.now in
+    let P = instance_in a.plan.numbers.now in
     c.read_count_line.ensures ∙ ap (λ (k : ForkKind). fork_line_read P a.text.now a.at (above_of P a.above.now) a.depth k) (sym c.in-Count.is)

@@ -6,27 +6,27 @@ use Rattle.tree.proofs.leaf.read_leaf.Goals as goal
 pub read_short-requires : goal.read_short-requires
 read_short-requires c =
     let p = c.requires in
-    record { laid = p.laid; above_len = p.above_len; placed = p.placed; at_value = p.at_value ∙ ap leaf_kind c.in-Short.is }
+    record { above_len = p.above_len; placed = p.placed; at_value = p.at_value ∙ ap leaf_kind c.in-Short.is }
 
 pub read_crowd-requires : goal.read_crowd-requires
 read_crowd-requires c =
     let p = c.requires in
-    record { laid = p.laid; above_len = p.above_len; placed = p.placed; at_value = p.at_value ∙ ap leaf_kind c.in-Crowd.is }
+    record { above_len = p.above_len; placed = p.placed; at_value = p.at_value ∙ ap leaf_kind c.in-Crowd.is }
 
 pub read_stuck-requires : goal.read_stuck-requires
 read_stuck-requires c =
     let p = c.requires in
-    record { laid = p.laid; above_len = p.above_len; placed = p.placed; at_value = p.at_value ∙ ap leaf_kind c.in-Stuck.is }
+    record { above_len = p.above_len; placed = p.placed; at_value = p.at_value ∙ ap leaf_kind c.in-Stuck.is }
 
 pub read_price-requires : goal.read_price-requires
 read_price-requires c =
     let p = c.requires in
-    record { laid = p.laid; above_len = p.above_len; placed = p.placed; at_value = p.at_value ∙ ap leaf_kind c.in-Price.is }
+    record { above_len = p.above_len; placed = p.placed; at_value = p.at_value ∙ ap leaf_kind c.in-Price.is }
 
 pub read_ramp-requires : goal.read_ramp-requires
 read_ramp-requires c =
     let p = c.requires in
-    record { laid = p.laid; above_len = p.above_len; placed = p.placed; at_value = p.at_value ∙ ap leaf_kind c.in-Ramp.is }
+    record { above_len = p.above_len; placed = p.placed; at_value = p.at_value ∙ ap leaf_kind c.in-Ramp.is }
 
 pub returns-in-Short : goal.returns-in-Short
 returns-in-Short c = c.read_short.ensures

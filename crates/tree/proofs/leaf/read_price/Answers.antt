@@ -25,9 +25,9 @@ use Rattle.tree.proofs.leaf.read_price.Goals as goal
 pub returns-in_err-row : goal.returns-in_err-row
 returns-in_err-row c =
     let a = c.args in
-    let P = instance_in a.numbers.now in
+    let P = instance_in a.plan.numbers.now in
     let A = above_of P a.above.now in
-    let is = c.read_row.ensures ∙ ap (λ (n : ℕ). row_of (plain price_key n 0 1000000000) (line_at a.text.now a.at) a.at) c.periods_in-periods.ensures in
+    let is = c.read_row.ensures ∙ ap (λ (n : ℕ). row_of (plain price_key n 0 1000000000) (line_at a.text.now a.at) a.at) c.periods-periods.ensures in
     let p = err_from_is_err_and c.from_residual.result c.from_residual.ensures.1 in
     let m = mapped_err c.read_row.result c.map_err.result _ c.map_err.ensures.cases c.in_err-row.was in
     let e : c.in_err-row.field-0.0 ≡ broken (fault_number m.fault) a.line = search (rules, m.met) in
@@ -37,13 +37,12 @@ returns-in_err-row c =
 pub read_reserve-requires : goal.read_reserve-requires
 read_reserve-requires c =
     let a = c.args in
-    let P = instance_in a.numbers.now in
+    let P = instance_in a.plan.numbers.now in
     let A = above_of P a.above.now in
-    let is = c.read_row.ensures ∙ ap (λ (n : ℕ). row_of (plain price_key n 0 1000000000) (line_at a.text.now a.at) a.at) c.periods_in-periods.ensures in
+    let is = c.read_row.ensures ∙ ap (λ (n : ℕ). row_of (plain price_key n 0 1000000000) (line_at a.text.now a.at) a.at) c.periods-periods.ensures in
     let v = mapped_ok c.read_row.result c.map_err.result _ c.map_err.ensures.cases c.in_ok-row.was in
     let row = c.in_ok-row.row in
     record {
-      laid = c.requires.laid;
       above_len = c.requires.above_len;
       placed = moved_placed a.text.now a.at a.line a.figures c.requires.placed row.next (row_moved (node_form P price_line) a.text.now a.at c.read_row.result is row v) a.figures (omega arith);
       multipliers = taken_multipliers P price_key a.text.now a.at c.read_row.result is row v;
@@ -52,9 +51,9 @@ read_reserve-requires c =
 pub returns : goal.returns
 returns c =
     let a = c.args in
-    let P = instance_in a.numbers.now in
+    let P = instance_in a.plan.numbers.now in
     let A = above_of P a.above.now in
-    let is = c.read_row.ensures ∙ ap (λ (n : ℕ). row_of (plain price_key n 0 1000000000) (line_at a.text.now a.at) a.at) c.periods_in-periods.ensures in
+    let is = c.read_row.ensures ∙ ap (λ (n : ℕ). row_of (plain price_key n 0 1000000000) (line_at a.text.now a.at) a.at) c.periods-periods.ensures in
     let v = mapped_ok c.read_row.result c.map_err.result _ c.map_err.ensures.cases c.in_ok-row.was in
     let row = c.in_ok-row.row in
     node_part P a.text.now a.at a.line a.figures A 0 (priced (take P.periods row.values)) row.next c.read_reserve.result

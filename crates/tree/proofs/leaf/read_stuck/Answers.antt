@@ -16,22 +16,22 @@ use Rattle.tree.proofs.leaf.read_stuck.Goals as goal
 
 pub read_ruled-requires : goal.read_ruled-requires
 read_ruled-requires c =
-    let few = c.requires.laid.well_formed.units_in.1 in record {
+    let few = c.args.plan.laid.well_formed.units_in.1 in record {
       placed = c.requires.placed;
-      key_value = (refl, omega (arith, c.units_in-most.ensures, few));
+      key_value = (refl, omega (arith, c.units-most.ensures, few));
       text_value = stuck_begins c.args.text.now c.args.at c.requires.at_value;
       callable = λ i h.
-          let P = instance_in c.args.numbers.now in
-          let inside = statuses_inside P c.requires.laid.well_formed c.args.above.now c.requires.above_len in
-          let k : i < length P.units = omega (arith, h, c.units_in-most.ensures) in
-          search (rules, k, inside, c.requires.laid);
+          let P = instance_in c.args.plan.numbers.now in
+          let inside = statuses_inside P c.args.plan.laid.well_formed c.args.above.now c.requires.above_len in
+          let k : i < length P.units = omega (arith, h, c.units-most.ensures) in
+          search (rules, k, inside, c.args.plan.laid);
     }
 
 pub returns : goal.returns
 returns c =
     let a = c.args in
-    let P = instance_in a.numbers.now in
+    let P = instance_in a.plan.numbers.now in
     let A = above_of P a.above.now in
     c.read_ruled.ensures (stuck_at P.periods P.units A.marks) (λ i b h post. search (rules, post))
-    ∙ ap (λ (n : ℕ). ruled 34 (stuck_at P.periods P.units A.marks) a.line a.figures (named_line_read stuck_key n a.text.now a.at)) c.units_in-most.ensures
+    ∙ ap (λ (n : ℕ). ruled 34 (stuck_at P.periods P.units A.marks) a.line a.figures (named_line_read stuck_key n a.text.now a.at)) c.units-most.ensures
     ∙ stuck_ruled P a.text.now a.at a.line a.figures A 0 c.requires.at_value

@@ -26,9 +26,9 @@ use Rattle.tree.proofs.ramp.read_ramp.Goals as goal
 pub returns-in_err-row : goal.returns-in_err-row
 returns-in_err-row c =
     let a = c.args in
-    let P = instance_in a.numbers.now in
+    let P = instance_in a.plan.numbers.now in
     let A = above_of P a.above.now in
-    let is = c.read_row.ensures ∙ ap (λ (n : ℕ). row_of (plain rampprice_key n 0 1000000000) (line_at a.text.now a.at) a.at) c.periods_in-n.ensures in
+    let is = c.read_row.ensures ∙ ap (λ (n : ℕ). row_of (plain rampprice_key n 0 1000000000) (line_at a.text.now a.at) a.at) c.periods-n.ensures in
     let p = err_from_is_err_and c.from_residual.result c.from_residual.ensures.1 in
     let m = mapped_err c.read_row.result c.map_err.result _ c.map_err.ensures.cases c.in_err-row.was in
     let e : c.in_err-row.field-0.0 ≡ broken (fault_number m.fault) a.line = search (rules, m.met) in
@@ -38,13 +38,12 @@ returns-in_err-row c =
 pub read_reserve-requires : goal.read_reserve-requires
 read_reserve-requires c =
     let a = c.args in
-    let P = instance_in a.numbers.now in
+    let P = instance_in a.plan.numbers.now in
     let A = above_of P a.above.now in
-    let is = c.read_row.ensures ∙ ap (λ (n : ℕ). row_of (plain rampprice_key n 0 1000000000) (line_at a.text.now a.at) a.at) c.periods_in-n.ensures in
+    let is = c.read_row.ensures ∙ ap (λ (n : ℕ). row_of (plain rampprice_key n 0 1000000000) (line_at a.text.now a.at) a.at) c.periods-n.ensures in
     let v = mapped_ok c.read_row.result c.map_err.result _ c.map_err.ensures.cases c.in_ok-row.was in
     let row = c.in_ok-row.row in
     record {
-      laid = c.requires.laid;
       above_len = c.requires.above_len;
       placed = moved_placed a.text.now a.at a.line a.figures c.requires.placed row.next (row_moved (node_form P ramp_line) a.text.now a.at c.read_row.result is row v) a.figures (omega arith);
       multipliers = taken_multipliers P rampprice_key a.text.now a.at c.read_row.result is row v;
@@ -53,12 +52,12 @@ read_reserve-requires c =
 pub returns-then-n-eq1 : goal.returns-then-n-eq1
 returns-then-n-eq1 c =
     let a = c.args in
-    let P = instance_in a.numbers.now in
+    let P = instance_in a.plan.numbers.now in
     let A = above_of P a.above.now in
-    let is = c.read_row.ensures ∙ ap (λ (n : ℕ). row_of (plain rampprice_key n 0 1000000000) (line_at a.text.now a.at) a.at) c.periods_in-n.ensures in
+    let is = c.read_row.ensures ∙ ap (λ (n : ℕ). row_of (plain rampprice_key n 0 1000000000) (line_at a.text.now a.at) a.at) c.periods-n.ensures in
     let v = mapped_ok c.read_row.result c.map_err.result _ c.map_err.ensures.cases c.in_ok-row.was in
     let row = c.in_ok-row.row in
-    let one : P.periods ≡ 1 = omega (arith, c.periods_in-n.ensures, c.if-n-eq1.true) in
+    let one : P.periods ≡ 1 = omega (arith, c.periods-n.ensures, c.if-n-eq1.true) in
     node_part P a.text.now a.at a.line a.figures A 0 (ramp_priced (take P.periods row.values)) row.next c.read_reserve.result
     (ramp_read P a.text.now a.at A 0 c.requires.at_value c.read_row.result is row v) (row_moved (node_form P ramp_line) a.text.now a.at c.read_row.result is row v)
     (c.read_reserve.ensures ∙ one_period_read P one a.text.now row.next (a.line + 1) a.figures A (take P.periods row.values))
@@ -66,14 +65,14 @@ returns-then-n-eq1 c =
 pub read_ramp_reserve-requires : goal.read_ramp_reserve-requires
 read_ramp_reserve-requires c =
     let a = c.args in
-    let P = instance_in a.numbers.now in
+    let P = instance_in a.plan.numbers.now in
     let A = above_of P a.above.now in
-    let is = c.read_row.ensures ∙ ap (λ (n : ℕ). row_of (plain rampprice_key n 0 1000000000) (line_at a.text.now a.at) a.at) c.periods_in-n.ensures in
+    let is = c.read_row.ensures ∙ ap (λ (n : ℕ). row_of (plain rampprice_key n 0 1000000000) (line_at a.text.now a.at) a.at) c.periods-n.ensures in
     let v = mapped_ok c.read_row.result c.map_err.result _ c.map_err.ensures.cases c.in_ok-row.was in
     let row = c.in_ok-row.row in
-    let more : 2 ≤ P.periods = omega (arith, c.periods_in-n.ensures, c.if-n-eq1.false, c.requires.laid.well_formed.periods_in.0) in
+    let more : 2 ≤ P.periods = omega (arith, c.periods-n.ensures, c.if-n-eq1.false, c.args.plan.laid.well_formed.periods_in.0) in
     record {
-      laid = (c.requires.laid, more);
+      periods_bound = more;
       above_len = c.requires.above_len;
       placed = moved_placed a.text.now a.at a.line a.figures c.requires.placed row.next (row_moved (node_form P ramp_line) a.text.now a.at c.read_row.result is row v) a.figures (omega arith);
       multipliers = taken_multipliers P rampprice_key a.text.now a.at c.read_row.result is row v;
@@ -82,9 +81,9 @@ read_ramp_reserve-requires c =
 pub returns : goal.returns
 returns c =
     let a = c.args in
-    let P = instance_in a.numbers.now in
+    let P = instance_in a.plan.numbers.now in
     let A = above_of P a.above.now in
-    let is = c.read_row.ensures ∙ ap (λ (n : ℕ). row_of (plain rampprice_key n 0 1000000000) (line_at a.text.now a.at) a.at) c.periods_in-n.ensures in
+    let is = c.read_row.ensures ∙ ap (λ (n : ℕ). row_of (plain rampprice_key n 0 1000000000) (line_at a.text.now a.at) a.at) c.periods-n.ensures in
     let v = mapped_ok c.read_row.result c.map_err.result _ c.map_err.ensures.cases c.in_ok-row.was in
     let row = c.in_ok-row.row in
     node_part P a.text.now a.at a.line a.figures A 0 (ramp_priced (take P.periods row.values)) row.next c.read_ramp_reserve.result

@@ -32,9 +32,9 @@ use Rattle.tree.proofs.ramp.read_ramp_reserve.Goals as goal
 pub returns-in_err-row : goal.returns-in_err-row
 returns-in_err-row c =
     let a = c.args in
-    let P = instance_in a.numbers.now in
+    let P = instance_in a.plan.numbers.now in
     let A = above_of P a.above.now in
-    let is = c.read_row.ensures ∙ ap (λ (n : ℕ). row_of (plain reserve_key n 0 1000000000) (line_at a.text.now a.at) a.at) c.periods_in-n.ensures in
+    let is = c.read_row.ensures ∙ ap (λ (n : ℕ). row_of (plain reserve_key n 0 1000000000) (line_at a.text.now a.at) a.at) c.periods-n.ensures in
     let part = ramp_priced (take P.periods a.q) in
     let p = err_from_is_err_and c.from_residual.result c.from_residual.ensures.1 in
     let m = mapped_err c.read_row.result c.map_err.result _ c.map_err.ensures.cases c.in_err-row.was in
@@ -45,34 +45,34 @@ returns-in_err-row c =
 pub read_units-requires : goal.read_units-requires
 read_units-requires c =
     let a = c.args in
-    let P = instance_in a.numbers.now in
+    let P = instance_in a.plan.numbers.now in
     let A = above_of P a.above.now in
-    let is = c.read_row.ensures ∙ ap (λ (n : ℕ). row_of (plain reserve_key n 0 1000000000) (line_at a.text.now a.at) a.at) c.periods_in-n.ensures in
+    let is = c.read_row.ensures ∙ ap (λ (n : ℕ). row_of (plain reserve_key n 0 1000000000) (line_at a.text.now a.at) a.at) c.periods-n.ensures in
     let part = ramp_priced (take P.periods a.q) in
     let v = mapped_ok c.read_row.result c.map_err.result _ c.map_err.ensures.cases c.in_ok-row.was in
     let row = c.in_ok-row.row in
     let m = taken_multipliers P reserve_key a.text.now a.at c.read_row.result is row v in
     record {
-      laid = c.requires.laid;
+      periods_bound = c.requires.periods_bound;
       above_len = c.requires.above_len;
       placed = moved_placed a.text.now a.at a.line a.figures c.requires.placed row.next (row_moved (part_form P part) a.text.now a.at c.read_row.result is row v) a.figures (omega arith);
-      good_prices = subst (λ (n : ℕ). GoodPrices P.periods (take n a.q) (take n row.values)) (sym c.periods_in-n.ensures)
-          (record { periods_in = c.requires.laid.0.well_formed.periods_in; q_long = c.requires.multipliers.0; s_long = m.0; q_in = c.requires.multipliers.1; s_in = m.1 });
+      good_prices = subst (λ (n : ℕ). GoodPrices P.periods (take n a.q) (take n row.values)) (sym c.periods-n.ensures)
+          (record { periods_in = c.args.plan.laid.well_formed.periods_in; q_long = c.requires.multipliers.0; s_long = m.0; q_in = c.requires.multipliers.1; s_in = m.1 });
     }
 
 pub returns : goal.returns
 returns c =
     let a = c.args in
-    let P = instance_in a.numbers.now in
+    let P = instance_in a.plan.numbers.now in
     let A = above_of P a.above.now in
-    let is = c.read_row.ensures ∙ ap (λ (n : ℕ). row_of (plain reserve_key n 0 1000000000) (line_at a.text.now a.at) a.at) c.periods_in-n.ensures in
+    let is = c.read_row.ensures ∙ ap (λ (n : ℕ). row_of (plain reserve_key n 0 1000000000) (line_at a.text.now a.at) a.at) c.periods-n.ensures in
     let part = ramp_priced (take P.periods a.q) in
     let v = mapped_ok c.read_row.result c.map_err.result _ c.map_err.ensures.cases c.in_ok-row.was in
     let row = c.in_ok-row.row in
     let q = take P.periods a.q in
-    let e : ramped P ≡ length P.units = ap (λ (b : Bool). cond b 0 (length P.units)) (ne_eqb P.periods 1 (λ e. omega (arith, c.requires.laid.1, e))) in
-    let some : 0 < ramped P = omega (arith, e, c.requires.laid.0.well_formed.units_in.0) in
+    let e : ramped P ≡ length P.units = ap (λ (b : Bool). cond b 0 (length P.units)) (ne_eqb P.periods 1 (λ e. omega (arith, c.requires.periods_bound, e))) in
+    let some : 0 < ramped P = omega (arith, e, c.args.plan.laid.well_formed.units_in.0) in
     c.read_units.ensures
-    ∙ ap (λ (n : ℕ). part_read P a.text.now row.next (a.line + 1) a.figures A (with_steps (take n a.q) (take n row.values) [])) c.periods_in-n.ensures
+    ∙ ap (λ (n : ℕ). part_read P a.text.now row.next (a.line + 1) a.figures A (with_steps (take n a.q) (take n row.values) [])) c.periods-n.ensures
     ∙ sym (part_part P a.text.now a.at a.line a.figures A part (with_steps q (take P.periods row.values) []) row.next
     (reserve_read P some a.text.now a.at A q c.read_row.result is row v) (row_moved (part_form P part) a.text.now a.at c.read_row.result is row v))

@@ -27,29 +27,29 @@ use Rattle.tree.proofs.ramp.read_unit.Goals as goal
 pub returns-in_err-falls : goal.returns-in_err-falls
 returns-in_err-falls c =
     let a = c.args in
-    let P = instance_in a.numbers.now in
+    let P = instance_in a.plan.numbers.now in
     let A = above_of P a.above.now in
     let T = P.periods in
     let r = c.requires in
-    let up_is = c.fill_steps.ensures.answer ∙ ap (λ (k : ℕ). verdict_of (plain up_key k 0 1000000000) (line_at a.text.now a.at) a.at) (inner_steps T up_key a.text.now a.at a.up.now r.laid.1 r.padded_2.0) in
+    let up_is = c.fill_steps.ensures.answer ∙ ap (λ (k : ℕ). verdict_of (plain up_key k 0 1000000000) (line_at a.text.now a.at) a.at) (inner_steps T up_key a.text.now a.at a.up.now r.periods_bound r.padded_2.0) in
     let p = err_from_is_err_and c.from_residual.result c.from_residual.ensures.1 in
     let m = mapped_err c.fill_steps.result c.map_err.result _ c.map_err.ensures.cases c.in_err-falls.was in
     let e : c.in_err-falls.field-0.0 ≡ broken (fault_number m.fault) a.line = search (rules, m.met) in
     record {
       read = rw (p.1, p.2) (ap (λ (x : BrokenLine). Err x) e ∙ up_refused P a.text.now a.at a.line A a.q.now a.s.now a.u a.sum c.fill_steps.result up_is m.fault m.was);
-      padded = (subst (Padded T) (sym c.fill_steps.ensures.stored) (steps_padded T up_key a.text.now a.at a.up.now r.laid.1 r.padded_2.0), r.padded_2.1);
+      padded = (subst (Padded T) (sym c.fill_steps.ensures.stored) (steps_padded T up_key a.text.now a.at a.up.now r.periods_bound r.padded_2.0), r.padded_2.1);
     }
 
 pub returns-in_err-next : goal.returns-in_err-next
 returns-in_err-next c =
     let a = c.args in
-    let P = instance_in a.numbers.now in
+    let P = instance_in a.plan.numbers.now in
     let A = above_of P a.above.now in
     let T = P.periods in
     let r = c.requires in
-    let up_is = c.fill_steps.ensures.answer ∙ ap (λ (k : ℕ). verdict_of (plain up_key k 0 1000000000) (line_at a.text.now a.at) a.at) (inner_steps T up_key a.text.now a.at a.up.now r.laid.1 r.padded_2.0) in
+    let up_is = c.fill_steps.ensures.answer ∙ ap (λ (k : ℕ). verdict_of (plain up_key k 0 1000000000) (line_at a.text.now a.at) a.at) (inner_steps T up_key a.text.now a.at a.up.now r.periods_bound r.padded_2.0) in
     let here = c.in_ok-falls.falls in
-    let down_is = c.fill_steps-2.ensures.answer ∙ ap (λ (k : ℕ). verdict_of (plain down_key k 0 1000000000) (line_at a.text.now here) here) (inner_steps T down_key a.text.now here a.down.now r.laid.1 r.padded_2.1) in
+    let down_is = c.fill_steps-2.ensures.answer ∙ ap (λ (k : ℕ). verdict_of (plain down_key k 0 1000000000) (line_at a.text.now here) here) (inner_steps T down_key a.text.now here a.down.now r.periods_bound r.padded_2.1) in
     let v = mapped_ok c.fill_steps.result c.map_err.result _ c.map_err.ensures.cases c.in_ok-falls.was in
     let p = err_from_is_err_and c.from_residual-in_err-next.result c.from_residual-in_err-next.ensures.1 in
     let m = mapped_err c.fill_steps-2.result c.map_err-2.result _ c.map_err-2.ensures.cases c.in_err-next.was in
@@ -57,46 +57,46 @@ returns-in_err-next c =
     record {
       read = rw (p.1, p.2) (ap (λ (x : BrokenLine). Err x) e
           ∙ down_refused P a.text.now a.at a.line A a.q.now a.s.now a.u a.sum c.fill_steps.result up_is here v c.fill_steps-2.result down_is m.fault m.was);
-      padded = (subst (Padded T) (sym c.fill_steps.ensures.stored) (steps_padded T up_key a.text.now a.at a.up.now r.laid.1 r.padded_2.0), subst (Padded T) (sym c.fill_steps-2.ensures.stored) (steps_padded T down_key a.text.now c.in_ok-falls.falls a.down.now r.laid.1 r.padded_2.1));
+      padded = (subst (Padded T) (sym c.fill_steps.ensures.stored) (steps_padded T up_key a.text.now a.at a.up.now r.periods_bound r.padded_2.0), subst (Padded T) (sym c.fill_steps-2.ensures.stored) (steps_padded T down_key a.text.now c.in_ok-falls.falls a.down.now r.periods_bound r.padded_2.1));
     }
 
 pub add_unit-sum-requires-clause-good_steps : goal.add_unit-sum-requires-clause-good_steps
 add_unit-sum-requires-clause-good_steps c =
     let a = c.args in
-    let P = instance_in a.numbers.now in
+    let P = instance_in a.plan.numbers.now in
     let A = above_of P a.above.now in
     let T = P.periods in
     let r = c.requires in
-    let up_is = c.fill_steps.ensures.answer ∙ ap (λ (k : ℕ). verdict_of (plain up_key k 0 1000000000) (line_at a.text.now a.at) a.at) (inner_steps T up_key a.text.now a.at a.up.now r.laid.1 r.padded_2.0) in
+    let up_is = c.fill_steps.ensures.answer ∙ ap (λ (k : ℕ). verdict_of (plain up_key k 0 1000000000) (line_at a.text.now a.at) a.at) (inner_steps T up_key a.text.now a.at a.up.now r.periods_bound r.padded_2.0) in
     let here = c.in_ok-falls.falls in
-    let down_is = c.fill_steps-2.ensures.answer ∙ ap (λ (k : ℕ). verdict_of (plain down_key k 0 1000000000) (line_at a.text.now here) here) (inner_steps T down_key a.text.now here a.down.now r.laid.1 r.padded_2.1) in
+    let down_is = c.fill_steps-2.ensures.answer ∙ ap (λ (k : ℕ). verdict_of (plain down_key k 0 1000000000) (line_at a.text.now here) here) (inner_steps T down_key a.text.now here a.down.now r.periods_bound r.padded_2.1) in
     let v = mapped_ok c.fill_steps.result c.map_err.result _ c.map_err.ensures.cases c.in_ok-falls.was in
     let w = mapped_ok c.fill_steps-2.result c.map_err-2.result _ c.map_err-2.ensures.cases c.in_ok-next.was in (
-      subst (GoodSteps T) (sym c.fill_steps.ensures.stored) (steps_good T up_key a.text.now a.at a.up.now r.laid.1 r.padded_2.0 refl c.fill_steps.result c.fill_steps.ensures.answer here v),
-      subst (GoodSteps T) (sym c.fill_steps-2.ensures.stored) (steps_good T down_key a.text.now here a.down.now r.laid.1 r.padded_2.1 refl c.fill_steps-2.result c.fill_steps-2.ensures.answer c.in_ok-next.next w),
+      subst (GoodSteps T) (sym c.fill_steps.ensures.stored) (steps_good T up_key a.text.now a.at a.up.now r.periods_bound r.padded_2.0 refl c.fill_steps.result c.fill_steps.ensures.answer here v),
+      subst (GoodSteps T) (sym c.fill_steps-2.ensures.stored) (steps_good T down_key a.text.now here a.down.now r.periods_bound r.padded_2.1 refl c.fill_steps-2.result c.fill_steps-2.ensures.answer c.in_ok-next.next w),
     )
 
 pub returns : goal.returns
 returns c =
     let a = c.args in
-    let P = instance_in a.numbers.now in
+    let P = instance_in a.plan.numbers.now in
     let A = above_of P a.above.now in
     let T = P.periods in
     let r = c.requires in
-    let up_is = c.fill_steps.ensures.answer ∙ ap (λ (k : ℕ). verdict_of (plain up_key k 0 1000000000) (line_at a.text.now a.at) a.at) (inner_steps T up_key a.text.now a.at a.up.now r.laid.1 r.padded_2.0) in
+    let up_is = c.fill_steps.ensures.answer ∙ ap (λ (k : ℕ). verdict_of (plain up_key k 0 1000000000) (line_at a.text.now a.at) a.at) (inner_steps T up_key a.text.now a.at a.up.now r.periods_bound r.padded_2.0) in
     let here = c.in_ok-falls.falls in
-    let down_is = c.fill_steps-2.ensures.answer ∙ ap (λ (k : ℕ). verdict_of (plain down_key k 0 1000000000) (line_at a.text.now here) here) (inner_steps T down_key a.text.now here a.down.now r.laid.1 r.padded_2.1) in
+    let down_is = c.fill_steps-2.ensures.answer ∙ ap (λ (k : ℕ). verdict_of (plain down_key k 0 1000000000) (line_at a.text.now here) here) (inner_steps T down_key a.text.now here a.down.now r.periods_bound r.padded_2.1) in
     let v = mapped_ok c.fill_steps.result c.map_err.result _ c.map_err.ensures.cases c.in_ok-falls.was in
     let w = mapped_ok c.fill_steps-2.result c.map_err-2.result _ c.map_err-2.ensures.cases c.in_ok-next.was in
     let x : List ℕ = c.fill_steps.new.out in
     let y : List ℕ = c.fill_steps-2.new.out in
-    let fine : GoodUnit (get_or P.units a.u blank_generator) = all_get_d GoodUnit a.u P.units blank_generator r.laid.2 r.laid.0.well_formed.units_good in
+    let fine : GoodUnit (get_or P.units a.u blank_generator) = all_get_d GoodUnit a.u P.units blank_generator r.u_in_bounds c.args.plan.laid.well_formed.units_good in
     record {
       read = both_good P a.text.now a.at a.line A a.q.now a.s.now a.u a.sum c.fill_steps.result up_is here v c.fill_steps-2.result down_is c.in_ok-next.next w (λ t. x at suc t) (λ t. y at suc t) fine
           (λ t i. ap (λ (z : List ℕ). z at suc t) c.fill_steps.ensures.stored
-          ∙ steps_at T up_key a.text.now a.at a.up.now r.laid.1 r.padded_2.0 refl c.fill_steps.result c.fill_steps.ensures.answer here v t i)
+          ∙ steps_at T up_key a.text.now a.at a.up.now r.periods_bound r.padded_2.0 refl c.fill_steps.result c.fill_steps.ensures.answer here v t i)
           (λ t i. ap (λ (z : List ℕ). z at suc t) c.fill_steps-2.ensures.stored
-          ∙ steps_at T down_key a.text.now here a.down.now r.laid.1 r.padded_2.1 refl c.fill_steps-2.result c.fill_steps-2.ensures.answer c.in_ok-next.next w t i)
+          ∙ steps_at T down_key a.text.now here a.down.now r.periods_bound r.padded_2.1 refl c.fill_steps-2.result c.fill_steps-2.ensures.answer c.in_ok-next.next w t i)
           c.add_unit-sum.result c.add_unit-sum.ensures;
-      padded = (subst (Padded T) (sym c.fill_steps.ensures.stored) (steps_padded T up_key a.text.now a.at a.up.now r.laid.1 r.padded_2.0), subst (Padded T) (sym c.fill_steps-2.ensures.stored) (steps_padded T down_key a.text.now c.in_ok-falls.falls a.down.now r.laid.1 r.padded_2.1));
+      padded = (subst (Padded T) (sym c.fill_steps.ensures.stored) (steps_padded T up_key a.text.now a.at a.up.now r.periods_bound r.padded_2.0), subst (Padded T) (sym c.fill_steps-2.ensures.stored) (steps_padded T down_key a.text.now c.in_ok-falls.falls a.down.now r.periods_bound r.padded_2.1));
     }

@@ -12,7 +12,7 @@ use Rattle.tree.proofs.RampReading.{Reading}
 use Rattle.tree.proofs.ramp.read_units.Given as goal
 
 abbrev pub invariant-loop-u : goal.invariant-loop-u
-invariant-loop-u l = let P = instance_in l.numbers in record {
+invariant-loop-u l = let P = instance_in l.plan.numbers.now in record {
   room : l.end ≡ P.periods + 1;
   rises : (length l.up ≡ 49) × Padded P.periods (take l.end l.up);
   falls : (length l.down ≡ 49) × Padded P.periods (take l.end l.down);

@@ -58,25 +58,25 @@ number_is P bytes n U t d e h k =
 
 pub fill_line-requires : goal.fill_line-requires
 fill_line-requires c =
-    let low = counts-low (instance_in c.args.numbers.now) c.requires.laid.well_formed in
-    record { key_value = (refl, (omega arith, (refl, (rw (c.units_in-units.ensures, c.periods_in-periods.ensures) low, refl)))); s_value = split_begins c.args.text.now c.args.at c.requires.at_value }
+    let low = counts-low (instance_in c.args.plan.numbers.now) c.args.plan.laid.well_formed in
+    record { key_value = (refl, (omega arith, (refl, (rw (c.units-units.ensures, c.periods-periods.ensures) low, refl)))); s_value = split_begins c.args.text.now c.args.at c.requires.at_value }
 
 pub returns-in_err-next : goal.returns-in_err-next
 returns-in_err-next c =
     let a = c.args in
-    let P = instance_in a.numbers.now in
+    let P = instance_in a.plan.numbers.now in
     let A = above_of P a.above.now in
-    let is = is_split P a.text.now a.at c.units_in-units.ensures c.periods_in-periods.ensures c.fill_line.result c.fill_line.ensures.answer in
+    let is = is_split P a.text.now a.at c.units-units.ensures c.periods-periods.ensures c.fill_line.result c.fill_line.ensures.answer in
     let p = err_from_is_err_and c.from_residual.result c.from_residual.ensures.1 in
     rw (p.1, p.2) (fork_refused P a.text.now a.at A a.depth Split _ (ruled_refused (node_form P split_line) (line_at a.text.now a.at) a.at c.fill_line.result is _ c.in_err-next.was))
 
 pub overflow_sub-unit : goal.overflow_sub-unit
 overflow_sub-unit c =
     let a = c.args in
-    let P = instance_in a.numbers.now in
+    let P = instance_in a.plan.numbers.now in
     let A = above_of P a.above.now in
-    let is = is_split P a.text.now a.at c.units_in-units.ensures c.periods_in-periods.ensures c.fill_line.result c.fill_line.ensures.answer in
-    let g = left P a.text.now a.at c.requires.laid.well_formed c.fill_line.result is c.in_ok-next.was c.fill_line.ensures.stored in
+    let is = is_split P a.text.now a.at c.units-units.ensures c.periods-periods.ensures c.fill_line.result c.fill_line.ensures.answer in
+    let g = left P a.text.now a.at c.args.plan.laid.well_formed c.fill_line.result is c.in_ok-next.was c.fill_line.ensures.stored in
     let vs = c.fill_line.new.out in
     let w = split_values P a.text.now a.at g.line_good vs g.values in
     w.low_unit
@@ -84,10 +84,10 @@ overflow_sub-unit c =
 pub overflow_sub-period : goal.overflow_sub-period
 overflow_sub-period c =
     let a = c.args in
-    let P = instance_in a.numbers.now in
+    let P = instance_in a.plan.numbers.now in
     let A = above_of P a.above.now in
-    let is = is_split P a.text.now a.at c.units_in-units.ensures c.periods_in-periods.ensures c.fill_line.result c.fill_line.ensures.answer in
-    let g = left P a.text.now a.at c.requires.laid.well_formed c.fill_line.result is c.in_ok-next.was c.fill_line.ensures.stored in
+    let is = is_split P a.text.now a.at c.units-units.ensures c.periods-periods.ensures c.fill_line.result c.fill_line.ensures.answer in
+    let g = left P a.text.now a.at c.args.plan.laid.well_formed c.fill_line.result is c.in_ok-next.was c.fill_line.ensures.stored in
     let vs = c.fill_line.new.out in
     let w = split_values P a.text.now a.at g.line_good vs g.values in
     w.low_period
@@ -95,64 +95,64 @@ overflow_sub-period c =
 pub overflow_mul-place : goal.overflow_mul-place
 overflow_mul-place c =
     let a = c.args in
-    let P = instance_in a.numbers.now in
+    let P = instance_in a.plan.numbers.now in
     let A = above_of P a.above.now in
-    let is = is_split P a.text.now a.at c.units_in-units.ensures c.periods_in-periods.ensures c.fill_line.result c.fill_line.ensures.answer in
-    let g = left P a.text.now a.at c.requires.laid.well_formed c.fill_line.result is c.in_ok-next.was c.fill_line.ensures.stored in
+    let is = is_split P a.text.now a.at c.units-units.ensures c.periods-periods.ensures c.fill_line.result c.fill_line.ensures.answer in
+    let g = left P a.text.now a.at c.args.plan.laid.well_formed c.fill_line.result is c.in_ok-next.was c.fill_line.ensures.stored in
     let vs = c.fill_line.new.out in
     let w = split_values P a.text.now a.at g.line_good vs g.values in
-    let k = place_inside P c.requires.laid.well_formed c.periods_in-periods.result (vs at 0 - 1) (vs at 1 - 1) c.periods_in-periods.ensures w.unit w.period in
+    let k = place_inside P c.args.plan.laid.well_formed c.periods-periods.result (vs at 0 - 1) (vs at 1 - 1) c.periods-periods.ensures w.unit w.period in
     let long = c.requires.above_len in
     omega (arith, k)
 
 pub overflow_add-place : goal.overflow_add-place
 overflow_add-place c =
     let a = c.args in
-    let P = instance_in a.numbers.now in
+    let P = instance_in a.plan.numbers.now in
     let A = above_of P a.above.now in
-    let is = is_split P a.text.now a.at c.units_in-units.ensures c.periods_in-periods.ensures c.fill_line.result c.fill_line.ensures.answer in
-    let g = left P a.text.now a.at c.requires.laid.well_formed c.fill_line.result is c.in_ok-next.was c.fill_line.ensures.stored in
+    let is = is_split P a.text.now a.at c.units-units.ensures c.periods-periods.ensures c.fill_line.result c.fill_line.ensures.answer in
+    let g = left P a.text.now a.at c.args.plan.laid.well_formed c.fill_line.result is c.in_ok-next.was c.fill_line.ensures.stored in
     let vs = c.fill_line.new.out in
     let w = split_values P a.text.now a.at g.line_good vs g.values in
-    let k = place_inside P c.requires.laid.well_formed c.periods_in-periods.result (vs at 0 - 1) (vs at 1 - 1) c.periods_in-periods.ensures w.unit w.period in
+    let k = place_inside P c.args.plan.laid.well_formed c.periods-periods.result (vs at 0 - 1) (vs at 1 - 1) c.periods-periods.ensures w.unit w.period in
     let long = c.requires.above_len in
     omega (arith, k)
 
 pub refuse_split-requires : goal.refuse_split-requires
 refuse_split-requires c =
     let a = c.args in
-    let P = instance_in a.numbers.now in
+    let P = instance_in a.plan.numbers.now in
     let A = above_of P a.above.now in
-    let is = is_split P a.text.now a.at c.units_in-units.ensures c.periods_in-periods.ensures c.fill_line.result c.fill_line.ensures.answer in
-    let g = left P a.text.now a.at c.requires.laid.well_formed c.fill_line.result is c.in_ok-next.was c.fill_line.ensures.stored in
+    let is = is_split P a.text.now a.at c.units-units.ensures c.periods-periods.ensures c.fill_line.result c.fill_line.ensures.answer in
+    let g = left P a.text.now a.at c.args.plan.laid.well_formed c.fill_line.result is c.in_ok-next.was c.fill_line.ensures.stored in
     let vs = c.fill_line.new.out in
     let w = split_values P a.text.now a.at g.line_good vs g.values in
-    let k = place_inside P c.requires.laid.well_formed c.periods_in-periods.result (vs at 0 - 1) (vs at 1 - 1) c.periods_in-periods.ensures w.unit w.period in
+    let k = place_inside P c.args.plan.laid.well_formed c.periods-periods.result (vs at 0 - 1) (vs at 1 - 1) c.periods-periods.ensures w.unit w.period in
     let long = c.requires.above_len in
     omega (arith, k, long)
 
 pub returns-in_err-refuse_split : goal.returns-in_err-refuse_split
 returns-in_err-refuse_split c =
     let a = c.args in
-    let P = instance_in a.numbers.now in
+    let P = instance_in a.plan.numbers.now in
     let A = above_of P a.above.now in
-    let is = is_split P a.text.now a.at c.units_in-units.ensures c.periods_in-periods.ensures c.fill_line.result c.fill_line.ensures.answer in
-    let g = left P a.text.now a.at c.requires.laid.well_formed c.fill_line.result is c.in_ok-next.was c.fill_line.ensures.stored in
+    let is = is_split P a.text.now a.at c.units-units.ensures c.periods-periods.ensures c.fill_line.result c.fill_line.ensures.answer in
+    let g = left P a.text.now a.at c.args.plan.laid.well_formed c.fill_line.result is c.in_ok-next.was c.fill_line.ensures.stored in
     let vs = c.fill_line.new.out in
     let w = split_values P a.text.now a.at g.line_good vs g.values in
     let p = err_from_is_err_and c.from_residual-in_err-refuse_split.result c.from_residual-in_err-refuse_split.ensures.1 in
     rw (p.1, p.2) (split_fails P a.text.now a.at A a.depth g.line_good vs g.values c.refuse_split.result
-    (c.refuse_split.ensures ∙ number_is P a.above.now _ (vs at 0 - 1) (vs at 1 - 1) a.depth c.periods_in-periods.ensures w.unit w.period) _ c.in_err-refuse_split.was)
+    (c.refuse_split.ensures ∙ number_is P a.above.now _ (vs at 0 - 1) (vs at 1 - 1) a.depth c.periods-periods.ensures w.unit w.period) _ c.in_err-refuse_split.was)
 
 pub returns : goal.returns
 returns c =
     let a = c.args in
-    let P = instance_in a.numbers.now in
+    let P = instance_in a.plan.numbers.now in
     let A = above_of P a.above.now in
-    let is = is_split P a.text.now a.at c.units_in-units.ensures c.periods_in-periods.ensures c.fill_line.result c.fill_line.ensures.answer in
-    let g = left P a.text.now a.at c.requires.laid.well_formed c.fill_line.result is c.in_ok-next.was c.fill_line.ensures.stored in
+    let is = is_split P a.text.now a.at c.units-units.ensures c.periods-periods.ensures c.fill_line.result c.fill_line.ensures.answer in
+    let g = left P a.text.now a.at c.args.plan.laid.well_formed c.fill_line.result is c.in_ok-next.was c.fill_line.ensures.stored in
     let vs = c.fill_line.new.out in
     let w = split_values P a.text.now a.at g.line_good vs g.values in
     split_good P a.text.now a.at A a.depth g.line_good vs g.values c.refuse_split.result
-    (c.refuse_split.ensures ∙ number_is P a.above.now _ (vs at 0 - 1) (vs at 1 - 1) a.depth c.periods_in-periods.ensures w.unit w.period) _ c.in_ok-refuse_split.was
-    _ c.in_ok-next.next c.periods_in-periods.ensures g.next_is
+    (c.refuse_split.ensures ∙ number_is P a.above.now _ (vs at 0 - 1) (vs at 1 - 1) a.depth c.periods-periods.ensures w.unit w.period) _ c.in_ok-refuse_split.was
+    _ c.in_ok-next.next c.periods-periods.ensures g.next_is
