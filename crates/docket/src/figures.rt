@@ -21,6 +21,7 @@ fn cost_figure(cost: Option<CostBy>) -> Figure
 }
 
 // The held cost's writer.
+// Beside the one before it: which of two numbers is shown is all that either says.
 fn cost_writer_figure(cost: Option<CostBy>) -> Figure
     ensures { result ≡ cost_writer_shown cost }
 {

@@ -21,6 +21,7 @@ pub struct NeverBy {
 }
 
 // None, a number or never, with its writer.
+// An enum over structs, the form that document 01 names for what is held.
 #[derive(Clone, Copy)]
 pub enum HeldBound {
     Nothing,

@@ -21,6 +21,7 @@ pub enum Rule {
 }
 
 // Whether the row breaks the rule in period t.
+// By a match and not by a closure: contracts name the rule.
 fn breaks(rule: Rule, g: Generator, row: &[u16], t: usize) -> bool
     requires { GoodUnit g × (t < length row.now) × (length row.now ≤ 48) }
     ensures { result ≡ broken_by rule t g row.now }

@@ -21,6 +21,7 @@ use crate::place::Place;
 use model::arrays::Problem;
 
 // A broken rule, by the number of its refusal, 21 to 25, and the place of its first breach.
+// The rule is its number, as in the model's Breach: of an enum every contract would need the way back to it.
 #[derive(Clone, Copy)]
 pub struct Broken {
     pub number: u64,

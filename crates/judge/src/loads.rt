@@ -13,6 +13,7 @@ use model::arrays::Problem;
 use std::array;
 
 // What so many units give in period t, in rows of so many periods.
+// By a loop: a chain's sum needs its bound at each step.
 fn sum_outputs(units: usize, periods: usize, rows: &[u16], t: usize) -> u64
     requires { Standing units periods rows.now × (t < periods) }
     ensures { result ≡ output_in units periods rows.now t }

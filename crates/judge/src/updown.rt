@@ -39,6 +39,7 @@ fn count_back(g: Generator, row: &[u16], t: usize) -> usize
 }
 
 // Whether the up and down times permit the unit's status in period t.
+// It returns early, since to count back costs more than the test before it.
 pub fn is_permitted(g: Generator, row: &[u16], t: usize) -> bool
     requires { InRange g × (t < length row.now) × (length row.now ≤ 48) }
     ensures { result ≡ not (barred t g row.now) }

@@ -14,6 +14,7 @@ pub mod ranking;
 pub mod reading;
 
 // The generator's 16 numbers.
+// No From: neither a generator nor an array is of this crate.
 fn generator_numbers(g: Generator) -> [u64; 16]
     ensures { result ≡ generator_numbers g }
 {

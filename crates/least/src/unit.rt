@@ -39,6 +39,7 @@ fn price_value(g: Generator, q: &[u64], s: &[u64], fixed: &[u8]) -> u64
 }
 
 // What was added in all periods.
+// By a loop: of a chain of map and sum three goals stayed open. Not one with the sum for ramps, which goes over four slices by index.
 pub fn sum_offset(g: Generator, q: &[u64], s: &[u64]) -> u64
     requires good_unit { GoodUnit g }
     requires good_prices { GoodPrices (length q.now) q.now s.now }

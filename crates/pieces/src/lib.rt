@@ -21,6 +21,7 @@ fn is_without_e(part: &[u8]) -> bool
 }
 
 // Whether the next line that begins with e starts more than 32 bytes after `at`, and the input goes on so far.
+// It returns early, since to look through a part costs more than the tests before it.
 fn spans_part(s: &[u8], at: usize) -> bool
     ensures { result ≡ leb 33 (to_e (drop at s.now)) }
 {
@@ -67,6 +68,7 @@ fn line_end(s: &[u8], at: usize) -> usize
 }
 
 // The place after the piece that starts at `at`.
+// By while: each line says where to go on.
 pub fn piece_end(s: &[u8], at: usize) -> usize
     ensures { result ≡ piece_after s.now at }
 {

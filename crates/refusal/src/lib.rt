@@ -14,6 +14,7 @@ pub struct Refusal {
 }
 
 // The refusal of this number, with as much of the place as the number carries.
+// Rules are told by number and not by an enum: both papers name them so, and the edits sixteen_has_a_line and after_ramp_has_a_unit ask of numbers that no rule has.
 pub fn refuse(number: u64, line: usize, unit: usize, period: usize) -> Refusal
     ensures { result ≡ refusal_of number line unit period }
 {

@@ -151,6 +151,7 @@ fn put(out: &mut [u64], k: usize, v: u64)
 }
 
 // The values from `at` to the line's end, of which number `signed` may carry a minus. Those that fit are stored in out.
+// By while: each value says where the next one begins.
 fn read_values(s: &[u8], at: usize, signed: usize, out: &mut [u64]) -> Option<Values>
     ensures answer { result ≡ (values_at s.now at signed out.old).answer }
     ensures stored { out.new ≡ (values_at s.now at signed out.old).out }

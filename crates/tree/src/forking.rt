@@ -20,6 +20,7 @@ pub enum ForkKind {
 }
 
 // The line of this kind that starts at `at`, or the number that refuses it.
+// By a match: contracts name the kind, and a reader is not handed out as a value.
 pub fn read_fork_line(
     plan: Plan,
     text: &[u8],

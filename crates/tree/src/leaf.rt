@@ -204,6 +204,7 @@ fn read_price(
 }
 
 // The leaf of this kind whose first line starts at `at` and has this number.
+// By a match: contracts name the kind, and a reader is not handed out as a value.
 pub fn read_leaf(
     plan: Plan,
     text: &[u8],

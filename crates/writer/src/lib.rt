@@ -78,6 +78,7 @@ pub fn figure_width(f: Figure) -> usize
 
 // How many bytes were written: f, at the front of buf.
 #[tactic(auto, unfolding(crate::specs::Written::figure))]
+// No Display: a buffer is lent, and how much of it is written is promised.
 pub fn write_figure(buf: &mut [u8], f: Figure) -> usize
     requires { length (figure f) ≤ length buf.old }
     ensures value { result ≡ length (figure f) }
