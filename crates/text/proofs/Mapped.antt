@@ -1,18 +1,29 @@
--- A result whose error was turned into another by `map_err`, by what it is after that.
+-- What is known of a result whose error `map_err` has turned into another, by what it is after that.
 use native.Mathlib.Omega.{arith}
 use Prim.Native.Nat.{ℕ}
-use mathlib.Core.Path.{◌≡◌, refl, ap, subst}
+use mathlib.Core.Path.{◌≡◌, refl, ap, subst, ◌∙◌}
 use Rattle.std.specs.Prelude.{Result, Ok, Err}
 use Rattle.std.specs.Result.{IsErrAnd, MatchResult}
 
-module _ {T E D : Type 0} where
-  -- it was Ok, and so it is
-  pub mapped_ok : (r : Result T E) (m : Result T D) (Q : E → D → Type 0) (x : T) → MatchResult r (λ y. m ≡ Ok y) (λ e. IsErrAnd m (Q e)) → m ≡ Ok x → r ≡ Ok x
-  mapped_ok (Ok y) m Q x h e = let p : y ≡ x = cc in ap (λ (z : T). Ok z) p
-  mapped_ok (Err w) m Q x h e = absurd (subst (λ (k : Result T D). IsErrAnd k (Q w)) e h)
+-- what was wrong, of which d was made
+pub record Was {T E D : Type 0} (before : Result T E) (made : E → D → Type 0) (d : D) : Type 0 where
+  pub fault : E
+  pub was : before ≡ Err fault
+  pub met : made fault d
 
-  -- it was an error, of which that is known which the closure's contract says
-  pub mapped_err : (r : Result T E) (m : Result T D) (Q : E → D → Type 0) (d : D) → MatchResult r (λ y. m ≡ Ok y) (λ e. IsErrAnd m (Q e)) → m ≡ Err d
-      → (w : E) × ((r ≡ Err w) × Q w d)
-  mapped_err (Ok y) m Q d h e = absurd (let z : ◌≡◌ {A = ℕ} 0 1 = cc in omega arith)
-  mapped_err (Err w) m Q d h e = (w, (refl, subst (λ (k : Result T D). IsErrAnd k (Q w)) e h))
+module _ {T E D : Type 0} (before : Result T E) (after : Result T D) (made : E → D → Type 0)
+    (cases : MatchResult before (λ x. after ≡ Ok x) (λ e. IsErrAnd after (made e))) where
+  pub mapped_err : {d : D} → after ≡ Err d → Was before made d
+  mapped_err {d} e = go before refl cases
+    where
+      go : (x : Result T E) → before ≡ x → MatchResult x (λ x. after ≡ Ok x) (λ e. IsErrAnd after (made e)) → Was before made d
+      go (Ok x) p h = absurd (let z : ◌≡◌ {A = ℕ} 0 1 = cc in omega arith)
+      go (Err w) p h = record { fault = w; was = p; met = subst (λ (z : Result T D). IsErrAnd z (made w)) e h }
+
+  -- what was good stays as it is
+  pub mapped_ok : {x : T} → after ≡ Ok x → before ≡ Ok x
+  mapped_ok {x} e = go before refl cases
+    where
+      go : (y : Result T E) → before ≡ y → MatchResult y (λ x. after ≡ Ok x) (λ e. IsErrAnd after (made e)) → before ≡ Ok x
+      go (Ok y) p h = let q : y ≡ x = cc in p ∙ ap (λ (z : T). Ok z) q
+      go (Err w) p h = absurd (subst (λ (z : Result T D). IsErrAnd z (made w)) e h)

@@ -29,7 +29,6 @@ pub mod RampRanges
 pub mod WrongRampLines
 pub mod InOrder
 pub mod Rows
-pub mod Mapped
 pub mod ReadLines
 pub mod WaysThrough
 pub mod Marked

@@ -18,7 +18,7 @@ use Rattle.problem.proofs.read_from_demand.Goals as goal
 pub read_from_spare-requires : goal.read_from_spare-requires
 read_from_spare-requires c =
     let a = c.args in
-    let is = mapped_ok c.read_row.result c.map_err.result _ _ c.map_err.ensures.cases c.in_ok-row.was in
+    let is = mapped_ok c.read_row.result c.map_err.result _ c.map_err.ensures.cases c.in_ok-row.was in
     let h = plain_row demand_key a.periods 0 320000 (line_at a.s.now a.at) a.at c.read_row.result c.read_row.ensures _ is in
     (c.requires.0, (c.requires.1, h.holds))
 
@@ -27,13 +27,13 @@ unfolding read_as
 returns-in_err-row c =
     let a = c.args in
     let p = err_from_is_err_and c.from_residual.result c.from_residual.ensures.1 in
-    let m = mapped_err c.read_row.result c.map_err.result _ _ c.map_err.ensures.cases c.in_err-row.was in
-    let e : c.in_err-row.field-0.0 ≡ refusal_of (fault_number m.0) 4 0 0 = search (rules, m.1.1) in
-    rw (p.1, p.2) (line_refused a.s.now a.at 4 (demand_due a.periods a.units) (demand_form a.periods) refl c.read_row.result c.read_row.ensures _ m.0 refl m.1.0 (ap (λ (x : Refusal). Err x) e))
+    let m = mapped_err c.read_row.result c.map_err.result _ c.map_err.ensures.cases c.in_err-row.was in
+    let e : c.in_err-row.field-0.0 ≡ refusal_of (fault_number m.fault) 4 0 0 = search (rules, m.met) in
+    rw (p.1, p.2) (line_refused a.s.now a.at 4 (demand_due a.periods a.units) (demand_form a.periods) refl c.read_row.result c.read_row.ensures _ m.fault refl m.was (ap (λ (x : Refusal). Err x) e))
 
 pub returns : goal.returns
 returns c =
     let a = c.args in
-    let is = mapped_ok c.read_row.result c.map_err.result _ _ c.map_err.ensures.cases c.in_ok-row.was in
+    let is = mapped_ok c.read_row.result c.map_err.result _ c.map_err.ensures.cases c.in_ok-row.was in
     let h = plain_row demand_key a.periods 0 320000 (line_at a.s.now a.at) a.at c.read_row.result c.read_row.ensures _ is in
     line_good a.s.now a.at 4 (demand_due a.periods a.units) (demand_form a.periods) refl c.read_row.result c.read_row.ensures _ c.in_ok-row.row _ is (ap (spare_due a.periods a.units) (sym h.values)) c.read_from_spare.ensures

@@ -34,10 +34,10 @@ returns-in_err-row c =
     let l = c.loop-k in
     let a = c.args in
     let p = err_from_is_err_and c.from_residual.result c.from_residual.ensures.1 in
-    let m = mapped_err c.read_unit.result c.map_err.result _ _ c.map_err.ensures.cases c.in_err-row.was in
-    let e : c.in_err-row.field-0.0 ≡ refusal_of (fault_number m.0) (l.k + 6) 0 0 = search (rules, m.1.1) in
+    let m = mapped_err c.read_unit.result c.map_err.result _ c.map_err.ensures.cases c.in_err-row.was in
+    let e : c.in_err-row.field-0.0 ≡ refusal_of (fault_number m.fault) (l.k + 6) 0 0 = search (rules, m.met) in
     rw (p.1, p.2) (fleet_refused a.s.now a.periods a.units l.next (take a.periods a.demand) (take a.periods a.spare) l.k l.generators _ l.invariant.1.1
-    c.loop-k-test.true c.read_unit.result c.read_unit.ensures _ m.0 m.1.0 (ap (λ (x : Refusal). Err x) e))
+    c.loop-k-test.true c.read_unit.result c.read_unit.ensures _ m.fault m.was (ap (λ (x : Refusal). Err x) e))
 
 pub bounds-generators-k : goal.bounds-generators-k
 bounds-generators-k c = omega (arith, c.loop-k-test.true, c.loop-k.invariant.0, c.requires.1.0)
@@ -48,7 +48,7 @@ loop-k-preserved c =
     let a = c.args in
     let h = c.loop-k-test.true in
     let n = l.invariant.0 in
-    let is = mapped_ok c.read_unit.result c.map_err.result _ _ c.map_err.ensures.cases c.in_ok-row.was in (
+    let is = mapped_ok c.read_unit.result c.map_err.result _ c.map_err.ensures.cases c.in_ok-row.was in (
       simp length-set n,
       (
         pad_set blank_generator 32 l.generators l.k n (omega (arith, h, c.requires.1.0)) l.invariant.1.0 c.in_ok-row.row.generator,

@@ -19,7 +19,7 @@ use Rattle.problem.proofs.read_from_units.Goals as goal
 pub read_from_demand-requires : goal.read_from_demand-requires
 read_from_demand-requires c =
     let a = c.args in
-    let is = mapped_ok c.read_row.result c.map_err.result _ _ c.map_err.ensures.cases c.in_ok-row.was in
+    let is = mapped_ok c.read_row.result c.map_err.result _ c.map_err.ensures.cases c.in_ok-row.was in
     let h = plain_row units_key 1 1 32 (line_at a.s.now a.at) a.at c.read_row.result c.read_row.ensures _ is in
     (c.requires, (h.first_in (omega arith)).1)
 
@@ -28,13 +28,13 @@ unfolding read_as
 returns-in_err-row c =
     let a = c.args in
     let p = err_from_is_err_and c.from_residual.result c.from_residual.ensures.1 in
-    let m = mapped_err c.read_row.result c.map_err.result _ _ c.map_err.ensures.cases c.in_err-row.was in
-    let e : c.in_err-row.field-0.0 ≡ refusal_of (fault_number m.0) 3 0 0 = search (rules, m.1.1) in
-    rw (p.1, p.2) (line_refused a.s.now a.at 3 (units_due a.periods) units_form refl c.read_row.result c.read_row.ensures _ m.0 refl m.1.0 (ap (λ (x : Refusal). Err x) e))
+    let m = mapped_err c.read_row.result c.map_err.result _ c.map_err.ensures.cases c.in_err-row.was in
+    let e : c.in_err-row.field-0.0 ≡ refusal_of (fault_number m.fault) 3 0 0 = search (rules, m.met) in
+    rw (p.1, p.2) (line_refused a.s.now a.at 3 (units_due a.periods) units_form refl c.read_row.result c.read_row.ensures _ m.fault refl m.was (ap (λ (x : Refusal). Err x) e))
 
 pub returns : goal.returns
 returns c =
     let a = c.args in
-    let is = mapped_ok c.read_row.result c.map_err.result _ _ c.map_err.ensures.cases c.in_ok-row.was in
+    let is = mapped_ok c.read_row.result c.map_err.result _ c.map_err.ensures.cases c.in_ok-row.was in
     let h = plain_row units_key 1 1 32 (line_at a.s.now a.at) a.at c.read_row.result c.read_row.ensures _ is in
     line_good a.s.now a.at 3 (units_due a.periods) units_form refl c.read_row.result c.read_row.ensures _ c.in_ok-row.row _ is (ap (demand_due a.periods) (sym (h.first (omega arith)))) c.read_from_demand.ensures

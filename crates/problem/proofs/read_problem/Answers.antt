@@ -20,7 +20,7 @@ use Rattle.problem.proofs.read_problem.Goals as goal
 pub read_from_units-requires : goal.read_from_units-requires
 read_from_units-requires c =
     let a = c.args in
-    let is = mapped_ok c.read_row.result c.map_err.result _ _ c.map_err.ensures.cases c.in_ok-row.was in
+    let is = mapped_ok c.read_row.result c.map_err.result _ c.map_err.ensures.cases c.in_ok-row.was in
     let h = plain_row periods_key 1 1 48 (line_at a.s.now 13) 13 c.read_row.result c.read_row.ensures _ is in
     (h.first_in (omega arith)).1
 
@@ -29,13 +29,13 @@ unfolding read_as
 returns-in_err-row c =
     let a = c.args in
     let p = err_from_is_err_and c.from_residual.result c.from_residual.ensures.1 in
-    let m = mapped_err c.read_row.result c.map_err.result _ _ c.map_err.ensures.cases c.in_err-row.was in
-    let e : c.in_err-row.field-0.0 ≡ refusal_of (fault_number m.0) 2 0 0 = search (rules, m.1.1) in
-    rw (p.1, p.2) (line_refused a.s.now 13 2 periods_due periods_form refl c.read_row.result c.read_row.ensures _ m.0 refl m.1.0 (ap (λ (x : Refusal). Err x) e) ∙ from_second a.s.now c.requires)
+    let m = mapped_err c.read_row.result c.map_err.result _ c.map_err.ensures.cases c.in_err-row.was in
+    let e : c.in_err-row.field-0.0 ≡ refusal_of (fault_number m.fault) 2 0 0 = search (rules, m.met) in
+    rw (p.1, p.2) (line_refused a.s.now 13 2 periods_due periods_form refl c.read_row.result c.read_row.ensures _ m.fault refl m.was (ap (λ (x : Refusal). Err x) e) ∙ from_second a.s.now c.requires)
 
 pub returns : goal.returns
 returns c =
     let a = c.args in
-    let is = mapped_ok c.read_row.result c.map_err.result _ _ c.map_err.ensures.cases c.in_ok-row.was in
+    let is = mapped_ok c.read_row.result c.map_err.result _ c.map_err.ensures.cases c.in_ok-row.was in
     let h = plain_row periods_key 1 1 48 (line_at a.s.now 13) 13 c.read_row.result c.read_row.ensures _ is in
     line_good a.s.now 13 2 periods_due periods_form refl c.read_row.result c.read_row.ensures _ c.in_ok-row.row _ is (ap units_due (sym (h.first (omega arith)))) c.read_from_units.ensures ∙ from_second a.s.now c.requires

@@ -18,7 +18,7 @@ use Rattle.reader.proofs.WriterLines.{line_refused, line_written}
 use Rattle.layout.specs.Numbers.{instance_in}
 use Rattle.tree.specs.declared.read.BrokenLine.{BrokenLine}
 use Rattle.tree.specs.ReadAnswers.{broken, read_as, tree_read, node_read}
-use Rattle.tree.proofs.Mapped.{mapped_err, mapped_ok}
+use Rattle.text.proofs.Mapped.{mapped_err, mapped_ok}
 use Rattle.tree.proofs.Marked.{root_is}
 use Rattle.tree.proofs.ReadLines.{read_on, node_judged, node_past}
 use Rattle.tree.proofs.Texts.{text_read, writer_refused, writer_line_read, tree_placed, ended_read}

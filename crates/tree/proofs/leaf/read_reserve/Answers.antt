@@ -12,7 +12,7 @@ use Rattle.text.specs.Lines.{line_at}
 use Rattle.text.specs.Forms.{plain, row_of, fault_number}
 use Rattle.tree.specs.declared.read.BrokenLine.{BrokenLine}
 use Rattle.tree.specs.ReadAnswers.{broken}
-use Rattle.tree.proofs.Mapped.{mapped_err, mapped_ok}
+use Rattle.text.proofs.Mapped.{mapped_err, mapped_ok}
 use Rattle.tree.proofs.Rows.{row_refused, row_moved, taken_multipliers}
 use lib.IntN.{ℤ}
 use mir.Syntax.{w64}

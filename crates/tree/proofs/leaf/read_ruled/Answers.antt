@@ -9,7 +9,7 @@ use Rattle.model.specs.Figures.{add_leaf}
 use Rattle.text.specs.Forms.{fault_number}
 use Rattle.tree.specs.declared.read.BrokenLine.{BrokenLine}
 use Rattle.tree.specs.ReadAnswers.{broken, stopped, reached, ruled}
-use Rattle.tree.proofs.Mapped.{mapped_err, mapped_ok}
+use Rattle.text.proofs.Mapped.{mapped_err, mapped_ok}
 use Rattle.tree.proofs.Rows.{names_one}
 use Rattle.tree.proofs.leaf.read_ruled.Goals as goal
 

@@ -19,7 +19,7 @@ use Rattle.tree.specs.declared.read.BrokenLine.{BrokenLine}
 use Rattle.tree.specs.ReadAnswers.{broken}
 use Rattle.tree.specs.Rendering.{up_key, down_key}
 use Rattle.tree.specs.RampReads.{Padded}
-use Rattle.tree.proofs.Mapped.{mapped_err, mapped_ok}
+use Rattle.text.proofs.Mapped.{mapped_err, mapped_ok}
 use Rattle.tree.proofs.StepBuffers.{inner_steps, steps_padded, steps_good, steps_at}
 use Rattle.tree.proofs.UnitReads.{up_refused, down_refused, both_good}
 use Rattle.tree.proofs.ramp.read_unit.Goals as goal
