@@ -44,7 +44,7 @@ fn started_value(unit: Unit, mark: u8, on: u64, t: usize, offs: &[u64]) -> u64
 
 // What the run that has not changed its status for k periods brings to the other status, in a period that costs so much in that.
 fn own_into(unit: Unit, mark: u8, cost: u64, k: usize, next: bool, own: u64) -> u64
-    requires good_cost { GoodCost cost × GoodValue own }
+    requires { GoodCost cost × GoodValue own }
     ensures { result ≡ own_into unit.generator (mark_of mark) cost k next own }
 {
     let g = unit.generator;
@@ -56,7 +56,7 @@ fn own_into(unit: Unit, mark: u8, cost: u64, k: usize, next: bool, own: u64) -> 
 
 // Its value after a period that costs on or off by its status.
 pub fn own_forward(unit: Unit, mark: u8, on: u64, off: u64, k: usize, own: u64) -> u64
-    requires good_cost { GoodCost on × GoodCost off × GoodValue own }
+    requires { GoodCost on × GoodCost off × GoodValue own }
     ensures { result ≡ move unit.generator (mark_of mark) (by_status on off unit.generator.on) unit.generator.on k unit.generator.on own }
 {
     let g = unit.generator;

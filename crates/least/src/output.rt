@@ -7,7 +7,7 @@ use model::unit::Unit;
 
 // The smallest output from pL to pU that costs least, where a unit of output costs x and a unit short of pU costs y.
 pub fn best_output(unit: Unit, x: u64, y: u64) -> u64
-    requires good_slopes { GoodSlopes x y }
+    requires { GoodSlopes x y }
     ensures { result ≡ best_at unit.generator x y }
 {
     let g = unit.generator;
@@ -32,7 +32,7 @@ pub fn on_value(unit: Unit, x: u64, y: u64, p: u64) -> u64
 
 // What a period on costs at the best output.
 pub fn least_on(unit: Unit, x: u64, y: u64) -> u64
-    requires good_slopes { GoodSlopes x y }
+    requires { GoodSlopes x y }
     ensures { result ≡ on_value unit.generator x y (best_at unit.generator x y) }
 {
     on_value(unit, x, y, best_output(unit, x, y))

@@ -14,7 +14,7 @@ use walk::walk_value;
 
 // pU, UR and DR, each at its price.
 fn limits_value(unit: Unit, price: u64, up: u64, down: u64) -> u64
-    requires price_bound { (price ≤ 4_000_000_000) × GoodPrice up × GoodPrice down }
+    requires { (price ≤ 4_000_000_000) × GoodPrice up × GoodPrice down }
     ensures { result ≡ price * unit.generator.pU + up * unit.generator.UR + down * unit.generator.DR }
 {
     let g = unit.generator;

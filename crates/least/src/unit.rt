@@ -26,7 +26,7 @@ pub fn fill_costs(unit: Unit, q: &[u64], s: &[u64], on: &mut [u64], off: &mut [u
 
 // The unit's walk at the prices, coded.
 fn price_value(unit: Unit, q: &[u64], s: &[u64], fixed: &[u8]) -> u64
-    requires good_prices { GoodPrices (length q.now) q.now s.now × (length fixed.now ≡ length q.now) }
+    requires { GoodPrices (length q.now) q.now s.now × (length fixed.now ≡ length q.now) }
     ensures { result ≡ price_walk (length q.now) (λ t. q.now at t) (λ t. s.now at t) unit.generator (marks_of fixed.now) }
 {
     let n = q.len();
@@ -38,7 +38,7 @@ fn price_value(unit: Unit, q: &[u64], s: &[u64], fixed: &[u8]) -> u64
 
 // What was added in all periods.
 pub fn sum_offset(unit: Unit, q: &[u64], s: &[u64]) -> u64
-    requires good_prices { GoodPrices (length q.now) q.now s.now }
+    requires { GoodPrices (length q.now) q.now s.now }
     ensures { result ≡ offset (length q.now) (λ t. q.now at t) (λ t. s.now at t) unit.generator }
 {
     let mut sum = 0;
@@ -50,7 +50,7 @@ pub fn sum_offset(unit: Unit, q: &[u64], s: &[u64]) -> u64
 
 // The unit's least value at the prices under the fixed statuses (1 off, 2 on), over all its runs and outputs; none where it is stuck.
 pub fn unit_least(unit: Unit, q: &[u64], s: &[u64], fixed: &[u8]) -> Option<i64>
-    requires good_prices { GoodPrices (length q.now) q.now s.now × (length fixed.now ≡ length q.now) }
+    requires { GoodPrices (length q.now) q.now s.now × (length fixed.now ≡ length q.now) }
     ensures { result ≡ least_of (length q.now) (λ t. q.now at t) (λ t. s.now at t) unit.generator (marks_of fixed.now) }
 {
     let value = price_value(unit, q, s, fixed);

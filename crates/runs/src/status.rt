@@ -64,7 +64,7 @@ pub fn branch_value(
     next: bool,
     after: u64,
 ) -> u64
-    requires good_cost { GoodCost cost × GoodValue after }
+    requires { GoodCost cost × GoodValue after }
     ensures { result ≡ move unit.generator (mark_of mark) cost on k next after }
 {
     let g = unit.generator;

@@ -64,12 +64,20 @@ pub fn keep_walk(unit: Unit, on: &[u64], off: &[u64], fixed: &[u8], table: &mut 
     let down = g.TD + g.Tcold + 1;
     let mut ons = [1u64; 48];
     let mut offs = [1u64; 97];
-    store_back(unit, on, off, fixed, &mut ons[..up], &mut offs[..down], table);
+    store_back(
+        unit,
+        on,
+        off,
+        fixed,
+        &mut ons[..up],
+        &mut offs[..down],
+        table,
+    );
 }
 
 // The kept value before period t of a unit that has been in the status for k periods.
 pub fn kept_at(unit: Unit, table: &[u64], t: usize, on: bool, k: usize) -> u64
-    requires table_len { (length table.now ≡ 7105) × (t ≤ 48) × (1 ≤ k) }
+    requires { (length table.now ≡ 7105) × (t ≤ 48) × (1 ≤ k) }
     ensures { result ≡ kept_in unit.generator table.now t on k }
 {
     let g = unit.generator;

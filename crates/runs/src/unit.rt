@@ -23,7 +23,7 @@ use model::unit::Unit;
 
 // The best output of a unit that is on, else 0.
 fn output_of(unit: Unit, q: u64, on: bool) -> u64
-    requires good_price { GoodPrice q }
+    requires { GoodPrice q }
     ensures { result ≡ if_on on (best_output unit.generator q) }
 {
     if on {
@@ -61,14 +61,7 @@ fn write_row(
 }
 
 // The walk over what the periods cost, coded; where it has a value the run that has it is written.
-fn write_walk(
-    unit: Unit,
-    q: &[u64],
-    on: &[u64],
-    off: &[u64],
-    fixed: &[u8],
-    row: &mut [u64],
-) -> u64
+fn write_walk(unit: Unit, q: &[u64], on: &[u64], off: &[u64], fixed: &[u8], row: &mut [u64]) -> u64
     requires all { All GoodPrice q.now }
     requires good_costs { GoodCosts (length q.now) on.now off.now × (length fixed.now ≡ length q.now) }
     requires row_len { length row.old ≡ length q.now }

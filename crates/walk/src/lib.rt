@@ -129,7 +129,7 @@ const FEW_STATES: usize = 24;
 
 // The least value, coded, of all periods from the state before period 1, where period t costs on[t] or off[t] by its status.
 pub fn walk_value(unit: Unit, on: &[u64], off: &[u64], fixed: &[u8]) -> u64
-    requires good_costs { GoodCosts (length on.now) on.now off.now × (length fixed.now ≡ length on.now) }
+    requires { GoodCosts (length on.now) on.now off.now × (length fixed.now ≡ length on.now) }
     ensures { result ≡ walk (length on.now) unit.generator (marks_of fixed.now) (costs_of on.now off.now) unit.generator.on unit.generator.since }
 {
     let g = unit.generator;

@@ -18,7 +18,7 @@ walk_all-requires c =
     let down = c.args.unit.generator.TD + c.args.unit.generator.Tcold + 1 in
     let l : up ≤ 48 = c.args.unit.good.in_range.TU_in.1 in
     let k : down ≤ 97 = omega (arith, c.args.unit.good.in_range.TD_in, c.args.unit.good.in_range.Tcold_in) in
-    record { good_costs = c.requires.good_costs; ons_len = (front_length 1 up 48 l, front_length 1 down 97 k); by_index = (front_at 1 up 48 l, front_at 1 down 97 k) }
+    record { good_costs = c.requires; ons_len = (front_length 1 up 48 l, front_length 1 down 97 k); by_index = (front_at 1 up 48 l, front_at 1 down 97 k) }
 
 pub slice_bounds-walk_reached-end : goal.slice_bounds-walk_reached-end
 slice_bounds-walk_reached-end c = sym (front_length 1 _ 48 (search rules))
@@ -29,4 +29,4 @@ walk_reached-requires c =
     let down = c.args.unit.generator.TD + c.args.unit.generator.Tcold + 1 in
     let l : up ≤ 48 = c.args.unit.good.in_range.TU_in.1 in
     let k : down ≤ 97 = omega (arith, c.args.unit.good.in_range.TD_in, c.args.unit.good.in_range.Tcold_in) in
-    record { good_costs = c.requires.good_costs; ons_len = (front_length 1 up 48 l, front_length 1 down 97 k); by_index = (front_at 1 up 48 l, front_at 1 down 97 k) }
+    record { good_costs = c.requires; ons_len = (front_length 1 up 48 l, front_length 1 down 97 k); by_index = (front_at 1 up 48 l, front_at 1 down 97 k) }

@@ -57,7 +57,7 @@ walk_value-requires c =
     let a = c.args in
     let P = c.requires.good_prices.0 in
     let fits = ramp_cost_fits (length a.q.now) a.q.now a.s.now a.up.now a.down.now P c.requires.good_steps.0 c.requires.good_steps.1 a.unit.generator c.args.unit.good in
-    record { good_costs = (front_good K (rest c.before.before.before.before.before.before.before.before.before.before.before.before.before) P.periods_in fits, c.requires.good_prices.1 ∙ on_front_long K (rest c.before.before.before.before.before.before.before.before.before.before.before.before.before)) }
+    (front_good K (rest c.before.before.before.before.before.before.before.before.before.before.before.before.before) P.periods_in fits, c.requires.good_prices.1 ∙ on_front_long K (rest c.before.before.before.before.before.before.before.before.before.before.before.before.before))
 
 pub returns : goal.returns
 returns c =

@@ -15,7 +15,7 @@ slice_bounds-free-end c = sym (front_length 0 _ 48 (search rules))
 pub walk_value-requires : goal.walk_value-requires
 walk_value-requires c =
     let n = length c.args.fixed.now in
-    record { good_costs = (free_good n c.requires, sym (front_length 0 n 48 c.requires.1)) }
+    (free_good n c.requires, sym (front_length 0 n 48 c.requires.1))
 
 pub returns : goal.returns
 returns c =

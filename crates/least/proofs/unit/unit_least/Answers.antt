@@ -16,12 +16,12 @@ use Rattle.least.proofs.unit.unit_least.Reads as reads
 use Rattle.least.proofs.unit.unit_least.Lts as lts
 
 -- both sums are within a signed number
-sums : (c : lts.After-sum_offset tie.the-claims reads.Pre reads.Post tie.handed_clauses) → (c.price_value-value.result - 1 < 2 ^ 63) × (c.sum_offset-added.result < 2 ^ 63)
+sums : (c : lts.After-sum_offset tie.the-claims reads.Pre reads.Post) → (c.price_value-value.result - 1 < 2 ^ 63) × (c.sum_offset-added.result < 2 ^ 63)
 sums c =
     let a = c.args in
     let value = c.price_value-value in (
-      omega (arith, value.ensures, price_value_fits (length a.q.now) a.q.now a.s.now c.requires.good_prices.0 a.unit.generator c.args.unit.good (marks_of a.fixed.now)),
-      omega (arith, c.sum_offset-added.ensures, sum_offset_fits (length a.q.now) a.q.now a.s.now c.requires.good_prices.0 a.unit.generator c.args.unit.good),
+      omega (arith, value.ensures, price_value_fits (length a.q.now) a.q.now a.s.now c.requires.0 a.unit.generator c.args.unit.good (marks_of a.fixed.now)),
+      omega (arith, c.sum_offset-added.ensures, sum_offset_fits (length a.q.now) a.q.now a.s.now c.requires.0 a.unit.generator c.args.unit.good),
     )
 
 pub returns-then-value-eq0 : goal.returns-then-value-eq0
