@@ -1,13 +1,12 @@
 // An entry: the values of the periods passed joined with those kept of the periods left.
 ghost use Rattle.std.specs.Prelude.{◌≡◌, true, false, ℕ, ◌+◌, ◌*◌, ◌≤◌, ◌<◌, min, length};
 ghost use Rattle.model.specs.Instance.{◌at◌};
-ghost use Rattle.model.specs.Ranges.{GoodUnit};
 ghost use Rattle.model.specs.ForcedWalk.{both, least_upto};
 ghost use Rattle.walk.specs.Limits.{GoodValue};
 ghost use Rattle.runs.specs.Kept.{first_of};
 ghost use Rattle.forced.specs.Entries.{entry_of};
 
-use model::generator::Generator;
+use model::unit::Unit;
 use runs::table::{FIRST_OFF, STATES, kept_at};
 use walk::table::lesser_value;
 
@@ -46,21 +45,21 @@ fn begin_of(t: usize, status: bool) -> usize
 
 // The entry of a status in the period before period t of the table: states and own are of the periods passed up to there.
 pub fn entry_value(
-    g: Generator,
+    unit: Unit,
     table: &[u64],
     t: usize,
     status: bool,
     states: &[u64],
     own: u64,
 ) -> u64
-    requires good_unit { GoodUnit g }
     requires table_len { (length table.now ≡ 7105) × ((k : ℕ) → GoodValue (table.now at k)) × (t ≤ 48) }
     requires states_len_bound { (length states.now ≤ 97) × ((k : ℕ) → GoodValue (states.now at k)) × GoodValue own }
-    ensures { result ≡ entry_of g table.now t status states.now own }
+    ensures { result ≡ entry_of unit.generator table.now t status states.now own }
 {
+    let g = unit.generator;
     let found = join_states(states, t.min(states.len()), table, begin_of(t, status));
     if g.on == status {
-        let kept = kept_at(g, table, t, status, g.since + t);
+        let kept = kept_at(unit, table, t, status, g.since + t);
         lesser_value(found, both_values(own, kept))
     } else {
         found

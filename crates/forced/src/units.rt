@@ -29,7 +29,7 @@ pub fn write_forced(
         let begin = u * n;
         let end = begin + n;
         unit_forced(
-            plan.generator(u),
+            plan.unit(u),
             q,
             s,
             &fixed[begin..end],

@@ -7,7 +7,7 @@ ghost use Rattle.layout.specs.Numbers.{Laid};
 ghost use Rattle.layout.specs.OneProof.{Laid-prop};
 
 use crate::generator_of;
-use model::generator::Generator;
+use model::unit::Unit;
 
 // The numbers of a well-formed problem, with the pU and the places of its units behind them.
 #[derive(Clone, Copy)]
@@ -65,13 +65,14 @@ impl<'a> Plan<'a> {
         self.numbers[98 + u * 16 + 4]
     }
 
-    // The generator of unit u.
-    pub fn generator(self, u: usize) -> Generator
+    // Unit u.
+    pub fn unit(self, u: usize) -> Unit
         requires { u < length (instance_of self).units }
-        ensures { result ≡ get_or (instance_of self.entry).units u blank_generator }
+        ensures { result.generator ≡ get_or (instance_of self.entry).units u blank_generator }
     {
         let from = 98 + u * 16;
-        generator_of(&self.numbers[from..])
+        let generator = generator_of(&self.numbers[from..]);
+        Unit { generator }
     }
 
     // The pU of the unit whose rank is number i, counted from 0.

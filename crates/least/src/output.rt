@@ -1,17 +1,16 @@
 // A period on: its best output, and what that costs.
 ghost use Rattle.std.specs.Prelude.{◌≡◌, ◌≤◌};
-ghost use Rattle.model.specs.Ranges.{GoodUnit};
 ghost use Rattle.model.specs.Prices.{on_value, best_at};
 ghost use Rattle.least.specs.Limits.{GoodSlopes};
 
-use model::generator::Generator;
+use model::unit::Unit;
 
 // The smallest output from pL to pU that costs least, where a unit of output costs x and a unit short of pU costs y.
-pub fn best_output(g: Generator, x: u64, y: u64) -> u64
-    requires good_unit { GoodUnit g }
-    requires good_slopes { GoodSlopes x y }
-    ensures { result ≡ best_at g x y }
+pub fn best_output(unit: Unit, x: u64, y: u64) -> u64
+    requires { GoodSlopes x y }
+    ensures { result ≡ best_at unit.generator x y }
 {
+    let g = unit.generator;
     if y <= x + g.c * (2 * g.pL + 1) {
         return g.pL;
     }
@@ -22,20 +21,19 @@ pub fn best_output(g: Generator, x: u64, y: u64) -> u64
 }
 
 // What a period on at the output p costs.
-pub fn on_value(g: Generator, x: u64, y: u64, p: u64) -> u64
-    requires good_unit { GoodUnit g }
+pub fn on_value(unit: Unit, x: u64, y: u64, p: u64) -> u64
     requires good_slopes { GoodSlopes x y }
-    requires p_le_p_u { p ≤ g.pU }
-    ensures { result ≡ on_value g x y p }
+    requires p_le_p_u { p ≤ unit.generator.pU }
+    ensures { result ≡ on_value unit.generator x y p }
 {
+    let g = unit.generator;
     g.a + x * p + g.c * p * p + y * (g.pU - p)
 }
 
 // What a period on costs at the best output.
-pub fn least_on(g: Generator, x: u64, y: u64) -> u64
-    requires good_unit { GoodUnit g }
-    requires good_slopes { GoodSlopes x y }
-    ensures { result ≡ on_value g x y (best_at g x y) }
+pub fn least_on(unit: Unit, x: u64, y: u64) -> u64
+    requires { GoodSlopes x y }
+    ensures { result ≡ on_value unit.generator x y (best_at unit.generator x y) }
 {
-    on_value(g, x, y, best_output(g, x, y))
+    on_value(unit, x, y, best_output(unit, x, y))
 }

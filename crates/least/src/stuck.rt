@@ -1,23 +1,22 @@
 // Whether a unit is stuck.
 ghost use Rattle.std.specs.Prelude.{◌≡◌, ◌*◌, ◌≤◌, ◌<◌, length};
-ghost use Rattle.model.specs.Ranges.{Between, GoodUnit};
+ghost use Rattle.model.specs.Ranges.{Between};
 ghost use Rattle.model.specs.Leaf.{is_stuck, stuck_at};
 ghost use Rattle.layout.specs.Plans.{instance_of};
 ghost use Rattle.walk.specs.Marks.{marks_of, above_of};
 
 use layout::plan::Plan;
-use model::generator::Generator;
+use model::unit::Unit;
 use walk::walk_value;
 
 // Whether no run of the unit obeys (5) to (10) and agrees with the fixed statuses.
-fn is_stuck(g: Generator, fixed: &[u8]) -> bool
-    requires good_unit { GoodUnit g }
-    requires between { Between 1 (length fixed.now) 48 }
-    ensures { result ≡ is_stuck (length fixed.now) g (marks_of fixed.now) }
+fn is_stuck(unit: Unit, fixed: &[u8]) -> bool
+    requires { Between 1 (length fixed.now) 48 }
+    ensures { result ≡ is_stuck (length fixed.now) unit.generator (marks_of fixed.now) }
 {
     let costs = [0u64; 48];
     let free = &costs[..fixed.len()];
-    walk_value(g, free, free, fixed) == 0
+    walk_value(unit, free, free, fixed) == 0
 }
 
 // Whether unit u is stuck.
@@ -29,5 +28,5 @@ pub fn is_unit_stuck(plan: Plan, u: usize, above: &[u8]) -> bool
     let n = plan.periods();
     let begin = u * n;
     let end = begin + n;
-    is_stuck(plan.generator(u), &above[begin..end])
+    is_stuck(plan.unit(u), &above[begin..end])
 }

@@ -32,7 +32,7 @@ fn units_least(plan: Plan, q: &[u64], s: &[u64], above: &[u8]) -> Option<i64>
     for u in 0..plan.units() {
         let begin = u * n;
         let end = begin + n;
-        let v = unit_least(plan.generator(u), q, s, &above[begin..end])?;
+        let v = unit_least(plan.unit(u), q, s, &above[begin..end])?;
         total = add(total, v);
     }
     Some(total)

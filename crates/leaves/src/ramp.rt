@@ -32,7 +32,7 @@ fn unit_answer(
     let n = plan.periods();
     let begin = u * n;
     let end = begin + n;
-    ramp_least(plan.generator(u), q, s, up, down, &above[begin..end])
+    ramp_least(plan.unit(u), q, s, up, down, &above[begin..end])
 }
 
 // What the units passed answer, and unit u. It is asked only where none of them is stuck.

@@ -1,6 +1,7 @@
 -- What document 01 says of problems, schedules and trees, with no bytes in it, in document 01's order.
 pub mod Instance
 pub mod Ranges
+pub mod OneProof
 pub mod Held
 pub mod Rules
 pub mod Cost

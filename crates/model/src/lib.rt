@@ -5,3 +5,4 @@ pub mod arrays;
 pub mod figures;
 pub mod generator;
 pub mod ranges;
+pub mod unit;

@@ -1,7 +1,6 @@
 // A unit's status in a period, by the values kept of the period after it: off where that is no worse.
 ghost use Rattle.std.specs.Prelude.{◌≡◌, ℕ, ◌≤◌, length};
 ghost use Rattle.model.specs.Instance.{◌at◌};
-ghost use Rattle.model.specs.Ranges.{GoodUnit};
 ghost use Rattle.model.specs.Rules.{permits, spent};
 ghost use Rattle.model.specs.Cost.{switch_cost};
 ghost use Rattle.model.specs.Above.{allows};
@@ -13,6 +12,7 @@ ghost use Rattle.runs.specs.Kept.{status_by};
 
 use crate::table::kept_at;
 use model::generator::Generator;
+use model::unit::Unit;
 use walk::table::kept_value;
 
 // Whether the status may follow k periods in another or the same, by (5) to (10).
@@ -34,10 +34,10 @@ fn is_allowed(mark: u8, next: bool) -> bool
 }
 
 // What the status costs as a start or a stop.
-fn switch_cost(g: Generator, on: bool, k: usize, next: bool) -> u64
-    requires { GoodUnit g }
-    ensures { result ≡ switch_cost g on k next }
+fn switch_cost(unit: Unit, on: bool, k: usize, next: bool) -> u64
+    ensures { result ≡ switch_cost unit.generator on k next }
 {
+    let g = unit.generator;
     match (on, next) {
         (true, false) => g.Dc,
         (false, true) if k <= g.TD + g.Tcold => g.Hsc,
@@ -56,7 +56,7 @@ pub fn periods_spent(on: bool, k: usize, next: bool) -> usize
 
 // The status in a period that costs so much in it, with the value after it; coded.
 pub fn branch_value(
-    g: Generator,
+    unit: Unit,
     mark: u8,
     cost: u64,
     on: bool,
@@ -64,14 +64,14 @@ pub fn branch_value(
     next: bool,
     after: u64,
 ) -> u64
-    requires good_unit { GoodUnit g }
-    requires good_cost { GoodCost cost × GoodValue after }
-    ensures { result ≡ move g (mark_of mark) cost on k next after }
+    requires { GoodCost cost × GoodValue after }
+    ensures { result ≡ move unit.generator (mark_of mark) cost on k next after }
 {
+    let g = unit.generator;
     if !is_permitted(g, on, k, next) {
         return 0;
     }
-    let spent = switch_cost(g, on, k, next) + cost;
+    let spent = switch_cost(unit, on, k, next) + cost;
     kept_value(is_allowed(mark, next), spent, after)
 }
 
@@ -84,7 +84,7 @@ fn is_no_worse(x: u64, y: u64) -> bool
 
 // Whether a unit that has been in the status for k periods is on in the period before period t of the table; that period costs on or off by its status.
 pub fn next_status(
-    g: Generator,
+    unit: Unit,
     mark: u8,
     on: u64,
     off: u64,
@@ -93,15 +93,14 @@ pub fn next_status(
     status: bool,
     k: usize,
 ) -> bool
-    requires good_unit { GoodUnit g }
     requires good_cost { GoodCost on × GoodCost off }
     requires table_len { (length table.now ≡ 7105) × ((i : ℕ) → GoodValue (table.now at i)) }
     requires t_bound { (t ≤ 48) × (1 ≤ k) × (k ≤ 2000) }
-    ensures { result ≡ status_by g mark on off table.now t status k }
+    ensures { result ≡ status_by unit.generator mark on off table.now t status k }
 {
-    let after_off = kept_at(g, table, t, false, periods_spent(status, k, false));
-    let after_on = kept_at(g, table, t, true, periods_spent(status, k, true));
-    let going_off = branch_value(g, mark, off, status, k, false, after_off);
-    let going_on = branch_value(g, mark, on, status, k, true, after_on);
+    let after_off = kept_at(unit, table, t, false, periods_spent(status, k, false));
+    let after_on = kept_at(unit, table, t, true, periods_spent(status, k, true));
+    let going_off = branch_value(unit, mark, off, status, k, false, after_off);
+    let going_on = branch_value(unit, mark, on, status, k, true, after_on);
     !is_no_worse(going_off, going_on)
 }

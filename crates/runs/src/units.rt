@@ -38,7 +38,7 @@ pub fn write_runs(plan: Plan, q: &[u64], s: &[u64], fixed: &[u8], rows: &mut [u6
     for u in 0..plan.units() {
         let begin = u * n;
         let end = begin + n;
-        let g = plan.generator(u);
-        unit_run(g, q, s, &fixed[begin..end], &mut rows[begin..end]);
+        let unit = plan.unit(u);
+        unit_run(unit, q, s, &fixed[begin..end], &mut rows[begin..end]);
     }
 }

@@ -4,7 +4,6 @@
 
 ghost use Rattle.std.specs.Prelude.{◌≡◌, true, false, ℕ, suc, ◌+◌, ◌-◌, ◌≤◌, ◌<◌, min, length};
 ghost use Rattle.model.specs.Instance.{◌at◌};
-ghost use Rattle.model.specs.Ranges.{GoodUnit};
 ghost use Rattle.model.specs.Walk.{Values, back, walk};
 ghost use Rattle.model.specs.Table.{values};
 ghost use Rattle.walk.specs.Marks.{mark_of, marks_of};
@@ -15,18 +14,17 @@ mod chain;
 pub mod table;
 
 use crate::table::{kept_value, lesser_value, step_back};
-use model::generator::Generator;
+use model::unit::Unit;
 
 // Takes a table of ones from after the last period to before the first.
-fn walk_back(g: Generator, on: &[u64], off: &[u64], fixed: &[u8], ons: &mut [u64], offs: &mut [u64])
-    requires good_unit { GoodUnit g }
+fn walk_back(unit: Unit, on: &[u64], off: &[u64], fixed: &[u8], ons: &mut [u64], offs: &mut [u64])
     requires good_costs { GoodCosts (length on.now) on.now off.now × (length fixed.now ≡ length on.now) }
-    requires ons_len { (length ons.old ≡ g.TU) × (length offs.old ≡ g.TD + g.Tcold + 1) }
-    requires by_index { ((k : ℕ) → k < g.TU → ons.old at k ≡ 1) × ((k : ℕ) → k < g.TD + g.Tcold + 1 → offs.old at k ≡ 1) }
-    ensures { Tables g (values (length on.now) g (marks_of fixed.now) (costs_of on.now off.now) 0) ons.new offs.new }
+    requires ons_len { (length ons.old ≡ unit.generator.TU) × (length offs.old ≡ unit.generator.TD + unit.generator.Tcold + 1) }
+    requires by_index { ((k : ℕ) → k < unit.generator.TU → ons.old at k ≡ 1) × ((k : ℕ) → k < unit.generator.TD + unit.generator.Tcold + 1 → offs.old at k ≡ 1) }
+    ensures { Tables unit.generator (values (length on.now) unit.generator (marks_of fixed.now) (costs_of on.now off.now) 0) ons.new offs.new }
 {
     for t in (0..on.len()).rev() {
-        step_back(g, fixed[t], on[t], off[t], ons, offs);
+        step_back(unit, fixed[t], on[t], off[t], ons, offs);
     }
 }
 
@@ -47,12 +45,12 @@ struct After {
 }
 
 // The value, one period back, of the state that the unit reaches from before period 1 without a change: k periods in its status.
-fn own_back(g: Generator, k: usize, mark: u8, on: u64, off: u64, after: After) -> u64
-    requires good_unit { GoodUnit g }
+fn own_back(unit: Unit, k: usize, mark: u8, on: u64, off: u64, after: After) -> u64
     requires good_cost { GoodCost on × GoodCost off }
     requires good_value { GoodValue after.started × (GoodValue after.stopped × GoodValue after.stayed) }
-    ensures { (X : Values) → X true 1 ≡ after.started → X false 1 ≡ after.stopped → X g.on (suc k) ≡ after.stayed → result ≡ back g (mark_of mark) (by_status on off) X g.on k }
+    ensures { (X : Values) → X true 1 ≡ after.started → X false 1 ≡ after.stopped → X unit.generator.on (suc k) ≡ after.stayed → result ≡ back unit.generator (mark_of mark) (by_status on off) X unit.generator.on k }
 {
+    let g = unit.generator;
     let may_on = mark != 1;
     let may_off = mark != 2;
     if g.on {
@@ -75,19 +73,19 @@ fn own_back(g: Generator, k: usize, mark: u8, on: u64, off: u64, after: After) -
 // The least value, coded, of all periods from the state before period 1. Before period t a unit that has changed its status has
 // been in it for t periods at most, so that only so many states of the tables, which start with ones, are taken back.
 fn walk_reached(
-    g: Generator,
+    unit: Unit,
     on: &[u64],
     off: &[u64],
     fixed: &[u8],
     ons: &mut [u64],
     offs: &mut [u64],
 ) -> u64
-    requires good_unit { GoodUnit g }
     requires good_costs { GoodCosts (length on.now) on.now off.now × (length fixed.now ≡ length on.now) }
-    requires ons_len { (length ons.old ≡ g.TU) × (length offs.old ≡ g.TD + g.Tcold + 1) }
-    requires by_index { ((k : ℕ) → k < g.TU → ons.old at k ≡ 1) × ((k : ℕ) → k < g.TD + g.Tcold + 1 → offs.old at k ≡ 1) }
-    ensures { result ≡ walk (length on.now) g (marks_of fixed.now) (costs_of on.now off.now) g.on g.since }
+    requires ons_len { (length ons.old ≡ unit.generator.TU) × (length offs.old ≡ unit.generator.TD + unit.generator.Tcold + 1) }
+    requires by_index { ((k : ℕ) → k < unit.generator.TU → ons.old at k ≡ 1) × ((k : ℕ) → k < unit.generator.TD + unit.generator.Tcold + 1 → offs.old at k ≡ 1) }
+    ensures { result ≡ walk (length on.now) unit.generator (marks_of fixed.now) (costs_of on.now off.now) unit.generator.on unit.generator.since }
 {
+    let g = unit.generator;
     let mut value = 1;
     for t in (0..on.len()).rev() {
         let after = After {
@@ -95,30 +93,30 @@ fn walk_reached(
             stopped: offs[0],
             stayed: value,
         };
-        value = own_back(g, g.since + t, fixed[t], on[t], off[t], after);
+        value = own_back(unit, g.since + t, fixed[t], on[t], off[t], after);
         let a = ons.len().min(t + 1);
         let b = offs.len().min(t + 1);
-        step_back(g, fixed[t], on[t], off[t], &mut ons[..a], &mut offs[..b]);
+        step_back(unit, fixed[t], on[t], off[t], &mut ons[..a], &mut offs[..b]);
     }
     value
 }
 
 // The same over whole tables.
 fn walk_all(
-    g: Generator,
+    unit: Unit,
     on: &[u64],
     off: &[u64],
     fixed: &[u8],
     ons: &mut [u64],
     offs: &mut [u64],
 ) -> u64
-    requires good_unit { GoodUnit g }
     requires good_costs { GoodCosts (length on.now) on.now off.now × (length fixed.now ≡ length on.now) }
-    requires ons_len { (length ons.old ≡ g.TU) × (length offs.old ≡ g.TD + g.Tcold + 1) }
-    requires by_index { ((k : ℕ) → k < g.TU → ons.old at k ≡ 1) × ((k : ℕ) → k < g.TD + g.Tcold + 1 → offs.old at k ≡ 1) }
-    ensures { result ≡ walk (length on.now) g (marks_of fixed.now) (costs_of on.now off.now) g.on g.since }
+    requires ons_len { (length ons.old ≡ unit.generator.TU) × (length offs.old ≡ unit.generator.TD + unit.generator.Tcold + 1) }
+    requires by_index { ((k : ℕ) → k < unit.generator.TU → ons.old at k ≡ 1) × ((k : ℕ) → k < unit.generator.TD + unit.generator.Tcold + 1 → offs.old at k ≡ 1) }
+    ensures { result ≡ walk (length on.now) unit.generator (marks_of fixed.now) (costs_of on.now off.now) unit.generator.on unit.generator.since }
 {
-    walk_back(g, on, off, fixed, ons, offs);
+    let g = unit.generator;
+    walk_back(unit, on, off, fixed, ons, offs);
     if g.on {
         ons[place(g.since, ons.len())]
     } else {
@@ -130,18 +128,18 @@ fn walk_all(
 const FEW_STATES: usize = 24;
 
 // The least value, coded, of all periods from the state before period 1, where period t costs on[t] or off[t] by its status.
-pub fn walk_value(g: Generator, on: &[u64], off: &[u64], fixed: &[u8]) -> u64
-    requires good_unit { GoodUnit g }
-    requires good_costs { GoodCosts (length on.now) on.now off.now × (length fixed.now ≡ length on.now) }
-    ensures { result ≡ walk (length on.now) g (marks_of fixed.now) (costs_of on.now off.now) g.on g.since }
+pub fn walk_value(unit: Unit, on: &[u64], off: &[u64], fixed: &[u8]) -> u64
+    requires { GoodCosts (length on.now) on.now off.now × (length fixed.now ≡ length on.now) }
+    ensures { result ≡ walk (length on.now) unit.generator (marks_of fixed.now) (costs_of on.now off.now) unit.generator.on unit.generator.since }
 {
+    let g = unit.generator;
     let up = g.TU;
     let down = g.TD + g.Tcold + 1;
     let mut ons = [1u64; 48];
     let mut offs = [1u64; 97];
     if up + down <= FEW_STATES {
-        walk_all(g, on, off, fixed, &mut ons[..up], &mut offs[..down])
+        walk_all(unit, on, off, fixed, &mut ons[..up], &mut offs[..down])
     } else {
-        walk_reached(g, on, off, fixed, &mut ons[..up], &mut offs[..down])
+        walk_reached(unit, on, off, fixed, &mut ons[..up], &mut offs[..down])
     }
 }

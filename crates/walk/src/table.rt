@@ -2,7 +2,7 @@
 // have it (the model's Walk), and in one word each the loops over a table take four states at a time.
 ghost use Rattle.std.specs.Prelude.{◌≡◌, true, false, ℕ, ◌+◌, ◌≤◌, ◌<◌, length};
 ghost use Rattle.model.specs.Instance.{◌at◌};
-ghost use Rattle.model.specs.Ranges.{Between, GoodUnit};
+ghost use Rattle.model.specs.Ranges.{Between};
 ghost use Rattle.model.specs.Walk.{lesser};
 ghost use Rattle.model.specs.Table.{kept, Chained};
 ghost use Rattle.walk.specs.Marks.{mark_of};
@@ -10,7 +10,7 @@ ghost use Rattle.walk.specs.Limits.{GoodCost, GoodValue};
 ghost use Rattle.walk.specs.GoingBack.{Back, Backed, Valued, Rising, is_open};
 
 use crate::chain::{fill_states, first_early, keep_states, leave_or_keep_states, lesser_coded};
-use model::generator::Generator;
+use model::unit::Unit;
 
 // A coded value with k added, where it is allowed.
 pub fn kept_value(allowed: bool, k: u64, v: u64) -> u64
@@ -110,20 +110,20 @@ fn on_back<const VALUED: bool>(states: &mut [u64], leaving: u64, allowed: bool, 
 // Takes the values of all states back over a period that costs on or off by its status, mark being what is fixed in it. Where VALUED holds
 // nothing is fixed and every value is there.
 fn marked_back<const VALUED: bool>(
-    g: Generator,
+    unit: Unit,
     mark: u8,
     on: u64,
     off: u64,
     ons: &mut [u64],
     offs: &mut [u64],
 )
-    requires good_unit { GoodUnit g }
     requires good_cost { GoodCost on × GoodCost off }
-    requires between { Between 1 (length ons.old) g.TU × (1 ≤ length offs.old) }
+    requires between { Between 1 (length ons.old) unit.generator.TU × (1 ≤ length offs.old) }
     requires by_index { ((k : ℕ) → GoodValue (ons.old at k)) × ((k : ℕ) → GoodValue (offs.old at k)) }
     requires valued { VALUED ≡ true → (mark ≡ 0) × (Valued ons.old × Valued offs.old) }
-    ensures { Back g (mark_of mark) on off ons.old offs.old ons.new offs.new }
+    ensures { Back unit.generator (mark_of mark) on off ons.old offs.old ons.new offs.new }
 {
+    let g = unit.generator;
     let may_on = mark != 1;
     let may_off = mark != 2;
     let leaving = kept_value(may_off, g.Dc + off, offs[0]);
@@ -141,17 +141,16 @@ fn is_open(mark: u8, x: u64, y: u64) -> bool
 }
 
 // The same; where the first state of a status has a value all of them have, and if nothing is fixed either none is tested for.
-pub fn step_back(g: Generator, mark: u8, on: u64, off: u64, ons: &mut [u64], offs: &mut [u64])
-    requires good_unit { GoodUnit g }
+pub fn step_back(unit: Unit, mark: u8, on: u64, off: u64, ons: &mut [u64], offs: &mut [u64])
     requires good_cost { GoodCost on × GoodCost off }
-    requires between { Between 1 (length ons.old) g.TU × (1 ≤ length offs.old) }
+    requires between { Between 1 (length ons.old) unit.generator.TU × (1 ≤ length offs.old) }
     requires by_index { ((k : ℕ) → GoodValue (ons.old at k)) × ((k : ℕ) → GoodValue (offs.old at k)) }
     requires rising { Rising ons.old × Rising offs.old }
-    ensures { Back g (mark_of mark) on off ons.old offs.old ons.new offs.new }
+    ensures { Back unit.generator (mark_of mark) on off ons.old offs.old ons.new offs.new }
 {
     if is_open(mark, ons[0], offs[0]) {
-        marked_back::<true>(g, mark, on, off, ons, offs);
+        marked_back::<true>(unit, mark, on, off, ons, offs);
     } else {
-        marked_back::<false>(g, mark, on, off, ons, offs);
+        marked_back::<false>(unit, mark, on, off, ons, offs);
     }
 }

@@ -7,7 +7,7 @@ use Rattle.walk.specs.GoingBack.{costs_of, Tables}
 use Rattle.walk.proofs.walk_back.Given as goal
 
 abbrev pub invariant-loop-t : goal.invariant-loop-t
-invariant-loop-t l = (l.t ≤ length l.on) × Tables l.g (values (length l.on) l.g (marks_of l.fixed) (costs_of l.on l.off) l.t) l.ons l.offs
+invariant-loop-t l = (l.t ≤ length l.on) × Tables l.unit.generator (values (length l.on) l.unit.generator (marks_of l.fixed) (costs_of l.on l.off) l.t) l.ons l.offs
 
 abbrev pub decreases-loop-t : goal.decreases-loop-t
 decreases-loop-t l = l.t

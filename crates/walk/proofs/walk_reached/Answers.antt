@@ -20,14 +20,14 @@ loop-t-init c =
     let n = length a.on.now in
     let C = c.requires.good_costs.0 in
     let ones = c.requires.by_index in
-    let known = ones_known a.g c.requires.good_unit n a.on.now a.off.now a.fixed.now C in (
+    let known = ones_known a.unit.generator c.args.unit.good n a.on.now a.off.now a.fixed.now C in (
       (omega arith, c.requires.ons_len.0, c.requires.ons_len.1),
       (
         (
-          known true (min n a.g.TU) a.ons.now (λ k i. ones.0 k (omega arith)),
-          known false (min n (cap a.g false)) a.offs.now (λ k i. ones.1 k (omega arith)),
+          known true (min n a.unit.generator.TU) a.ons.now (λ k i. ones.0 k (omega arith)),
+          known false (min n (cap a.unit.generator false)) a.offs.now (λ k i. ones.1 k (omega arith)),
         ),
-        sym (values_end n a.g (marks_of a.fixed.now) (costs_of a.on.now a.off.now) a.g.on (a.g.since + n)),
+        sym (values_end n a.unit.generator (marks_of a.fixed.now) (costs_of a.on.now a.off.now) a.unit.generator.on (a.unit.generator.since + n)),
       ),
     )
 
@@ -37,14 +37,13 @@ own_back-value-requires c =
     let t = c.loop-t.t in
     let C = c.requires.good_costs.0 in
     let inv = c.loop-t.invariant in
-    let good = values_good a.g c.requires.good_unit (length a.on.now) a.on.now a.off.now a.fixed.now C t in
-    let TU_pos : 0 < a.g.TU = c.requires.good_unit.in_range.TU_in.0 in
+    let good = values_good a.unit.generator c.args.unit.good (length a.on.now) a.on.now a.off.now a.fixed.now C t in
+    let TU_pos : 0 < a.unit.generator.TU = c.args.unit.good.in_range.TU_in.0 in
     let more : 0 < t = c.loop-t-test.true in record {
-      good_unit = c.requires.good_unit;
       good_cost = (all_at 1_000_000_000_000_000 a.on.now C.on_in (t - 1), all_at 1_000_000_000_000_000 a.off.now C.off_in (t - 1));
       good_value = (
         rw (inv.1.0.0 0 (omega arith)) (good true 1),
-        (rw (inv.1.0.1 0 (omega arith)) (good false 1), rw inv.1.1 (good a.g.on (a.g.since + t))),
+        (rw (inv.1.0.1 0 (omega arith)) (good false 1), rw inv.1.1 (good a.unit.generator.on (a.unit.generator.since + t))),
       );
     }
 
@@ -62,13 +61,12 @@ step_back-requires c =
     let t = c.loop-t.t in
     let C = c.requires.good_costs.0 in
     let inv = c.loop-t.invariant in
-    let good = front_good a.g c.requires.good_unit (length a.on.now) a.on.now a.off.now a.fixed.now C t in
-    let rising = front_rising (length a.on.now) a.g (marks_of a.fixed.now) (costs_of a.on.now a.off.now) t in
-    let TU_pos : 0 < a.g.TU = c.requires.good_unit.in_range.TU_in.0 in
+    let good = front_good a.unit.generator c.args.unit.good (length a.on.now) a.on.now a.off.now a.fixed.now C t in
+    let rising = front_rising (length a.on.now) a.unit.generator (marks_of a.fixed.now) (costs_of a.on.now a.off.now) t in
+    let TU_pos : 0 < a.unit.generator.TU = c.args.unit.good.in_range.TU_in.0 in
     let more : 0 < t = c.loop-t-test.true in
-    let up : c.min-a.result ≡ min t a.g.TU = omega (arith, c.min-a.ensures, inv.0.1) in
-    let down : c.min-b.result ≡ min t (cap a.g false) = omega (arith, c.min-b.ensures, inv.0.2) in record {
-      good_unit = c.requires.good_unit;
+    let up : c.min-a.result ≡ min t a.unit.generator.TU = omega (arith, c.min-a.ensures, inv.0.1) in
+    let down : c.min-b.result ≡ min t (cap a.unit.generator false) = omega (arith, c.min-b.ensures, inv.0.2) in record {
       good_cost = (all_at 1_000_000_000_000_000 a.on.now C.on_in (t - 1), all_at 1_000_000_000_000_000 a.off.now C.off_in (t - 1));
       between = (
         rw (length-take-le c.min-a.result c.loop-t.ons (omega arith)) (omega arith, omega arith),
@@ -89,18 +87,18 @@ loop-t-preserved c =
     let within : t ≤ n = inv.0.0 in
     let p = c.min-a in
     let q = c.min-b in
-    let up : p.result ≡ min t a.g.TU = omega (arith, p.ensures, inv.0.1) in
-    let down : q.result ≡ min t (cap a.g false) = omega (arith, q.ensures, inv.0.2) in
-    let next : suc (a.g.since + (t - 1)) ≡ a.g.since + t = omega arith in
-    let TU_pos : 0 < a.g.TU = c.requires.good_unit.in_range.TU_in.0 in
-    let long = fronts_long a.g _ _ _ c.loop-t.ons c.loop-t.offs _ _ p.result q.result c.step_back.ensures in
-    let X = values n a.g (marks_of a.fixed.now) (costs_of a.on.now a.off.now) t in
+    let up : p.result ≡ min t a.unit.generator.TU = omega (arith, p.ensures, inv.0.1) in
+    let down : q.result ≡ min t (cap a.unit.generator false) = omega (arith, q.ensures, inv.0.2) in
+    let next : suc (a.unit.generator.since + (t - 1)) ≡ a.unit.generator.since + t = omega arith in
+    let TU_pos : 0 < a.unit.generator.TU = c.args.unit.good.in_range.TU_in.0 in
+    let long = fronts_long a.unit.generator _ _ _ c.loop-t.ons c.loop-t.offs _ _ p.result q.result c.step_back.ensures in
+    let X = values n a.unit.generator (marks_of a.fixed.now) (costs_of a.on.now a.off.now) t in
     let back = c.own_back-value.ensures X (sym (inv.1.0.0 0 (omega arith))) (sym (inv.1.0.1 0 (omega arith)))
-    (ap (X a.g.on) next ∙ sym inv.1.1) in (
+    (ap (X a.unit.generator.on) next ∙ sym inv.1.1) in (
       (omega arith, long.0 ∙ inv.0.1, long.1 ∙ inv.0.2),
       (
-        known_turn a.g c.requires.good_unit n a.on.now a.off.now a.fixed.now C t more within c.loop-t.ons c.loop-t.offs _ _ p.result q.result (inv.0.1, inv.0.2) (up, down) inv.1.0 c.step_back.ensures,
-        own_turn a.g c.requires.good_unit n a.on.now a.off.now a.fixed.now C t more within a.g.on _ _ back,
+        known_turn a.unit.generator c.args.unit.good n a.on.now a.off.now a.fixed.now C t more within c.loop-t.ons c.loop-t.offs _ _ p.result q.result (inv.0.1, inv.0.2) (up, down) inv.1.0 c.step_back.ensures,
+        own_turn a.unit.generator c.args.unit.good n a.on.now a.off.now a.fixed.now C t more within a.unit.generator.on _ _ back,
       ),
     )
 
@@ -113,5 +111,5 @@ shape_of-offs c = omega (arith, c.loop-t.invariant.0)
 pub returns : goal.returns
 returns c =
     let a = c.args in
-    own_start a.g c.requires.good_unit (length a.on.now) a.on.now a.off.now a.fixed.now c.requires.good_costs.0 c.loop-t.t (omega arith) a.g.on a.g.since _
+    own_start a.unit.generator c.args.unit.good (length a.on.now) a.on.now a.off.now a.fixed.now c.requires.good_costs.0 c.loop-t.t (omega arith) a.unit.generator.on a.unit.generator.since _
     c.loop-t.invariant.1.1

@@ -11,10 +11,10 @@ use Rattle.walk.specs.GoingBack.{costs_of, Known}
 use Rattle.walk.proofs.walk_reached.Given as goal
 
 abbrev pub invariant-loop-t : goal.invariant-loop-t
-invariant-loop-t l = ((l.t ≤ length l.on) × (length l.ons ≡ l.g.TU) × (length l.offs ≡ cap l.g false))
-    × ((Known (values (length l.on) l.g (marks_of l.fixed) (costs_of l.on l.off) l.t) true (min l.t l.g.TU) l.ons
-    × Known (values (length l.on) l.g (marks_of l.fixed) (costs_of l.on l.off) l.t) false (min l.t (cap l.g false)) l.offs)
-    × (l.value ≡ values (length l.on) l.g (marks_of l.fixed) (costs_of l.on l.off) l.t l.g.on (l.g.since + l.t)))
+invariant-loop-t l = ((l.t ≤ length l.on) × (length l.ons ≡ l.unit.generator.TU) × (length l.offs ≡ cap l.unit.generator false))
+    × ((Known (values (length l.on) l.unit.generator (marks_of l.fixed) (costs_of l.on l.off) l.t) true (min l.t l.unit.generator.TU) l.ons
+    × Known (values (length l.on) l.unit.generator (marks_of l.fixed) (costs_of l.on l.off) l.t) false (min l.t (cap l.unit.generator false)) l.offs)
+    × (l.value ≡ values (length l.on) l.unit.generator (marks_of l.fixed) (costs_of l.on l.off) l.t l.unit.generator.on (l.unit.generator.since + l.t)))
 
 abbrev pub decreases-loop-t : goal.decreases-loop-t
 decreases-loop-t l = l.t

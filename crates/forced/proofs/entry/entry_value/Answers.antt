@@ -9,12 +9,12 @@ returns-then-g-status c =
     let a = c.args in
     c.lesser_value.ensures
     ∙ ap (lesser c.join_states-found.result) c.both_values.ensures
-    ∙ entry_own a.g a.table.now a.t a.status a.states.now a.own c.min.result c.begin_of.result c.join_states-found.result
+    ∙ entry_own a.unit.generator a.table.now a.t a.status a.states.now a.own c.min.result c.begin_of.result c.join_states-found.result
     c.min.ensures c.begin_of.ensures c.join_states-found.ensures c.if-g-status.true c.kept_at-kept.result
     c.kept_at-kept.ensures
 
 pub returns-else-g-status : goal.returns-else-g-status
 returns-else-g-status c =
     let a = c.args in
-    entry_other a.g a.table.now a.t a.status a.states.now a.own c.min.result c.begin_of.result c.join_states-found.result
+    entry_other a.unit.generator a.table.now a.t a.status a.states.now a.own c.min.result c.begin_of.result c.join_states-found.result
     c.min.ensures c.begin_of.ensures c.join_states-found.ensures c.if-g-status.false

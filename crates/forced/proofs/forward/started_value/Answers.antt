@@ -14,15 +14,15 @@ use Rattle.forced.proofs.forward.started_value.Goals as goal
 
 pub kept_value-starting-requires : goal.kept_value-starting-requires
 kept_value-starting-requires c = (
-  omega (arith, c.requires.good_unit.in_range.Hsc_in, c.requires.good_cost),
-  (omega arith, rw c.least_state-early.ensures (upto_most _ _ _ (λ k. (c.requires.offs_len.1 (c.args.g.TD - 1 + k)).1))),
+  omega (arith, c.args.unit.good.in_range.Hsc_in, c.requires.good_cost),
+  (omega arith, rw c.least_state-early.ensures (upto_most _ _ _ (λ k. (c.requires.offs_len.1 (c.args.unit.generator.TD - 1 + k)).1))),
 )
 
 pub returns : goal.returns
 returns c =
     let a = c.args in
-    let g = a.g in
-    let to : g.TD + g.Tcold ≡ g.TD - 1 + suc g.Tcold = omega (arith, c.requires.good_unit.in_range.TD_in) in
+    let g = a.unit.generator in
+    let to : g.TD + g.Tcold ≡ g.TD - 1 + suc g.Tcold = omega (arith, c.args.unit.good.in_range.TD_in) in
     let reached = c.least_state-early.ensures ∙ ap (λ (n : ℕ). least_upto (n - (g.TD - 1)) (λ i. a.offs.now at (g.TD - 1 + i))) c.min.ensures in
     let early = reached ∙ least_beyond (g.TD - 1) (g.TD + g.Tcold) (suc g.Tcold) a.t a.offs.now to c.requires.beyond in
     rw (allows_on a.mark)

@@ -11,7 +11,7 @@ use Rattle.forced.proofs.forward.step_forward.Goals as goal
 pub returns : goal.returns
 returns c =
     let a = c.args in
-    let g = a.g in
+    let g = a.unit.generator in
     let x = a.mark in
     let of_on = c.lesser_value-entered_on.ensures ∙ ap₂ lesser c.started_value-starting.ensures c.own_into.ensures in
     let stop = c.kept_value-stopping.ensures ∙ ap (λ (b : Bool). kept b (g.Dc + a.off) (a.ons.now at (g.TU - 1))) (sym (allows_off x)) in

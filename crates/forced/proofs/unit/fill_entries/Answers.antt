@@ -24,7 +24,7 @@ keep_walk-requires-clause-table_len c = (refl, zeros_at 7105)
 
 pub fill_forward-requires-clause-by_index : goal.fill_forward-requires-clause-by_index
 fill_forward-requires-clause-by_index c =
-    let up = c.args.g.TU in
-    let down = c.args.g.TD + c.args.g.Tcold + 1 in
-    let l : (up ≤ 48) × (down ≤ 97) = states_fit c.args.g c.requires.good_unit (refl, refl) in
+    let up = c.args.unit.generator.TU in
+    let down = c.args.unit.generator.TD + c.args.unit.generator.Tcold + 1 in
+    let l : (up ≤ 48) × (down ≤ 97) = states_fit c.args.unit.generator c.args.unit.good (refl, refl) in
     (front-none up 48 l.0, front-none down 97 l.1)

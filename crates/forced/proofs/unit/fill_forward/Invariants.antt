@@ -6,4 +6,4 @@ use Rattle.forced.proofs.Filling.{Filling}
 use Rattle.forced.proofs.unit.fill_forward.Given as goal
 
 abbrev pub invariant-loop-t : goal.invariant-loop-t
-invariant-loop-t l = Filling (length l.on) l.g (marks_of l.fixed) (costs_of l.on l.off) l.t l.own l.ons l.offs l.entries
+invariant-loop-t l = Filling (length l.on) l.unit.generator (marks_of l.fixed) (costs_of l.on l.off) l.t l.own l.ons l.offs l.entries

@@ -14,7 +14,7 @@ fill_entries-requires-clause-good_costs c =
     let P = c.requires.good_prices.0 in
     let K = priced_costed c.fill_costs.ensures in
     let past = drop (length a.q.now) (replicate 48 0) in
-    (front_good K past P.periods_in (period_worth_fits (length a.q.now) a.q.now a.s.now P a.g c.requires.good_unit), c.requires.good_prices.1 ∙ on_front_long K past)
+    (front_good K past P.periods_in (period_worth_fits (length a.q.now) a.q.now a.s.now P a.unit.generator c.args.unit.good), c.requires.good_prices.1 ∙ on_front_long K past)
 
 pub write_numbers-requires-clause-all : goal.write_numbers-requires-clause-all
 write_numbers-requires-clause-all c =
@@ -22,8 +22,8 @@ write_numbers-requires-clause-all c =
     let P = c.requires.good_prices.0 in
     let past = drop (length a.q.now) (replicate 48 0) in
     let behind = drop (2 * length a.q.now) (replicate 96 0) in (
-      front_entries_good a.g (marks_of a.fixed.now) a.q.now a.s.now _ _ past _ behind c.fill_costs.ensures c.fill_entries.ensures c.requires.good_unit P,
-      (omega arith, omega (arith, c.sum_offset-added.ensures, sum_offset_fits (length a.q.now) a.q.now a.s.now P a.g c.requires.good_unit)),
+      front_entries_good a.unit.generator (marks_of a.fixed.now) a.q.now a.s.now _ _ past _ behind c.fill_costs.ensures c.fill_entries.ensures c.args.unit.good P,
+      (omega arith, omega (arith, c.sum_offset-added.ensures, sum_offset_fits (length a.q.now) a.q.now a.s.now P a.unit.generator c.args.unit.good)),
     )
 
 pub returns : goal.returns
@@ -33,7 +33,7 @@ returns c =
     let behind = drop (2 * length a.q.now) (replicate 96 0) in
     let e = c.sum_offset-added.ensures in record {
       values = c.write_numbers.ensures.values
-          ∙ front_values a.g (marks_of a.fixed.now) a.q.now a.s.now _ _ past _ behind c.fill_costs.ensures c.fill_entries.ensures c.requires.good_unit _ e;
+          ∙ front_values a.unit.generator (marks_of a.fixed.now) a.q.now a.s.now _ _ past _ behind c.fill_costs.ensures c.fill_entries.ensures c.args.unit.good _ e;
       stuck = c.write_numbers.ensures.stuck
-          ∙ front_stuck a.g (marks_of a.fixed.now) a.q.now a.s.now _ _ past _ behind c.fill_costs.ensures c.fill_entries.ensures c.requires.good_unit _ e;
+          ∙ front_stuck a.unit.generator (marks_of a.fixed.now) a.q.now a.s.now _ _ past _ behind c.fill_costs.ensures c.fill_entries.ensures c.args.unit.good _ e;
     }

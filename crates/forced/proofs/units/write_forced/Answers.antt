@@ -43,7 +43,7 @@ loop-u-preserved c =
     let room = within u (length P.units) P.periods n more e in
     let begins = ap (λ (k : ℕ). u * k) e in
     let part = marks_of (take (u * n + n - u * n) (drop (u * n) a.fixed.now)) in
-    let g = ap (λ (g : Generator). forced_table (length a.q.now) (λ t. a.q.now at t) (λ t. a.s.now at t) g part) c.generator.ensures in
+    let g = ap (λ (g : Generator). forced_table (length a.q.now) (λ t. a.q.now at t) (λ t. a.s.now at t) g part) c.unit.ensures in
     let v = table_written P good (λ t. a.q.now at t) (λ t. a.s.now at t) a.fixed.now value_number
     blank_generator u more (u * n) (length a.q.now) n c.requires.good_prices.q_long e begins
     c.loop-u.values _ (omega (arith, room, c.loop-u.auto.values, c.requires.values_len.0)) c.loop-u.invariant.0 (c.unit_forced.ensures.values ∙ ap (map value_number) g) in

@@ -6,8 +6,8 @@ use Rattle.least.proofs.output.least_on.Goals as goal
 
 pub on_value-requires : goal.on_value-requires
 on_value-requires c =
-    record { good_unit = c.requires.good_unit; good_slopes = c.requires.good_slopes; p_le_p_u = rw c.best_output.ensures (best_at_is c.args.g c.args.x c.args.y c.requires.good_unit.ordered.limits).high }
+    record { good_slopes = c.requires; p_le_p_u = rw c.best_output.ensures (best_at_is c.args.unit.generator c.args.x c.args.y c.args.unit.good.ordered.limits).high }
 
 pub returns : goal.returns
 returns c =
-    c.on_value.ensures ∙ ap (on_value c.args.g c.args.x c.args.y) c.best_output.ensures
+    c.on_value.ensures ∙ ap (on_value c.args.unit.generator c.args.x c.args.y) c.best_output.ensures

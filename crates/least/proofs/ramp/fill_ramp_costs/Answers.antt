@@ -16,8 +16,8 @@ loop-t-preserved c =
     let U = c.requires.good_steps.0 in
     let D = c.requires.good_steps.1 in
     let more : t < n = c.loop-t-test.true in
-    let on_cost = on_is n a.q.now a.s.now a.up.now a.down.now P U D a.g t more x c.least_on.ensures in
-    let off_cost = off_is n a.q.now a.s.now a.up.now a.down.now P U D a.g t more in record {
+    let on_cost = on_is n a.q.now a.s.now a.up.now a.down.now P U D a.unit.generator t more x c.least_on.ensures in
+    let off_cost = off_is n a.q.now a.s.now a.up.now a.down.now P U D a.unit.generator t more in record {
       on_at = below_more _ t (λ k h. get_or-set_other on t k x 0 (omega arith) ∙ inv.on_at k h) (get_or-set_same on t x 0 (omega arith) ∙ on_cost);
       off_at = below_more _ t (λ k h. get_or-set_other off t k y 0 (omega arith) ∙ inv.off_at k h) (get_or-set_same off t y 0 (omega arith) ∙ c.limits_value.ensures ∙ off_cost);
     }

@@ -12,6 +12,6 @@ costs g q s up down = ramp_worth (pred (length q)) g (λ t. q at t) (λ t. s at 
 
 abbrev pub invariant-loop-t : goal.invariant-loop-t
 invariant-loop-t l = record {
-  on_at : (k : ℕ) → k < l.t → l.on at k ≡ costs l.g l.q l.s l.up l.down k true;
-  off_at : (k : ℕ) → k < l.t → l.off at k ≡ costs l.g l.q l.s l.up l.down k false;
+  on_at : (k : ℕ) → k < l.t → l.on at k ≡ costs l.unit.generator l.q l.s l.up l.down k true;
+  off_at : (k : ℕ) → k < l.t → l.off at k ≡ costs l.unit.generator l.q l.s l.up l.down k false;
 }

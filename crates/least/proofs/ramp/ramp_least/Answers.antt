@@ -23,15 +23,15 @@ sums c =
     let U = c.requires.good_steps.0 in
     let D = c.requires.good_steps.1 in
     let value = c.ramp_value-value in (
-      omega (arith, value.ensures, ramp_value_fits (length a.q.now) a.q.now a.s.now a.up.now a.down.now P U D a.g c.requires.good_unit (marks_of a.fixed.now)),
-      omega (arith, c.sum_ramp_offset-added.ensures, sum_ramp_offset_fits (length a.q.now) a.q.now a.s.now a.up.now a.down.now P U D a.g c.requires.good_unit),
+      omega (arith, value.ensures, ramp_value_fits (length a.q.now) a.q.now a.s.now a.up.now a.down.now P U D a.unit.generator c.args.unit.good (marks_of a.fixed.now)),
+      omega (arith, c.sum_ramp_offset-added.ensures, sum_ramp_offset_fits (length a.q.now) a.q.now a.s.now a.up.now a.down.now P U D a.unit.generator c.args.unit.good),
     )
 
 pub returns-then-value-eq0 : goal.returns-then-value-eq0
 returns-then-value-eq0 c =
     let a = c.args in
     let value = c.ramp_value-value in
-    ramp_answer_stuck (length a.q.now) (λ t. a.q.now at t) (λ t. a.s.now at t) (steps a.up.now) (steps a.down.now) a.g (marks_of a.fixed.now)
+    ramp_answer_stuck (length a.q.now) (λ t. a.q.now at t) (λ t. a.s.now at t) (steps a.up.now) (steps a.down.now) a.unit.generator (marks_of a.fixed.now)
     (sym value.ensures ∙ c.if-value-eq0.true)
 
 pub overflow_cast-result : goal.overflow_cast-result
@@ -48,5 +48,5 @@ returns c =
     let a = c.args in
     let value = c.ramp_value-value in
     ap Some (read_sub (value.result - 1) c.sum_ramp_offset-added.result (sums c.before).0 (sums c.before).1 ∙ ap (λ (x : ℕ). pos (value.result - 1) -ℤ pos x) c.sum_ramp_offset-added.ensures)
-    ∙ ramp_answer_value (length a.q.now) (λ t. a.q.now at t) (λ t. a.s.now at t) (steps a.up.now) (steps a.down.now) a.g (marks_of a.fixed.now)
-    c.requires.good_unit value.result value.ensures c.if-value-eq0.false
+    ∙ ramp_answer_value (length a.q.now) (λ t. a.q.now at t) (λ t. a.s.now at t) (steps a.up.now) (steps a.down.now) a.unit.generator (marks_of a.fixed.now)
+    c.args.unit.good value.result value.ensures c.if-value-eq0.false

@@ -33,7 +33,7 @@ slice_bounds-fill_ramp_costs-end-2 c =
 pub fill_ramp_costs-requires : goal.fill_ramp_costs-requires
 fill_ramp_costs-requires c =
     let long = front_length 0 (length c.args.q.now) 48 (periods-fit c.before.before.before.before.before.before.before.before) in
-    record { good_unit = c.requires.good_unit; good_prices = c.requires.good_prices.0; good_steps = c.requires.good_steps; on_len = (long, long) }
+    record { good_prices = c.requires.good_prices.0; good_steps = c.requires.good_steps; on_len = (long, long) }
 
 pub slice_bounds-on-end-2 : goal.slice_bounds-on-end-2
 slice_bounds-on-end-2 c =
@@ -56,11 +56,11 @@ walk_value-requires c =
     let K = c.fill_ramp_costs.ensures in
     let a = c.args in
     let P = c.requires.good_prices.0 in
-    let fits = ramp_cost_fits (length a.q.now) a.q.now a.s.now a.up.now a.down.now P c.requires.good_steps.0 c.requires.good_steps.1 a.g c.requires.good_unit in
-    record { good_unit = c.requires.good_unit; good_costs = (front_good K (rest c.before.before.before.before.before.before.before.before.before.before.before.before.before) P.periods_in fits, c.requires.good_prices.1 ∙ on_front_long K (rest c.before.before.before.before.before.before.before.before.before.before.before.before.before)) }
+    let fits = ramp_cost_fits (length a.q.now) a.q.now a.s.now a.up.now a.down.now P c.requires.good_steps.0 c.requires.good_steps.1 a.unit.generator c.args.unit.good in
+    (front_good K (rest c.before.before.before.before.before.before.before.before.before.before.before.before.before) P.periods_in fits, c.requires.good_prices.1 ∙ on_front_long K (rest c.before.before.before.before.before.before.before.before.before.before.before.before.before))
 
 pub returns : goal.returns
 returns c =
     let a = c.args in
-    c.walk_value.ensures ∙ front_walk c.fill_ramp_costs.ensures (rest c.before.before.before.before.before.before.before.before.before.before.before.before.before.before) a.g (marks_of a.fixed.now)
-    ∙ ramp_walk_is (length a.q.now) (λ t. a.q.now at t) (λ t. a.s.now at t) (steps a.up.now) (steps a.down.now) a.g (marks_of a.fixed.now)
+    c.walk_value.ensures ∙ front_walk c.fill_ramp_costs.ensures (rest c.before.before.before.before.before.before.before.before.before.before.before.before.before.before) a.unit.generator (marks_of a.fixed.now)
+    ∙ ramp_walk_is (length a.q.now) (λ t. a.q.now at t) (λ t. a.s.now at t) (steps a.up.now) (steps a.down.now) a.unit.generator (marks_of a.fixed.now)

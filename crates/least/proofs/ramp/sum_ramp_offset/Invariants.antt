@@ -11,4 +11,4 @@ abbrev pub added-in : Generator → List ℕ → List ℕ → List ℕ → List 
 added-in g q s up down = added (pred (length q)) g (λ t. q at t) (λ t. s at t) (steps up) (steps down)
 
 abbrev pub invariant-loop-t : goal.invariant-loop-t
-invariant-loop-t l = l.sum ≡ sum_of l.t (added-in l.g l.q l.s l.up l.down)
+invariant-loop-t l = l.sum ≡ sum_of l.t (added-in l.unit.generator l.q l.s l.up l.down)

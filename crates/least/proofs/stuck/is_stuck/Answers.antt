@@ -15,9 +15,9 @@ slice_bounds-free-end c = sym (front_length 0 _ 48 (search rules))
 pub walk_value-requires : goal.walk_value-requires
 walk_value-requires c =
     let n = length c.args.fixed.now in
-    record { good_unit = c.requires.good_unit; good_costs = (free_good n c.requires.between, sym (front_length 0 n 48 c.requires.between.1)) }
+    (free_good n c.requires, sym (front_length 0 n 48 c.requires.1))
 
 pub returns : goal.returns
 returns c =
     let a = c.args in
-    ap (λ (v : ℕ). eqb v 0) c.walk_value.ensures ∙ free_walk (length a.fixed.now) c.requires.between a.g (marks_of a.fixed.now)
+    ap (λ (v : ℕ). eqb v 0) c.walk_value.ensures ∙ free_walk (length a.fixed.now) c.requires a.unit.generator (marks_of a.fixed.now)

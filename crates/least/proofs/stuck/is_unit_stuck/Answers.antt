@@ -4,12 +4,11 @@ use Prim.Native.Nat.{ℕ, ◌+◌, ◌*◌, ◌-◌, ◌≤◌}
 use native.Mathlib.Omega.{arith}
 use lib.ListN.{length, take, drop}
 use Rattle.model.specs.declared.generator.Generator.{Generator}
-use Rattle.model.specs.Ranges.{GoodUnit}
 use Rattle.model.specs.Held.{blank_generator}
 use Rattle.model.specs.Leaf.{is_stuck, stuck_at}
 use Rattle.layout.specs.Numbers.{instance_in}
 use Rattle.walk.specs.Marks.{marks_of, marks_in}
-use Rattle.least.proofs.UnitParts.{all_get_d, part_within, part_long}
+use Rattle.least.proofs.UnitParts.{part_within, part_long}
 use Rattle.least.proofs.StuckUnits.{part_stuck}
 use Rattle.least.proofs.stuck.is_unit_stuck.Goals as goal
 use Rattle.least.proofs.stuck.is_unit_stuck.Tie as tie
@@ -43,7 +42,7 @@ slice_bounds-is_stuck-end c = within c.before.before
 
 pub is_stuck-requires : goal.is_stuck-requires
 is_stuck-requires c =
-    let W = c.args.plan.laid.well_formed in record { good_unit = rw c.generator.ensures (all_get_d GoodUnit c.args.u (instance_in c.args.plan.numbers.now).units blank_generator c.requires.u_in_bounds W.units_good); between = rw (long c.before.before.before, c.periods-n.ensures) W.periods_in }
+    rw (long c.before.before.before, c.periods-n.ensures) c.args.plan.laid.well_formed.periods_in
 
 pub returns : goal.returns
 returns c =
@@ -51,6 +50,6 @@ returns c =
     let n = c.periods-n.result in
     let part = take (a.u * n + n - a.u * n) (drop (a.u * n) a.above.now) in
     let units = (instance_in a.plan.numbers.now).units in
-    c.is_stuck.ensures ∙ ap (λ (g : Generator). is_stuck (length part) g (marks_of part)) c.generator.ensures
+    c.is_stuck.ensures ∙ ap (λ (g : Generator). is_stuck (length part) g (marks_of part)) c.unit.ensures
     ∙ part_stuck n a.u units blank_generator a.above.now c.requires.u_in_bounds (length part) (a.u * n + n - a.u * n) (long c.before.before.before.before) (omega arith)
     ∙ ap (λ (k : ℕ). stuck_at k units (marks_in (length units) k a.above.now) a.u) c.periods-n.ensures

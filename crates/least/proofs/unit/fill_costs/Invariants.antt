@@ -6,6 +6,6 @@ use Rattle.least.proofs.unit.fill_costs.Given as goal
 
 abbrev pub invariant-loop-t : goal.invariant-loop-t
 invariant-loop-t l = record {
-  on_at : (k : ℕ) → k < l.t → l.on at k ≡ worth l.g (l.q at k) (l.s at k) true;
-  off_at : (k : ℕ) → k < l.t → l.off at k ≡ worth l.g (l.q at k) (l.s at k) false;
+  on_at : (k : ℕ) → k < l.t → l.on at k ≡ worth l.unit.generator (l.q at k) (l.s at k) true;
+  off_at : (k : ℕ) → k < l.t → l.off at k ≡ worth l.unit.generator (l.q at k) (l.s at k) false;
 }

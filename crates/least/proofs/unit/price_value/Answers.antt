@@ -15,7 +15,7 @@ use Rattle.least.proofs.unit.price_value.Lts as lts
 
 -- the periods fit the arrays
 periods-fit : (c : lts.Start tie.the-claims reads.Pre reads.Post tie.handed_clauses) → length c.args.q.now ≤ 48
-periods-fit c = c.requires.good_prices.0.periods_in.1
+periods-fit c = c.requires.0.periods_in.1
 
 -- the arrays past them
 abbrev rest : lts.Start tie.the-claims reads.Pre reads.Post tie.handed_clauses → List ℕ
@@ -32,7 +32,7 @@ slice_bounds-fill_costs-end-2 c =
 pub fill_costs-requires : goal.fill_costs-requires
 fill_costs-requires c =
     let long = front_length 0 (length c.args.q.now) 48 (periods-fit c.before.before.before.before.before.before) in
-    record { good_unit = c.requires.good_unit; good_prices = c.requires.good_prices.0; on_len = (long, long) }
+    record { good_prices = c.requires.0; on_len = (long, long) }
 
 pub slice_bounds-on-end-2 : goal.slice_bounds-on-end-2
 slice_bounds-on-end-2 c =
@@ -54,11 +54,11 @@ pub walk_value-requires : goal.walk_value-requires
 walk_value-requires c =
     let K = priced_costed c.fill_costs.ensures in
     let a = c.args in
-    let P = c.requires.good_prices.0 in
-    record { good_unit = c.requires.good_unit; good_costs = (front_good K (rest c.before.before.before.before.before.before.before.before.before.before.before) P.periods_in (period_worth_fits (length a.q.now) a.q.now a.s.now P a.g c.requires.good_unit), c.requires.good_prices.1 ∙ on_front_long K (rest c.before.before.before.before.before.before.before.before.before.before.before)) }
+    let P = c.requires.0 in
+    (front_good K (rest c.before.before.before.before.before.before.before.before.before.before.before) P.periods_in (period_worth_fits (length a.q.now) a.q.now a.s.now P a.unit.generator c.args.unit.good), c.requires.1 ∙ on_front_long K (rest c.before.before.before.before.before.before.before.before.before.before.before))
 
 pub returns : goal.returns
 returns c =
     let a = c.args in
-    c.walk_value.ensures ∙ front_walk (priced_costed c.fill_costs.ensures) (rest c.before.before.before.before.before.before.before.before.before.before.before.before) a.g (marks_of a.fixed.now)
-    ∙ price_walk_is (length a.q.now) (λ t. a.q.now at t) (λ t. a.s.now at t) a.g (marks_of a.fixed.now)
+    c.walk_value.ensures ∙ front_walk (priced_costed c.fill_costs.ensures) (rest c.before.before.before.before.before.before.before.before.before.before.before.before) a.unit.generator (marks_of a.fixed.now)
+    ∙ price_walk_is (length a.q.now) (λ t. a.q.now at t) (λ t. a.s.now at t) a.unit.generator (marks_of a.fixed.now)

@@ -19,8 +19,8 @@ overflow_add-sum-in-loop-q c =
     let turn = zip_turn a.q.now a.s.now c.loop-q.yielded c.into_iter-q-iterator.result c.loop-q.q-iterator c.next.new.self c.next.result (cc) (cc) c.loop-q.yielded_by (c.in-Some.q, c.in-Some.s) (search rules) c.next.ensures.steps in
     omega (
       arith,
-      more a.q.now a.s.now a.g.pU c.loop-q.sum c.in-Some.q.now c.in-Some.s.now t c.loop-q.invariant (turn.2 0) (turn.3 0),
-      part_offset_fits (length a.q.now) a.q.now a.s.now c.requires.good_prices a.g c.requires.good_unit (suc t) turn.0,
+      more a.q.now a.s.now a.unit.generator.pU c.loop-q.sum c.in-Some.q.now c.in-Some.s.now t c.loop-q.invariant (turn.2 0) (turn.3 0),
+      part_offset_fits (length a.q.now) a.q.now a.s.now c.requires a.unit.generator c.args.unit.good (suc t) turn.0,
     )
 
 pub loop-q-preserved : goal.loop-q-preserved
@@ -29,13 +29,13 @@ loop-q-preserved c =
     let t = length c.loop-q.yielded in
     let turn = zip_turn a.q.now a.s.now c.loop-q.yielded c.into_iter-q-iterator.result c.loop-q.q-iterator c.next.new.self c.next.result (cc) (cc) c.loop-q.yielded_by (c.in-Some.q, c.in-Some.s) (search rules) c.next.ensures.steps in
     let long : suc t ≡ length (c.loop-q.yielded ++ ((c.in-Some.q, c.in-Some.s) ∷ [])) = simp length-append (omega arith) in
-    more a.q.now a.s.now a.g.pU c.loop-q.sum c.in-Some.q.now c.in-Some.s.now t c.loop-q.invariant (turn.2 0) (turn.3 0)
-    ∙ ap (λ (k : ℕ). sum_of k (λ i. (a.q.now at i + a.s.now at i) * a.g.pU)) long
+    more a.q.now a.s.now a.unit.generator.pU c.loop-q.sum c.in-Some.q.now c.in-Some.s.now t c.loop-q.invariant (turn.2 0) (turn.3 0)
+    ∙ ap (λ (k : ℕ). sum_of k (λ i. (a.q.now at i + a.s.now at i) * a.unit.generator.pU)) long
 
 pub returns : goal.returns
 unfolding offset
 returns c =
     let a = c.args in
     let end = zip_end a.q.now a.s.now c.loop-q.yielded c.into_iter-q-iterator.result c.loop-q.q-iterator c.next.new.self c.next.result (cc) (cc) c.loop-q.yielded_by c.in-None.is c.next.ensures.steps in
-    let long : length c.loop-q.yielded ≡ length a.q.now = omega (arith, end, c.requires.good_prices.s_long) in
-    c.loop-q.invariant ∙ ap (λ (k : ℕ). sum_of k (λ i. (a.q.now at i + a.s.now at i) * a.g.pU)) long
+    let long : length c.loop-q.yielded ≡ length a.q.now = omega (arith, end, c.requires.s_long) in
+    c.loop-q.invariant ∙ ap (λ (k : ℕ). sum_of k (λ i. (a.q.now at i + a.s.now at i) * a.unit.generator.pU)) long

@@ -4,4 +4,4 @@ use Rattle.model.specs.Instance.{◌at◌, sum as sum_of}
 use Rattle.least.proofs.unit.sum_offset.Given as goal
 
 abbrev pub invariant-loop-q : goal.invariant-loop-q
-invariant-loop-q l = l.sum ≡ sum_of (length l.yielded) (λ i. (l.fn.q at i + l.fn.s at i) * l.g.pU)
+invariant-loop-q l = l.sum ≡ sum_of (length l.yielded) (λ i. (l.fn.q at i + l.fn.s at i) * l.unit.generator.pU)

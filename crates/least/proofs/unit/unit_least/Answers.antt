@@ -16,19 +16,19 @@ use Rattle.least.proofs.unit.unit_least.Reads as reads
 use Rattle.least.proofs.unit.unit_least.Lts as lts
 
 -- both sums are within a signed number
-sums : (c : lts.After-sum_offset tie.the-claims reads.Pre reads.Post tie.handed_clauses) → (c.price_value-value.result - 1 < 2 ^ 63) × (c.sum_offset-added.result < 2 ^ 63)
+sums : (c : lts.After-sum_offset tie.the-claims reads.Pre reads.Post) → (c.price_value-value.result - 1 < 2 ^ 63) × (c.sum_offset-added.result < 2 ^ 63)
 sums c =
     let a = c.args in
     let value = c.price_value-value in (
-      omega (arith, value.ensures, price_value_fits (length a.q.now) a.q.now a.s.now c.requires.good_prices.0 a.g c.requires.good_unit (marks_of a.fixed.now)),
-      omega (arith, c.sum_offset-added.ensures, sum_offset_fits (length a.q.now) a.q.now a.s.now c.requires.good_prices.0 a.g c.requires.good_unit),
+      omega (arith, value.ensures, price_value_fits (length a.q.now) a.q.now a.s.now c.requires.0 a.unit.generator c.args.unit.good (marks_of a.fixed.now)),
+      omega (arith, c.sum_offset-added.ensures, sum_offset_fits (length a.q.now) a.q.now a.s.now c.requires.0 a.unit.generator c.args.unit.good),
     )
 
 pub returns-then-value-eq0 : goal.returns-then-value-eq0
 returns-then-value-eq0 c =
     let a = c.args in
     let value = c.price_value-value in
-    answer_stuck (length a.q.now) (λ t. a.q.now at t) (λ t. a.s.now at t) a.g (marks_of a.fixed.now) (sym value.ensures ∙ c.if-value-eq0.true)
+    answer_stuck (length a.q.now) (λ t. a.q.now at t) (λ t. a.s.now at t) a.unit.generator (marks_of a.fixed.now) (sym value.ensures ∙ c.if-value-eq0.true)
 
 pub overflow_cast-result : goal.overflow_cast-result
 overflow_cast-result c = pos_fits _ (sums c.before).0
@@ -44,4 +44,4 @@ returns c =
     let a = c.args in
     let value = c.price_value-value in
     ap Some (read_sub (value.result - 1) c.sum_offset-added.result (sums c.before).0 (sums c.before).1 ∙ ap (λ (x : ℕ). pos (value.result - 1) -ℤ pos x) c.sum_offset-added.ensures)
-    ∙ answer_value (length a.q.now) (λ t. a.q.now at t) (λ t. a.s.now at t) a.g (marks_of a.fixed.now) c.requires.good_unit value.result value.ensures c.if-value-eq0.false
+    ∙ answer_value (length a.q.now) (λ t. a.q.now at t) (λ t. a.s.now at t) a.unit.generator (marks_of a.fixed.now) c.args.unit.good value.result value.ensures c.if-value-eq0.false

@@ -45,7 +45,7 @@ answer c =
     let begin = c.loop-u.u * n in
     let long = begin + n - begin in
     c.unit_least.ensures
-    ∙ ap (λ (g : Generator). least_of (length a.q.now) (λ t. a.q.now at t) (λ t. a.s.now at t) g (marks_of (take long (drop begin a.above.now)))) c.generator.ensures
+    ∙ ap (λ (g : Generator). least_of (length a.q.now) (λ t. a.q.now at t) (λ t. a.s.now at t) g (marks_of (take long (drop begin a.above.now)))) c.unit.ensures
     ∙ part_answer (length P.units) P.periods c.loop-u.u a.above.now (next c.before.before.before) (λ t. a.q.now at t) (λ t. a.s.now at t) (get_or P.units c.loop-u.u blank_generator)
     (next-good c.before.before.before) (length a.q.now) begin long c.requires.good_prices.q_long (ap (λ (k : ℕ). c.loop-u.u * k) c.periods-n.ensures) (omega (arith, c.periods-n.ensures))
 
@@ -56,10 +56,8 @@ pub unit_least-requires : goal.unit_least-requires
 unit_least-requires c =
     let long = c.requires.good_prices.q_long in
     let n = c.periods-n.result in
-    let begin = c.loop-u.u * n in record {
-      good_unit = rw c.generator.ensures (next-good c.before.before.before);
-      good_prices = (rw long c.requires.good_prices, part_long n begin c.args.above.now (within c.before.before.before) ∙ c.periods-n.ensures ∙ sym long);
-    }
+    let begin = c.loop-u.u * n in
+    (rw long c.requires.good_prices, part_long n begin c.args.above.now (within c.before.before.before) ∙ c.periods-n.ensures ∙ sym long)
 
 pub returns-in_err-v : goal.returns-in_err-v
 returns-in_err-v c =

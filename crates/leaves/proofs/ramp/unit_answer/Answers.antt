@@ -41,7 +41,7 @@ pub ramp_least-requires : goal.ramp_least-requires
 ramp_least-requires c =
     let a = c.args in
     let n = c.periods-n.result in
-    let long : length a.q.now ≡ (instance_in a.plan.numbers.now).periods = c.requires.good_prices.q_long in record { good_unit = rw c.generator.ensures (good c.before.before.before); good_prices = (rw long c.requires.good_prices, part_long n (a.u * n) a.above.now (within c.before.before.before) ∙ c.periods-n.ensures ∙ sym long); good_steps = rw long c.requires.good_steps }
+    let long : length a.q.now ≡ (instance_in a.plan.numbers.now).periods = c.requires.good_prices.q_long in record { good_prices = (rw long c.requires.good_prices, part_long n (a.u * n) a.above.now (within c.before.before.before) ∙ c.periods-n.ensures ∙ sym long); good_steps = rw long c.requires.good_steps }
 
 pub returns : goal.returns
 returns c =
@@ -53,6 +53,6 @@ returns c =
     let long = place + n - place in
     c.ramp_least.ensures
     ∙ ap (λ (g : Generator). ramp_least_of (length a.q.now) (λ t. a.q.now at t) (λ t. a.s.now at t) (steps a.up.now) (steps a.down.now) g (marks_of (take long (drop place a.above.now))))
-    c.generator.ensures
+    c.unit.ensures
     ∙ ramp_part_answer (length P.units) P.periods a.u a.above.now c.requires.u_in_bounds (λ t. a.q.now at t) (λ t. a.s.now at t) (get_or P.units a.u blank_generator) (good c.before.before.before.before)
     (steps a.up.now) (steps a.down.now) (length a.q.now) place long c.requires.good_prices.q_long (ap (λ (k : ℕ). a.u * k) e) (omega (arith, e))

@@ -11,4 +11,4 @@ use Rattle.runs.proofs.table.store_back.Given as goal
 abbrev pub invariant-loop-t : goal.invariant-loop-t
 invariant-loop-t l = let m = marks_of l.fixed in
     let w = costs_of l.on l.off in
-    (l.t ≤ length l.on) × (Tables l.g (values (length l.on) l.g m w l.t) l.ons l.offs × Begun (length l.on) l.g m w l.t l.table)
+    (l.t ≤ length l.on) × (Tables l.unit.generator (values (length l.on) l.unit.generator m w l.t) l.ons l.offs × Begun (length l.on) l.unit.generator m w l.t l.table)

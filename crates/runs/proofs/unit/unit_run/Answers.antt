@@ -20,14 +20,14 @@ use Rattle.runs.proofs.unit.unit_run.Lts as lts
 sums : (c : lts.After-sum_offset tie.the-claims reads.Pre reads.Post tie.handed_clauses) → (c.write_priced-value.result - 1 < 2 ^ 63) × (c.sum_offset-added.result < 2 ^ 63)
 sums c =
     let a = c.args in (
-      omega (arith, c.write_priced-value.ensures.value, price_value_fits (length a.q.now) a.q.now a.s.now c.requires.good_prices.0 a.g c.requires.good_unit (marks_of a.fixed.now)),
-      omega (arith, c.sum_offset-added.ensures, sum_offset_fits (length a.q.now) a.q.now a.s.now c.requires.good_prices.0 a.g c.requires.good_unit),
+      omega (arith, c.write_priced-value.ensures.value, price_value_fits (length a.q.now) a.q.now a.s.now c.requires.good_prices.0 a.unit.generator c.args.unit.good (marks_of a.fixed.now)),
+      omega (arith, c.sum_offset-added.ensures, sum_offset_fits (length a.q.now) a.q.now a.s.now c.requires.good_prices.0 a.unit.generator c.args.unit.good),
     )
 
 pub returns-then-value-eq0 : goal.returns-then-value-eq0
 returns-then-value-eq0 c =
     let a = c.args in
-    let n = length a.q.now in record { least = answer_stuck n (λ t. a.q.now at t) (λ t. a.s.now at t) a.g (marks_of a.fixed.now) (sym c.write_priced-value.ensures.value ∙ c.if-value-eq0.true); row = c.write_priced-value.ensures.row ∙ found_row n (λ t. a.q.now at t) (λ t. a.s.now at t) a.g (marks_of a.fixed.now) c.requires.good_unit a.row.now }
+    let n = length a.q.now in record { least = answer_stuck n (λ t. a.q.now at t) (λ t. a.s.now at t) a.unit.generator (marks_of a.fixed.now) (sym c.write_priced-value.ensures.value ∙ c.if-value-eq0.true); row = c.write_priced-value.ensures.row ∙ found_row n (λ t. a.q.now at t) (λ t. a.s.now at t) a.unit.generator (marks_of a.fixed.now) c.args.unit.good a.row.now }
 
 pub overflow_cast-result : goal.overflow_cast-result
 overflow_cast-result c = pos_fits _ (sums c.before).0
@@ -44,6 +44,6 @@ returns c =
     let n = length a.q.now in
     let value = c.write_priced-value.result in record {
       least = ap Some (read_sub (value - 1) c.sum_offset-added.result (sums c.before).0 (sums c.before).1 ∙ ap (λ (x : ℕ). pos (value - 1) -ℤ pos x) c.sum_offset-added.ensures)
-          ∙ answer_value n (λ t. a.q.now at t) (λ t. a.s.now at t) a.g (marks_of a.fixed.now) c.requires.good_unit value c.write_priced-value.ensures.value c.if-value-eq0.false;
-      row = c.write_priced-value.ensures.row ∙ found_row n (λ t. a.q.now at t) (λ t. a.s.now at t) a.g (marks_of a.fixed.now) c.requires.good_unit a.row.now;
+          ∙ answer_value n (λ t. a.q.now at t) (λ t. a.s.now at t) a.unit.generator (marks_of a.fixed.now) c.args.unit.good value c.write_priced-value.ensures.value c.if-value-eq0.false;
+      row = c.write_priced-value.ensures.row ∙ found_row n (λ t. a.q.now at t) (λ t. a.s.now at t) a.unit.generator (marks_of a.fixed.now) c.args.unit.good a.row.now;
     }

@@ -11,10 +11,10 @@ write_walk-requires-clause-good_costs c =
     let a = c.args in
     let P = c.requires.good_prices.0 in
     let past = drop (length a.q.now) (replicate 48 0) in
-    let good = fronts_good (priced_costed c.fill_costs.ensures) past P.periods_in (period_worth_fits (length a.q.now) a.q.now a.s.now P a.g c.requires.good_unit) in
+    let good = fronts_good (priced_costed c.fill_costs.ensures) past P.periods_in (period_worth_fits (length a.q.now) a.q.now a.s.now P a.unit.generator c.args.unit.good) in
     (good, c.requires.good_prices.1)
 
 pub returns : goal.returns
 returns c =
     let a = c.args in
-    let past = drop (length a.q.now) (replicate 48 0) in record { value = c.write_walk.ensures.value ∙ priced_value a.g (marks_of a.fixed.now) a.q.now a.s.now _ _ past c.fill_costs.ensures; row = c.write_walk.ensures.row ∙ priced_found a.g (marks_of a.fixed.now) a.q.now a.s.now _ _ past c.fill_costs.ensures a.row.now }
+    let past = drop (length a.q.now) (replicate 48 0) in record { value = c.write_walk.ensures.value ∙ priced_value a.unit.generator (marks_of a.fixed.now) a.q.now a.s.now _ _ past c.fill_costs.ensures; row = c.write_walk.ensures.row ∙ priced_found a.unit.generator (marks_of a.fixed.now) a.q.now a.s.now _ _ past c.fill_costs.ensures a.row.now }

@@ -15,18 +15,18 @@ use Rattle.runs.proofs.unit.write_walk.Lts as lts
 -- the table is that of the walk
 kept : (c : lts.After-keep_walk tie.the-claims reads.Pre reads.Post tie.handed_clauses) →
     let a = c.args in
-    Kept (length a.q.now) a.g (marks_of a.fixed.now) (costs_of a.on.now a.off.now) c.keep_walk.new.table
+    Kept (length a.q.now) a.unit.generator (marks_of a.fixed.now) (costs_of a.on.now a.off.now) c.keep_walk.new.table
 kept c =
     let a = c.args in
-    subst (λ (n : ℕ). Kept n a.g (marks_of a.fixed.now) (costs_of a.on.now a.off.now) c.keep_walk.new.table) c.requires.good_costs.0.on_long c.keep_walk.ensures
+    subst (λ (n : ℕ). Kept n a.unit.generator (marks_of a.fixed.now) (costs_of a.on.now a.off.now) c.keep_walk.new.table) c.requires.good_costs.0.on_long c.keep_walk.ensures
 
 -- what is read there is the walk's value
 found : (c : lts.After-kept_at tie.the-claims reads.Pre reads.Post tie.handed_clauses) →
     let a = c.args in
-    c.kept_at-found.result ≡ walk (length a.q.now) a.g (marks_of a.fixed.now) (costs_of a.on.now a.off.now) a.g.on a.g.since
+    c.kept_at-found.result ≡ walk (length a.q.now) a.unit.generator (marks_of a.fixed.now) (costs_of a.on.now a.off.now) a.unit.generator.on a.unit.generator.since
 found c =
     let a = c.args in
-    c.kept_at-found.ensures ∙ kept_first (length a.q.now) a.g c.requires.good_unit (marks_of a.fixed.now) (costs_of a.on.now a.off.now) c.keep_walk.new.table (kept c.before.before.before)
+    c.kept_at-found.ensures ∙ kept_first (length a.q.now) a.unit.generator c.args.unit.good (marks_of a.fixed.now) (costs_of a.on.now a.off.now) c.keep_walk.new.table (kept c.before.before.before)
 
 pub keep_walk-requires-clause-table_len : goal.keep_walk-requires-clause-table_len
 keep_walk-requires-clause-table_len c = (refl, zeros_at 7105)

@@ -45,7 +45,7 @@ loop-u-preserved c =
     let w = run_written P c.args.plan.laid.well_formed.units_good (λ t. a.q.now at t) (λ t. a.s.now at t) a.fixed.now c.requires.fixed_value
     blank_generator u more (u * n) (length a.q.now) n c.requires.good_prices.q_long e (ap (λ (k : ℕ). u * k) e)
     c.loop-u.rows old _ (omega (arith, within u (length P.units) P.periods n more e, c.loop-u.auto.rows, c.requires.rows_len)) c.loop-u.invariant
-    (c.unit_run.ensures.row ∙ ap (λ (g : Generator). run_left (λ t. a.q.now at t) (λ t. a.s.now at t) g old (length a.q.now) part) c.generator-g.ensures) in
+    (c.unit_run.ensures.row ∙ ap (λ (g : Generator). run_left (λ t. a.q.now at t) (λ t. a.s.now at t) g old (length a.q.now) part) c.unit-unit.ensures) in
     let next : (u + 1) * n ≡ u * n + n = omega arith in
     rw next w.1
 

@@ -9,15 +9,15 @@ use Rattle.walk.proofs.table.marked_back.Goals as goal
 
 pub kept_value-leaving-requires : goal.kept_value-leaving-requires
 kept_value-leaving-requires g c =
-    omega (arith, c.requires.good_unit.in_range.Dc_in, c.requires.good_cost, c.requires.by_index.1 0)
+    omega (arith, c.args.unit.good.in_range.Dc_in, c.requires.good_cost, c.requires.by_index.1 0)
 
 pub kept_value-starting-requires : goal.kept_value-starting-requires
 kept_value-starting-requires g c =
-    omega (arith, c.requires.good_unit.in_range.Hsc_in, c.requires.good_cost, c.requires.by_index.0 0)
+    omega (arith, c.args.unit.good.in_range.Hsc_in, c.requires.good_cost, c.requires.by_index.0 0)
 
 pub kept_value-starting_cold-requires : goal.kept_value-starting_cold-requires
 kept_value-starting_cold-requires g c =
-    omega (arith, c.requires.good_unit.in_range.Csc_in, c.requires.good_cost, c.requires.by_index.0 0)
+    omega (arith, c.args.unit.good.in_range.Csc_in, c.requires.good_cost, c.requires.by_index.0 0)
 
 -- a value that is allowed and there
 there : (mark b k v : ℕ) → mark ≡ 0 → 0 < b → 0 < v → 0 < kept (not (eqb mark b)) k v
@@ -51,6 +51,6 @@ returns g c =
     let leave = c.kept_value-leaving in
     let x = c.args.mark in
     record {
-      of_on = rw (allows_on x, allows_off x, ← leave.ensures) (c.on_back.ensures c.args.g.TU c.requires.between.0.1);
+      of_on = rw (allows_on x, allows_off x, ← leave.ensures) (c.on_back.ensures c.args.unit.generator.TU c.requires.between.0.1);
       of_off = rw (allows_on x, allows_off x, ← hot.ensures, ← cold.ensures) c.chain_back.ensures;
     }

@@ -8,4 +8,4 @@ pub marked_back-requires : goal.marked_back-requires
 marked_back-requires c =
     let a = c.args in
     let o = open_is a.mark (a.ons.now at 0) (a.offs.now at 0) (sym c.is_open.ensures ∙ c.if-is_open.true) in
-    record { good_unit = c.requires.good_unit; good_cost = c.requires.good_cost; between = c.requires.between; by_index = c.requires.by_index; valued = λ e. (o.0, (c.requires.rising.0 o.1.0, c.requires.rising.1 o.1.1)) }
+    record { good_cost = c.requires.good_cost; between = c.requires.between; by_index = c.requires.by_index; valued = λ e. (o.0, (c.requires.rising.0 o.1.0, c.requires.rising.1 o.1.1)) }
