@@ -1,7 +1,6 @@
 // Where a rule of one unit in one period, 21, 24 or 25, is broken first.
 ghost use Rattle.std.specs.Prelude.{◌≡◌, ◌<◌, ◌≤◌, length};
 ghost use Rattle.model.specs.Held.{view};
-ghost use Rattle.model.specs.Ranges.{GoodUnit};
 ghost use Rattle.judge.specs.Counts.{all_breaches};
 ghost use Rattle.judge.specs.Judgement.{place_found};
 ghost use Rattle.judge.specs.Rows.{schedule_of, Fitting};
@@ -10,7 +9,7 @@ ghost use Rattle.judge.specs.Rule.{broken_by, place_of};
 use crate::place::Place;
 use crate::{limits, ramps, updown};
 use model::arrays::Problem;
-use model::generator::Generator;
+use model::unit::Unit;
 
 // The rules of one unit in one period: 21, 24 and 25.
 #[derive(Clone, Copy)]
@@ -22,14 +21,14 @@ pub enum Rule {
 
 // Whether the row breaks the rule in period t.
 // By a match and not by a closure: contracts name the rule.
-fn breaks(rule: Rule, g: Generator, row: &[u16], t: usize) -> bool
-    requires { GoodUnit g × (t < length row.now) × (length row.now ≤ 48) }
-    ensures { result ≡ broken_by rule t g row.now }
+fn breaks(rule: Rule, unit: Unit, row: &[u16], t: usize) -> bool
+    requires { (t < length row.now) × (length row.now ≤ 48) }
+    ensures { result ≡ broken_by rule t unit.generator row.now }
 {
     match rule {
-        Rule::Limits => limits::is_off_limits(g, row, t),
-        Rule::UpDown => !updown::is_permitted(g, row, t),
-        Rule::Ramps => ramps::is_off_ramp(g, row, t),
+        Rule::Limits => limits::is_off_limits(unit.generator, row, t),
+        Rule::UpDown => !updown::is_permitted(unit.generator, row, t),
+        Rule::Ramps => ramps::is_off_ramp(unit, row, t),
     }
 }
 
@@ -44,7 +43,10 @@ fn find_breach(problem: Problem, rows: &[u16], rule: Rule) -> Option<Place>
         for u in 0..problem.units {
             let from = u * periods;
             let row = &rows[from..from + periods];
-            if breaks(rule, problem.generators[u], row, t) {
+            let unit = Unit {
+                generator: problem.generators[u],
+            };
+            if breaks(rule, unit, row, t) {
                 first = Some(Place {
                     unit: u + 1,
                     period: t + 1,

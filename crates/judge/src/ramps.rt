@@ -1,12 +1,13 @@
 // 25: ramps, by (11) and (12). A good unit was on before period 1 exactly when its output at midnight is above 0.
 ghost use Rattle.std.specs.Prelude.{◌≡◌, not, ◌&&◌, ◌+◌, ◌<◌, ◌≤◌, leb, length};
-ghost use Rattle.model.specs.Ranges.{GoodUnit, All, GoodOutput};
+ghost use Rattle.model.specs.Ranges.{All, GoodOutput};
 ghost use Rattle.model.specs.Rules.{on};
 ghost use Rattle.model.specs.Breach.{off_ramp};
 ghost use Rattle.judge.specs.Counts.{bit, breaches};
 ghost use Rattle.judge.specs.Before.{output_before};
 
 use model::generator::Generator;
+use model::unit::Unit;
 
 // The output in the period before t; before period 1 it is that at midnight.
 fn look_back(g: Generator, row: &[u16], t: usize) -> u64
@@ -17,10 +18,11 @@ fn look_back(g: Generator, row: &[u16], t: usize) -> u64
 }
 
 // Whether the output, on in the period before t and in t, rises by more than UR or falls by more than DR.
-pub fn is_off_ramp(g: Generator, row: &[u16], t: usize) -> bool
-    requires { GoodUnit g × (t < length row.now) }
-    ensures { result ≡ off_ramp t g row.now }
+pub fn is_off_ramp(unit: Unit, row: &[u16], t: usize) -> bool
+    requires { t < length row.now }
+    ensures { result ≡ off_ramp t unit.generator row.now }
 {
+    let g = unit.generator;
     let before = look_back(g, row, t);
     let after = u64::from(row[t]);
     before != 0 && after != 0 && (before + g.UR < after || after + g.DR < before)
@@ -35,10 +37,11 @@ fn count_steep(up: u16, down: u16, previous: u16, output: u16) -> u16
 }
 
 // In how many periods the row's output leaves its ramp.
-pub fn count_off_ramp(g: Generator, row: &[u16]) -> u16
-    requires { GoodUnit g × (length row.now ≤ 48) × (1 ≤ length row.now) × All GoodOutput row.now }
-    ensures { result ≡ breaches off_ramp g row.now (length row.now) }
+pub fn count_off_ramp(unit: Unit, row: &[u16]) -> u16
+    requires { (length row.now ≤ 48) × (1 ≤ length row.now) × All GoodOutput row.now }
+    ensures { result ≡ breaches off_ramp unit.generator row.now (length row.now) }
 {
+    let g = unit.generator;
     let up = g.UR as u16;
     let down = g.DR as u16;
     let midnight = g.p0 as u16;

@@ -1,13 +1,13 @@
 // One pass over the units: in how many places each of 21, 24 and 25 is broken, and what the schedule costs.
 ghost use Rattle.std.specs.Prelude.{◌≡◌, ◌≤◌, length};
-ghost use Rattle.model.specs.Ranges.{GoodUnit, All, GoodOutput};
+ghost use Rattle.model.specs.Ranges.{All, GoodOutput};
 ghost use Rattle.judge.specs.Rows.{Fitting};
 ghost use Rattle.judge.specs.Walk.{Room, one_further, walk_to};
 ghost use Rattle.judge.specs.Tallied.{row_tallies, tallies};
 
 use crate::{cost, limits, ramps, updown};
 use model::arrays::Problem;
-use model::generator::Generator;
+use model::unit::Unit;
 
 // Where a walk along a row's statuses stands: the status last passed and the periods just spent in it, how many statuses were
 // not permitted, and what the starts and stops cost.
@@ -29,10 +29,11 @@ pub struct Tallies {
 }
 
 // The walk one status further.
-fn pass(g: Generator, walk: Walk, after: bool) -> Walk
-    requires { GoodUnit g × Room walk }
-    ensures { result ≡ one_further g walk after }
+fn pass(unit: Unit, walk: Walk, after: bool) -> Walk
+    requires { Room walk }
+    ensures { result ≡ one_further unit.generator walk after }
 {
+    let g = unit.generator;
     if walk.on == after {
         return Walk {
             spent: walk.spent + 1,
@@ -48,33 +49,33 @@ fn pass(g: Generator, walk: Walk, after: bool) -> Walk
 }
 
 // The walk along a whole row, from Tini on.
-fn walk_row(g: Generator, row: &[u16]) -> Walk
-    requires { GoodUnit g × (length row.now ≤ 48) }
-    ensures { result ≡ walk_to g row.now (length row.now) }
+fn walk_row(unit: Unit, row: &[u16]) -> Walk
+    requires { length row.now ≤ 48 }
+    ensures { result ≡ walk_to unit.generator row.now (length row.now) }
 {
     let mut walk = Walk {
-        on: g.on,
-        spent: g.since,
+        on: unit.generator.on,
+        spent: unit.generator.since,
         barred: 0,
         cost: 0,
     };
     for output in row {
-        walk = pass(g, walk, *output != 0);
+        walk = pass(unit, walk, *output != 0);
     }
     walk
 }
 
 // The tallies of one unit's row.
-fn tally_row(g: Generator, row: &[u16]) -> Tallies
-    requires { GoodUnit g × (length row.now ≤ 48) × (1 ≤ length row.now) × All GoodOutput row.now }
-    ensures { result ≡ row_tallies (length row.now) g row.now }
+fn tally_row(unit: Unit, row: &[u16]) -> Tallies
+    requires { (length row.now ≤ 48) × (1 ≤ length row.now) × All GoodOutput row.now }
+    ensures { result ≡ row_tallies (length row.now) unit.generator row.now }
 {
-    let walk = walk_row(g, row);
+    let walk = walk_row(unit, row);
     Tallies {
-        limits: limits::count_off_limits(g, row),
+        limits: limits::count_off_limits(unit.generator, row),
         updown: walk.barred,
-        ramps: ramps::count_off_ramp(g, row),
-        cost: cost::sum_fuel(g, row) + walk.cost,
+        ramps: ramps::count_off_ramp(unit, row),
+        cost: cost::sum_fuel(unit.generator, row) + walk.cost,
     }
 }
 
@@ -92,7 +93,10 @@ pub fn tally(problem: Problem, rows: &[u16]) -> Tallies
     };
     for u in 0..problem.units {
         let from = u * periods;
-        let row = tally_row(problem.generators[u], &rows[from..from + periods]);
+        let unit = Unit {
+            generator: problem.generators[u],
+        };
+        let row = tally_row(unit, &rows[from..from + periods]);
         all.limits += row.limits;
         all.updown += row.updown;
         all.ramps += row.ramps;

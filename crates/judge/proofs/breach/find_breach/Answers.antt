@@ -22,14 +22,18 @@ pub overflow_mul-from : goal.overflow_mul-from
 overflow_mul-from c =
     omega (arith, part_within c.args.problem c.args.rows.now c.requires c.loop-u.u (omega arith))
 
+pub invariant_of-unit : goal.invariant_of-unit
+invariant_of-unit c =
+    let many : length c.args.problem.generators ≡ 32 = search rules in
+    record { good = unit_good c.args.problem c.args.rows.now c.requires many c.loop-u.u c.loop-u-test.true }
+
 pub breaks-requires : goal.breaks-requires
 breaks-requires c =
     let p = c.args.problem in
     let u = c.loop-u.u in
     let e : u * p.periods + p.periods - u * p.periods ≡ p.periods = omega arith in
     let n = part_long p c.args.rows.now c.requires u c.loop-u-test.true in
-    let many : length p.generators ≡ 32 = search rules in
-    rw e (unit_good p c.args.rows.now c.requires many u c.loop-u-test.true, omega arith, omega (arith, periods_most p c.args.rows.now c.requires))
+    rw e (omega arith, omega (arith, periods_most p c.args.rows.now c.requires))
 
 pub loop-u-preserved : goal.loop-u-preserved
 loop-u-preserved c =

@@ -9,6 +9,11 @@ use Rattle.judge.proofs.Tallied.{tallies_same}
 use Rattle.judge.proofs.UnitTallies.{tallied, tallied_more, more_small}
 use Rattle.judge.proofs.tallies.tally.Goals as goal
 
+pub invariant_of-unit : goal.invariant_of-unit
+invariant_of-unit c =
+    let many : length c.args.problem.generators ≡ 32 = search rules in
+    record { good = unit_good c.args.problem c.args.rows.now c.requires many c.loop-u.u c.loop-u-test.true }
+
 pub tally_row-row-requires : goal.tally_row-row-requires
 tally_row-row-requires c =
     let p = c.args.problem in
@@ -17,9 +22,7 @@ tally_row-row-requires c =
     let more = c.loop-u-test.true in
     let e : u * p.periods + p.periods - u * p.periods ≡ p.periods = omega arith in
     let n = part_long p r c.requires u more in
-    let many : length p.generators ≡ 32 = search rules in
     rw e (
-      unit_good p r c.requires many u more,
       omega (arith, periods_most p r c.requires),
       omega (arith, periods_least p r c.requires),
       part_outputs p r c.requires u,

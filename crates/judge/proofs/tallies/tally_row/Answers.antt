@@ -13,8 +13,8 @@ overflow_add-result c =
       arith,
       c.sum_fuel.ensures,
       ap (λ (w : Walk). w.cost) c.walk_row-walk.ensures,
-      row_cost_is a.g a.row.now,
-      row_most a.g c.requires.0 a.row.now c.requires.3 c.requires.1,
+      row_cost_is a.unit.generator a.row.now,
+      row_most a.unit.generator a.unit.good a.row.now c.requires.2 c.requires.0,
     )
 
 pub returns : goal.returns
@@ -24,4 +24,4 @@ returns c =
     c.count_off_limits.ensures
     (ap (λ (w : Walk). w.barred) c.walk_row-walk.ensures)
     c.count_off_ramp.ensures
-    (omega (arith, c.sum_fuel.ensures, ap (λ (w : Walk). w.cost) c.walk_row-walk.ensures, row_cost_is a.g a.row.now))
+    (omega (arith, c.sum_fuel.ensures, ap (λ (w : Walk). w.cost) c.walk_row-walk.ensures, row_cost_is a.unit.generator a.row.now))

@@ -4,4 +4,4 @@ use Rattle.judge.specs.Walk.{walk_to}
 use Rattle.judge.proofs.tallies.walk_row.Given as goal
 
 abbrev pub invariant-loop-output : goal.invariant-loop-output
-invariant-loop-output l = l.walk ≡ walk_to l.g l.row l.output-index
+invariant-loop-output l = l.walk ≡ walk_to l.unit.generator l.row l.output-index
