@@ -82,7 +82,7 @@ pub extern "C" fn docket_lodge(
     if !has_lodge_room(numbers, rows, line, values) {
         return TOO_SMALL;
     }
-    let Some(docket) = state::opened_in(numbers, rows) else {
+    let Ok(docket) = state::opened_in(numbers, rows) else {
         return NO_DOCKET;
     };
     let lodged = docket.lodge(text);
@@ -106,7 +106,7 @@ pub extern "C" fn docket_report(
     if !state::is_long(numbers, rows) {
         return TOO_SMALL;
     }
-    let Some(docket) = state::opened_in(numbers, rows) else {
+    let Ok(docket) = state::opened_in(numbers, rows) else {
         return NO_DOCKET;
     };
     docket.report(buffer, at).answer.unwrap_or(TOO_SMALL)
@@ -129,7 +129,7 @@ pub extern "C" fn docket_outputs(numbers: &[u64], rows: &[u16], outputs: &mut [u
     if !has_outputs_room(numbers, rows, outputs) {
         return TOO_SMALL;
     }
-    let Some(docket) = state::opened_in(numbers, rows) else {
+    let Ok(docket) = state::opened_in(numbers, rows) else {
         return NO_DOCKET;
     };
     state::copy_outputs(docket, outputs)
@@ -186,7 +186,7 @@ pub extern "C" fn docket_units_taken(
     if !has_taken_room(numbers, rows, taken) {
         return TOO_SMALL;
     }
-    let Some(docket) = state::opened_in(numbers, rows) else {
+    let Ok(docket) = state::opened_in(numbers, rows) else {
         return NO_DOCKET;
     };
     tell_taken(docket.units_taken(period, most, fixed), taken)
@@ -231,7 +231,7 @@ pub extern "C" fn docket_cheapest_runs(
     if !state::is_long(numbers, rows) {
         return TOO_SMALL;
     }
-    let Some(docket) = state::opened_in(numbers, rows) else {
+    let Ok(docket) = state::opened_in(numbers, rows) else {
         return NO_DOCKET;
     };
     if value.len() == 1 {
@@ -273,7 +273,7 @@ pub extern "C" fn docket_forced_statuses(
     if !state::is_long(numbers, rows) {
         return TOO_SMALL;
     }
-    let Some(docket) = state::opened_in(numbers, rows) else {
+    let Ok(docket) = state::opened_in(numbers, rows) else {
         return NO_DOCKET;
     };
     forced_number(docket.forced_statuses(q, s, fixed, values, stuck))

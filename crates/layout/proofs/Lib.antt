@@ -3,6 +3,7 @@ pub mod Readings
 pub mod Placing
 pub mod Ranks
 pub mod Fronts
+pub mod Overlays
 pub mod Places
 pub mod Again
 pub mod Stored

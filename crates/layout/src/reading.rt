@@ -5,7 +5,6 @@ ghost use Rattle.layout.specs.Numbers.{generators_in, problem_in};
 use crate::generator_of;
 use model::arrays::Problem;
 use model::generator::Generator;
-use std::array;
 
 // The first 48 numbers.
 fn loads_in(numbers: &[u64]) -> [u64; 48]
@@ -20,7 +19,11 @@ fn generators_in(numbers: &[u64]) -> [Generator; 32]
     requires { 610 ≤ length numbers.now }
     ensures { result ≡ generators_in numbers.now 0 32 }
 {
-    array::from_fn(|u| generator_of(&numbers[98 + u * 16..]))
+    let mut generators = [Generator::blank(); 32];
+    for u in 0..32 {
+        generators[u] = generator_of(&numbers[98 + u * 16..]);
+    }
+    generators
 }
 
 // The problem of its numbers, well-formed or not.

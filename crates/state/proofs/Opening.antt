@@ -1,5 +1,5 @@
 -- Slices that hold a docket hold a sound one.
-use Rattle.std.specs.Prelude.{Option, Some, None}
+use Rattle.std.specs.Prelude.{Result, Ok, Err}
 use native.Mathlib.Omega.{arith}
 use mathlib.Core.Path.{◌≡◌, refl, sym, ap, ◌∙◌}
 use mathlib.Core.Bool.{Bool, true, false, cond}
@@ -48,28 +48,28 @@ module _ (v w : List ℕ) where
       go true = e
       go false = refl
 
-  -- a docket is opened, or none
+  -- a docket is opened, or is none
   module _ (d : Docket) (e : d ≡ docket_in v w) where
-    pub opened_some : v at 0 ≡ layout_mark → sound d ≡ true → Some d ≡ opened v w
+    pub opened_some : v at 0 ≡ layout_mark → sound d ≡ true → Ok d ≡ opened v w
     opened_some m s =
-        ap Some e ∙ sym (ap (λ (t : Bool). cond t (Some (docket_in v w)) None) (holds_is.1 (m, ap sound (sym e) ∙ s)))
+        ap Ok e ∙ sym (ap (λ (t : Bool). cond t (Ok (docket_in v w)) (Err (docket_in v w))) (holds_is.1 (m, ap sound (sym e) ∙ s)))
 
-    pub opened_none : (v at 0 ≡ layout_mark → ⊥) ⊎ (sound d ≡ false) → None ≡ opened v w
-    opened_none (inl n) = sym (ap (λ (t : Bool). cond t (Some (docket_in v w)) None) (not_marked n))
-    opened_none (inr n) = sym (ap (λ (t : Bool). cond t (Some (docket_in v w)) None) (not_sound (ap sound (sym e) ∙ n)))
+    pub opened_none : (v at 0 ≡ layout_mark → ⊥) ⊎ (sound d ≡ false) → Err d ≡ opened v w
+    opened_none (inl n) = ap Err e ∙ sym (ap (λ (t : Bool). cond t (Ok (docket_in v w)) (Err (docket_in v w))) (not_marked n))
+    opened_none (inr n) = ap Err e ∙ sym (ap (λ (t : Bool). cond t (Ok (docket_in v w)) (Err (docket_in v w))) (not_sound (ap sound (sym e) ∙ n)))
 
   -- a docket that was opened
-  pub opened_is : (x : Option Docket) (d : Docket) → x ≡ opened v w → x ≡ Some d → (holds v w ≡ true) × (d ≡ docket_in v w)
+  pub opened_is : (x : Result Docket Docket) (d : Docket) → x ≡ opened v w → x ≡ Ok d → (holds v w ≡ true) × (d ≡ docket_in v w)
   opened_is x d e k = go (holds v w) refl (sym k ∙ e)
     where
-      go : (t : Bool) → holds v w ≡ t → Some d ≡ cond t (Some (docket_in v w)) None → (holds v w ≡ true) × (d ≡ docket_in v w)
+      go : (t : Bool) → holds v w ≡ t → Ok d ≡ cond t (Ok (docket_in v w)) (Err (docket_in v w)) → (holds v w ≡ true) × (d ≡ docket_in v w)
       go true h s = (h, cc)
       go false h s = let z : ◌≡◌ {A = ℕ} 0 1 = cc in absurd (omega arith)
 
-  -- and where none was
-  pub not_opened : (x : Option Docket) → x ≡ opened v w → x ≡ None → holds v w ≡ false
-  not_opened x e k = go (holds v w) refl (sym k ∙ e)
+  -- and where none was, what the slices decode to
+  pub not_opened : (x : Result Docket Docket) (d : Docket) → x ≡ opened v w → x ≡ Err d → (holds v w ≡ false) × (d ≡ docket_in v w)
+  not_opened x d e k = go (holds v w) refl (sym k ∙ e)
     where
-      go : (t : Bool) → holds v w ≡ t → None ≡ cond t (Some (docket_in v w)) None → holds v w ≡ false
+      go : (t : Bool) → holds v w ≡ t → Err d ≡ cond t (Ok (docket_in v w)) (Err (docket_in v w)) → (holds v w ≡ false) × (d ≡ docket_in v w)
       go true h s = let z : ◌≡◌ {A = ℕ} 0 1 = cc in absurd (omega arith)
-      go false h s = h
+      go false h s = (h, cc)

@@ -1,5 +1,5 @@
 -- Slices that hold a docket, what lodging a text makes of them, and the outputs of the schedule that they hold.
-use Rattle.std.specs.Prelude.{◌≡◌, Bool, true, false, cond, List, ℕ, ◌*◌, eqb, ltb, leb, length, take, None, Option, Some}
+use Rattle.std.specs.Prelude.{◌≡◌, Bool, true, false, cond, List, ℕ, ◌*◌, eqb, ltb, leb, length, take, None, Option, Some, Result, Ok, Err}
 use Rattle.model.specs.Instance.{◌at◌}
 use Rattle.writer.specs.Written.{over}
 use Rattle.answer.specs.declared.Answer.{Answer}
@@ -21,8 +21,8 @@ long v w = cond (ltb (length v) 618) false (leb 1536 (length w))
 unfoldable pub holds : List ℕ → List ℕ → Bool
 holds v w = cond (eqb (v at 0) layout_mark) (sound (docket_in v w)) false
 
-abbrev pub opened : List ℕ → List ℕ → Option Docket
-opened v w = cond (holds v w) (Some (docket_in v w)) None
+abbrev pub opened : List ℕ → List ℕ → Result Docket Docket
+opened v w = cond (holds v w) (Ok (docket_in v w)) (Err (docket_in v w))
 
 -- ---- a docket kept in slices: at their front
 

@@ -48,17 +48,17 @@ fn docket_in(numbers: &[u64], rows: &[u16]) -> Docket
     }
 }
 
-// The docket of a state's numbers, where they have the mark and it is sound.
-pub fn opened_in(numbers: &[u64], rows: &[u16]) -> Option<Docket>
+// The docket of a state's numbers, where they have the mark and it is sound; or else what they decode to, which is no docket to go on with.
+pub fn opened_in(numbers: &[u64], rows: &[u16]) -> Result<Docket, Docket>
     requires in_bounds { 618 ≤ length numbers.now }
     requires in_bounds_2 { 1536 ≤ length rows.now }
     ensures { result ≡ opened numbers.now rows.now }
 {
     let docket = docket_in(numbers, rows);
     if numbers[0] == MARK && sound::is_sound(docket) {
-        return Some(docket);
+        return Ok(docket);
     }
-    None
+    Err(docket)
 }
 
 // The slices hold the docket.

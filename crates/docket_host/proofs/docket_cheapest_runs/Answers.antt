@@ -10,7 +10,7 @@ use Rattle.docket_host.proofs.docket_cheapest_runs.Goals as goal
 pub tell_runs-requires : goal.tell_runs-requires
 tell_runs-requires c =
     let a = c.args in record {
-      few = subst Few (sym (c.cheapest_runs.ensures.answer ∙ ap (λ (d : Docket). (runs_of d a.q.now a.s.now a.fixed.now a.runs.now a.short.now).answer) (opened_is c.args.numbers.now c.args.rows.now c.opened_in.result c.in-Some.docket c.opened_in.ensures c.in-Some.is).1))
+      few = subst Few (sym (c.cheapest_runs.ensures.answer ∙ ap (λ (d : Docket). (runs_of d a.q.now a.s.now a.fixed.now a.runs.now a.short.now).answer) (opened_is c.args.numbers.now c.args.rows.now c.opened_in.result c.in-Ok.docket c.opened_in.ensures c.in-Ok.is).1))
           (few_there a.numbers.now a.rows.now a.q.now a.s.now a.fixed.now a.runs.now a.short.now);
       value_len = c.if-value-eq1.true;
     }
@@ -20,9 +20,9 @@ returns-then-value-eq1 c =
     let a = c.args in
     let r = c.cheapest_runs.ensures in let whole = runs_done a.numbers.now a.rows.now a.q.now a.s.now a.fixed.now a.runs.now a.short.now a.value.now
     (sym c.is_long.ensures ∙ c.if-not-is_long.false)
-    (opened_is c.args.numbers.now c.args.rows.now c.opened_in.result c.in-Some.docket c.opened_in.ensures c.in-Some.is).0
+    (opened_is c.args.numbers.now c.args.rows.now c.opened_in.result c.in-Ok.docket c.opened_in.ensures c.in-Ok.is).0
     c.if-value-eq1.true
-    c.in-Some.docket (opened_is c.args.numbers.now c.args.rows.now c.opened_in.result c.in-Some.docket c.opened_in.ensures c.in-Some.is).1
+    c.in-Ok.docket (opened_is c.args.numbers.now c.args.rows.now c.opened_in.result c.in-Ok.docket c.opened_in.ensures c.in-Ok.is).1
     c.cheapest_runs.result r.answer _ r.rows _ r.short
     c.tell_runs.result c.tell_runs.ensures.number _ c.tell_runs.ensures.value in record { answer = whole.0; runs = whole.1.0; short = whole.1.1.0; value = whole.1.1.1 }
 
@@ -30,21 +30,21 @@ pub returns-then-docket : goal.returns-then-docket
 returns-then-docket c =
     let a = c.args in let whole = runs_other a.numbers.now a.rows.now a.q.now a.s.now a.fixed.now a.runs.now a.short.now a.value.now
     (sym c.is_long.ensures ∙ c.if-not-is_long.false)
-    (opened_is c.args.numbers.now c.args.rows.now c.opened_in.result c.in-Some.docket c.opened_in.ensures c.in-Some.is).0
-    c.if-value-eq1.false c.in-Some.docket (opened_is c.args.numbers.now c.args.rows.now c.opened_in.result c.in-Some.docket c.opened_in.ensures c.in-Some.is).1 _ c.if-docket.true in record { answer = whole.0; runs = whole.1.0; short = whole.1.1.0; value = whole.1.1.1 }
+    (opened_is c.args.numbers.now c.args.rows.now c.opened_in.result c.in-Ok.docket c.opened_in.ensures c.in-Ok.is).0
+    c.if-value-eq1.false c.in-Ok.docket (opened_is c.args.numbers.now c.args.rows.now c.opened_in.result c.in-Ok.docket c.opened_in.ensures c.in-Ok.is).1 _ c.if-docket.true in record { answer = whole.0; runs = whole.1.0; short = whole.1.1.0; value = whole.1.1.1 }
 
 pub returns : goal.returns
 returns c =
     let a = c.args in let whole = runs_other a.numbers.now a.rows.now a.q.now a.s.now a.fixed.now a.runs.now a.short.now a.value.now
     (sym c.is_long.ensures ∙ c.if-not-is_long.false)
-    (opened_is c.args.numbers.now c.args.rows.now c.opened_in.result c.in-Some.docket c.opened_in.ensures c.in-Some.is).0
-    c.if-value-eq1.false c.in-Some.docket (opened_is c.args.numbers.now c.args.rows.now c.opened_in.result c.in-Some.docket c.opened_in.ensures c.in-Some.is).1 _ c.if-docket.false in record { answer = whole.0; runs = whole.1.0; short = whole.1.1.0; value = whole.1.1.1 }
+    (opened_is c.args.numbers.now c.args.rows.now c.opened_in.result c.in-Ok.docket c.opened_in.ensures c.in-Ok.is).0
+    c.if-value-eq1.false c.in-Ok.docket (opened_is c.args.numbers.now c.args.rows.now c.opened_in.result c.in-Ok.docket c.opened_in.ensures c.in-Ok.is).1 _ c.if-docket.false in record { answer = whole.0; runs = whole.1.0; short = whole.1.1.0; value = whole.1.1.1 }
 
 pub returns-in_default : goal.returns-in_default
 returns-in_default c =
     let a = c.args in let whole = runs_empty a.numbers.now a.rows.now a.q.now a.s.now a.fixed.now a.runs.now a.short.now a.value.now
     (sym c.is_long.ensures ∙ c.if-not-is_long.false)
-    (not_opened c.args.numbers.now c.args.rows.now c.opened_in.result c.opened_in.ensures c.in_default.is) in record { answer = whole.0; runs = whole.1.0; short = whole.1.1.0; value = whole.1.1.1 }
+    (not_opened c.args.numbers.now c.args.rows.now c.opened_in.result _ c.opened_in.ensures c.in_default.is).0 in record { answer = whole.0; runs = whole.1.0; short = whole.1.1.0; value = whole.1.1.1 }
 
 pub returns-then-not-is_long : goal.returns-then-not-is_long
 returns-then-not-is_long c =

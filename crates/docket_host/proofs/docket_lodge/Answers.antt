@@ -35,15 +35,15 @@ pub write_answer-requires : goal.write_answer-requires
 write_answer-requires c =
     let a = c.args in
     let lent = lodge_lent a.numbers.now a.rows.now a.line.now a.values.now (sym c.has_lodge_room.ensures ∙ c.if-not-has_lodge_room.false) in
-    let e = c.lodge-lodged.ensures ∙ ap (λ (d : Docket). lodge_of d a.text.now) (opened_is c.args.numbers.now c.args.rows.now c.opened_in.result c.in-Some.docket c.opened_in.ensures c.in-Some.is).1 in
+    let e = c.lodge-lodged.ensures ∙ ap (λ (d : Docket). lodge_of d a.text.now) (opened_is c.args.numbers.now c.args.rows.now c.opened_in.result c.in-Ok.docket c.opened_in.ensures c.in-Ok.is).1 in
     rw e (omega (arith, line_most a.numbers.now a.rows.now a.text.now lent.0, lent.1.0))
 
 pub returns : goal.returns
 returns c =
     let a = c.args in
-    let o = opened_is c.args.numbers.now c.args.rows.now c.opened_in.result c.in-Some.docket c.opened_in.ensures c.in-Some.is in
+    let o = opened_is c.args.numbers.now c.args.rows.now c.opened_in.result c.in-Ok.docket c.opened_in.ensures c.in-Ok.is in
     let whole = lodge_done a.numbers.now a.rows.now a.text.now a.line.now a.values.now (sym c.has_lodge_room.ensures ∙ c.if-not-has_lodge_room.false)
-    o.0 c.in-Some.docket o.1
+    o.0 c.in-Ok.docket o.1
     c.lodge-lodged.result c.lodge-lodged.ensures c.answer_numbers.result c.answer_numbers.ensures
     c.write_answer.result _ _ _ _ c.write_answer.ensures.value c.keep_held.ensures.numbers_after c.keep_held.ensures.rows_after c.write_answer.ensures.buf_after c.store.ensures in
     record { answer = whole.0; numbers = whole.1.0; rows = whole.1.1.0; line = whole.1.1.1.0; values = whole.1.1.1.1 }
@@ -52,7 +52,7 @@ pub returns-in_default : goal.returns-in_default
 returns-in_default c =
     let a = c.args in
     let whole = lodge_none a.numbers.now a.rows.now a.text.now a.line.now a.values.now (sym c.has_lodge_room.ensures ∙ c.if-not-has_lodge_room.false)
-    (not_opened a.numbers.now a.rows.now c.opened_in.result c.opened_in.ensures c.in_default.is) in
+    (not_opened a.numbers.now a.rows.now c.opened_in.result _ c.opened_in.ensures c.in_default.is).0 in
     record { answer = whole.0; numbers = whole.1.0; rows = whole.1.1.0; line = whole.1.1.1.0; values = whole.1.1.1.1 }
 
 pub returns-then-not-has_lodge_room : goal.returns-then-not-has_lodge_room
