@@ -34,6 +34,7 @@ fn figure_of_bound(bound: Option<i64>) -> Figure
 }
 
 // How many bytes were written: a comma and f, at the front of buf.
+#[inline(always)]
 fn write_value(buf: &mut [u8], f: Figure) -> usize
     requires { length (44 ∷ figure f) ≤ length buf.old }
     ensures value { result ≡ length (44 ∷ figure f) }
@@ -44,6 +45,7 @@ fn write_value(buf: &mut [u8], f: Figure) -> usize
 }
 
 // How many bytes were written: the figures, each behind a comma, and byte 10, at the front of buf.
+#[inline(always)]
 fn write_ending(buf: &mut [u8], figures: &[Figure]) -> usize
     requires { length (ending figures.now) ≤ length buf.old }
     ensures value { result ≡ length (ending figures.now) }
@@ -58,6 +60,7 @@ fn write_ending(buf: &mut [u8], figures: &[Figure]) -> usize
 }
 
 // How many bytes were written: key and the values behind it, a whole line, at the front of buf.
+#[inline(always)]
 fn write_shown(buf: &mut [u8], key: &[u8], figures: &[Figure]) -> usize
     requires { length (key.now ++ ending figures.now) ≤ length buf.old }
     ensures value { result ≡ length (key.now ++ ending figures.now) }

@@ -8,6 +8,12 @@ use Rattle.decimal.specs.Decimal.{digits}
 use Rattle.decimal.proofs.Digits.{fixed, digits_fixed}
 use Rattle.writer.specs.Written.{over}
 
+-- ---- a digit alone
+
+pub set_first : (b : List ℕ) (d : ℕ) → 0 < length b → set b 0 d ≡ over (d ∷ []) b
+set_first [] d h = absurd (omega arith)
+set_first (y ∷ b) d h = refl
+
 -- ---- a digit, from the last to the first
 
 set_front : (b x : List ℕ) (j d : ℕ) → j < length b → set (take (suc j) b ++ x) j d ≡ take j b ++ (d ∷ x)

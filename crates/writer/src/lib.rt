@@ -32,7 +32,10 @@ fn width(n: u64) -> usize
     ensures value { result ≡ length (digits n) }
     ensures upper_bound { result ≤ 20 }
 {
-    n.max(1).ilog10() as usize + 1
+    if n < 10 {
+        return 1;
+    }
+    n.ilog10() as usize + 1
 }
 
 // How many bytes were written: the bytes given, at the front of buf.
@@ -47,12 +50,16 @@ pub fn write_bytes(buf: &mut [u8], bytes: &[u8]) -> usize
     bytes.len()
 }
 
-// How many bytes were written: the digits of n, at the front of buf.
+// How many bytes were written: the digits of n, at the front of buf. One digit is written at once.
 fn write_number(buf: &mut [u8], n: u64) -> usize
     requires { length (digits n) ≤ length buf.old }
     ensures value { result ≡ length (digits n) }
     ensures buf_after { buf.new ≡ over (digits n) buf.old }
 {
+    if n <= 9 {
+        buf[0] = b'0' + n as u8;
+        return 1;
+    }
     let w = width(n);
     let mut m = n;
     for i in (0..w).rev() {

@@ -1,10 +1,24 @@
 use native.Mathlib.Omega.{arith}
-use Prim.Native.Nat.{ℕ, ◌+◌, ◌-◌, ◌%◌}
-use mathlib.Core.Path.{ap, ◌∙◌}
+use Prim.Native.Nat.{ℕ, ◌+◌, ◌-◌, ◌%◌, ◌<◌}
+use mathlib.Core.Path.{sym, ap, ◌∙◌}
 use mathlib.Core.List.{List, ◌∷◌, ◌++◌}
 use lib.ListN.{drop, set, length-set}
-use Rattle.writer.proofs.LastDigit.{set_step, fixed_step, number_done}
+use Rattle.decimal.proofs.Digits.{digits_small, width_small}
+use Rattle.writer.specs.Written.{over}
+use Rattle.writer.proofs.LastDigit.{set_first, set_step, fixed_step, number_done}
 use Rattle.writer.proofs.write_number.Goals as goal
+
+pub bounds-buf-0 : goal.bounds-buf-0
+bounds-buf-0 c = omega (arith, width_small c.args.n (omega (arith, c.if-n-le9.true)), c.requires)
+
+pub returns-then-n-le9-clause-value : goal.returns-then-n-le9-clause-value
+returns-then-n-le9-clause-value c = omega (arith, width_small c.args.n (omega (arith, c.if-n-le9.true)))
+
+pub returns-then-n-le9-clause-buf_after : goal.returns-then-n-le9-clause-buf_after
+returns-then-n-le9-clause-buf_after c =
+    let few : c.args.n < 10 = omega (arith, c.if-n-le9.true) in
+    set_first c.args.buf.now (48 + c.args.n) (omega (arith, width_small c.args.n few, c.requires))
+    ∙ ap (λ (d : List ℕ). over d c.args.buf.now) (sym (digits_small c.args.n few))
 
 pub loop-i-preserved : goal.loop-i-preserved
 loop-i-preserved c =
