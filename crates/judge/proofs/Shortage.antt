@@ -1,9 +1,7 @@
 -- (2) and (3) are broken first in the first period in which what is given is less than what is asked.
-use mathlib.Core.Path.{◌≡◌, sym, ap}
+use mathlib.Core.Path.{◌≡◌, ap}
 use mathlib.Core.Bool.{Bool, not}
-use mathlib.Core.Option.{none, some, Option as Maybe}
-use Rattle.std.specs.Prelude.{Option, None, Some, MatchOption}
-use Rattle.std.specs.Option.{option_map}
+use mathlib.Core.Option.{none, some}
 use mathlib.Core.List.{List}
 use Prim.Native.Nat.{ℕ, ◌+◌, ◌≤◌, ◌<◌}
 use native.Mathlib.Numerals.{add-one}
@@ -15,10 +13,7 @@ use Rattle.model.specs.declared.arrays.Problem.{Problem}
 use Rattle.model.specs.Instance.{◌at◌}
 use Rattle.model.specs.Held.{view}
 use Rattle.model.specs.Rules.{output, capacity}
-use Rattle.model.specs.Breach as breach
 use Rattle.model.specs.Breach.{no_unit, first_place, place22, place23}
-use Rattle.judge.specs.declared.place.Place.{Place}
-use Rattle.judge.specs.Judgement.{place_found as as_place}
 use Rattle.judge.specs.Rows.{schedule_of}
 use Rattle.judge.proofs.Search.{place_found, no_place_found}
 
@@ -82,24 +77,3 @@ module _ (p : Problem) (l : List ℕ) where
   spare_ends before =
       no_shortage_found p.periods (λ t. (view p).demand at t + (view p).spare at t) capacity_in
       (λ k m. omega (arith, demand_at k m, spare_at k m, before k m))
-
--- ---- the first period, as the code seeks it
-
--- a period, counted from 0, as a place of no unit
-abbrev pub whole_period : ℕ → Place
-whole_period t = record { unit = 0; period = t + 1 }
-
--- the first of n periods that is given less than it is asked
-abbrev pub FirstShort : ℕ → (ℕ → ℕ) → (ℕ → ℕ) → Option ℕ → Type 0
-FirstShort n asked given o =
-    MatchOption o ((k : ℕ) → 0 ≤ k → k < n → asked k ≤ given k)
-    (λ i. (0 ≤ i) × (i < n) × (given i < asked i) × ((k : ℕ) → 0 ≤ k → k < i → asked k ≤ given k))
-
-module _ (n : ℕ) (asked given : ℕ → ℕ) (x : Maybe (breach.Place))
-    (found : (t : ℕ) → t < n → ((k : ℕ) → k < t → asked k ≤ given k) → given t < asked t → x ≡ some (record { unit = 0; period = t + 1 }))
-    (ends : ((k : ℕ) → k < n → asked k ≤ given k) → x ≡ none)
-    (summed : ℕ → ℕ) (same : (t : ℕ) → t < n → summed t ≡ given t) where
-  pub first_short : (o : Option ℕ) → FirstShort n asked summed o → option_map whole_period o ≡ as_place x
-  first_short None f = sym (ap as_place (ends (λ k h. omega (arith, same k h, f k (omega arith) h))))
-  first_short (Some t) f =
-      sym (ap as_place (found t f.1 (λ k h. omega (arith, same k (omega (arith, f.1)), f.3 k (omega arith) h)) (omega (arith, same t f.1, f.2))))

@@ -57,12 +57,15 @@ pub fn find_unmet_demand(problem: Problem, rows: &[u16]) -> Option<Place>
     ensures { result ≡ place_found (place22 (view problem) (schedule_of problem rows.now)) }
 {
     let periods = problem.periods;
-    let short = (0..periods).find(|t| sum_outputs(problem.units, periods, rows, *t)
-        < problem.demand[*t]);
-    short.map(|t| Place {
-        unit: 0,
-        period: t + 1,
-    })
+    for t in 0..periods {
+        if sum_outputs(problem.units, periods, rows, t) < problem.demand[t] {
+            return Some(Place {
+                unit: 0,
+                period: t + 1,
+            });
+        }
+    }
+    None
 }
 
 // The first period in which the units that are on could not give its demand and its spare.
@@ -73,10 +76,13 @@ pub fn find_unmet_spare(problem: Problem, rows: &[u16]) -> Option<Place>
     let periods = problem.periods;
     let capacities = list_capacities(problem);
     let units = &capacities[..problem.units];
-    let short = (0..periods).find(|t| sum_capacities(units, periods, rows, *t)
-        < problem.demand[*t] + problem.spare[*t]);
-    short.map(|t| Place {
-        unit: 0,
-        period: t + 1,
-    })
+    for t in 0..periods {
+        if sum_capacities(units, periods, rows, t) < problem.demand[t] + problem.spare[t] {
+            return Some(Place {
+                unit: 0,
+                period: t + 1,
+            });
+        }
+    }
+    None
 }

@@ -2,15 +2,17 @@
 use Prim.Native.Nat.{ℕ, suc, ◌+◌, ◌≤◌, ◌<◌}
 use native.Mathlib.Numerals.{add-one}
 use native.Mathlib.Omega.{arith}
-use mathlib.Core.Path.{◌≡◌, refl, ap, ◌∙◌}
+use mathlib.Core.Path.{◌≡◌, refl, sym, ap, ◌∙◌}
 use mathlib.Core.Bool.{Bool, true, false, ◌&&◌}
 use mathlib.Core.List.{List, [], ◌∷◌}
 use lib.ListN.{length, drop, get_or, replicate, drop_of_length-le}
 use lib.Seq.{drop-cons}
 use lib.Dec.{leb}
-use borrow.Author.Tests.{le-leb, lt-leb}
+use borrow.Author.Tests.{le-leb, lt-leb, ne_eqb}
 use Rattle.text.specs.Forms.{all_within}
-use Rattle.std.specs.List.{list_all}
+use Rattle.std.specs.Prelude.{cond, not, eqb, filter}
+use Rattle.std.specs.List.{count_by}
+use Rattle.std.proofs.lemmas.List.Sums.{length-filter}
 
 module _ (v ls hs : List ℕ) (i : ℕ) where
   module _ (h : i < length v) (h₁ : length v ≤ length ls) (h₂ : length v ≤ length hs) where
@@ -36,12 +38,20 @@ module _ (v ls hs : List ℕ) (i : ℕ) where
 
 -- ---- one range
 
--- each number is within it
-pub within_one : (lo hi : ℕ) (v : List ℕ) → list_all (λ x. leb lo x && leb x hi) v ≡ all_within v (replicate (length v) lo) (replicate (length v) hi)
-within_one lo hi [] = refl
-within_one lo hi (x ∷ v) = go (leb lo x) (within_one lo hi v)
+-- those that lie outside, as a list
+none_left : (lo hi : ℕ) (v : List ℕ)
+    → eqb (length (filter (λ x. not (leb lo x && leb x hi)) v)) 0 ≡ all_within v (replicate (length v) lo) (replicate (length v) hi)
+none_left lo hi [] = refl
+none_left lo hi (x ∷ v) = go (leb lo x) (leb x hi) (none_left lo hi v)
   where
-    go : (a : Bool) → list_all (λ x. leb lo x && leb x hi) v ≡ all_within v (replicate (length v) lo) (replicate (length v) hi)
-        → ((a && leb x hi) && list_all (λ x. leb lo x && leb x hi) v) ≡ (a && (leb x hi && all_within v (replicate (length v) lo) (replicate (length v) hi)))
-    go true e = ap (λ (b : Bool). leb x hi && b) e
-    go false e = refl
+    go : (a b : Bool) → eqb (length (filter (λ y. not (leb lo y && leb y hi)) v)) 0 ≡ all_within v (replicate (length v) lo) (replicate (length v) hi)
+        → eqb (length (cond (not (a && b)) (x ∷ filter (λ y. not (leb lo y && leb y hi)) v) (filter (λ y. not (leb lo y && leb y hi)) v))) 0
+        ≡ (a && (b && all_within v (replicate (length v) lo) (replicate (length v) hi)))
+    go true true e = e
+    go true false e = ne_eqb (suc (length (filter (λ y. not (leb lo y && leb y hi)) v))) 0 (λ z. omega arith)
+    go false b e = ne_eqb (suc (length (filter (λ y. not (leb lo y && leb y hi)) v))) 0 (λ z. omega arith)
+
+-- none is outside it exactly when each number is within it
+pub none_outside : (lo hi : ℕ) (v : List ℕ)
+    → eqb (count_by (λ x. not (leb lo x && leb x hi)) v) 0 ≡ all_within v (replicate (length v) lo) (replicate (length v) hi)
+none_outside lo hi v = ap (λ (n : ℕ). eqb n 0) (sym (length-filter (λ x. not (leb lo x && leb x hi)) v)) ∙ none_left lo hi v

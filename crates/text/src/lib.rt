@@ -2,7 +2,7 @@
 #![tactic(auto)]
 
 ghost use Rattle.std.specs.Prelude.{◌≡◌, true, not, ◌&&◌, ◌||◌, ◌+◌, ◌≤◌, ◌<◌, leb, length, drop, set};
-ghost use Rattle.std.specs.List.{list_all};
+ghost use Rattle.std.specs.List.{count_by};
 ghost use Rattle.decimal.specs.NumberRead.{read_cap};
 ghost use Rattle.text.specs.Lines.{one_line, begins, line_at, is_line};
 ghost use Rattle.text.specs.Forms.{byte_is, all_within, all_below, fault_number, verdict_of, row_of, form, plain};
@@ -190,11 +190,17 @@ fn all_within(v: &[u64], lows: &[u64], highs: &[u64]) -> bool
     true
 }
 
-// Whether each number of v is from lo to hi.
-fn all_between(v: &[u64], lo: u64, hi: u64) -> bool
-    ensures { result ≡ list_all (λ x. leb lo x && leb x hi) v.now }
+// How many numbers of v are not from lo to hi. The loop goes on whatever it finds, so that several are looked at at once; within its callers, which read trees too, it would take
+// registers from what they do between rows.
+#[inline(never)]
+fn count_outside(v: &[u64], lo: u64, hi: u64) -> u64
+    ensures { result ≡ count_by (λ x. not (leb lo x && leb x hi)) v.now }
 {
-    v.iter().all(|x| lo <= *x && *x <= hi)
+    let mut n = 0;
+    for x in v {
+        n += u64::from(*x < lo || hi < *x);
+    }
+    n
 }
 
 // The values of the line that starts at `at` with key, of which number `signed` may carry a minus. Those that fit are stored
@@ -267,7 +273,7 @@ pub fn fill_row(
     ensures stored { out.new ≡ stored_at key.now s.now at out.old }
 {
     let read = read_keyed(s, at, key, 0, out);
-    let within = all_between(out, lo, hi);
+    let within = count_outside(out, lo, hi) == 0;
     judge_values(read, out.len(), within)
 }
 

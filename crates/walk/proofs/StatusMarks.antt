@@ -25,3 +25,8 @@ allows_off x = go (eqb x 1) (eqb x 2) (λ a b. omega (arith, eqb→eq x 1 a, eqb
     go true false h = refl
     go false true h = refl
     go false false h = refl
+
+-- a byte 0 allows both
+pub free_allows : (x : ℕ) → x ≡ 0 → (d : Bool) → allows (mark_of x) d ≡ true
+unfolding mark_of
+free_allows x e d = rw e

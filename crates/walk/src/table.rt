@@ -3,6 +3,7 @@
 ghost use Rattle.std.specs.Prelude.{◌≡◌, true, false, ℕ, ◌+◌, ◌≤◌, ◌<◌, length};
 ghost use Rattle.model.specs.Instance.{◌at◌};
 ghost use Rattle.model.specs.Ranges.{Between};
+ghost use Rattle.model.specs.Above.{Mark, allows};
 ghost use Rattle.model.specs.Walk.{lesser};
 ghost use Rattle.model.specs.Table.{kept, Chained};
 ghost use Rattle.walk.specs.Marks.{mark_of};
@@ -107,20 +108,28 @@ fn on_back<const VALUED: bool>(states: &mut [u64], leaving: u64, allowed: bool, 
     }
 }
 
-// Takes the values of all states back over a period that costs on or off by its status, mark being what is fixed in it. Where VALUED holds
-// nothing is fixed and every value is there.
-fn marked_back<const VALUED: bool>(
-    unit: Unit,
-    mark: u8,
-    on: u64,
-    off: u64,
-    ons: &mut [u64],
-    offs: &mut [u64],
-)
+// Takes the values of all states back over a period that costs on or off by its status, in which nothing is fixed and every value is there:
+// none is tested for.
+fn free_back(unit: Unit, on: u64, off: u64, ons: &mut [u64], offs: &mut [u64])
     requires good_cost { GoodCost on × GoodCost off }
     requires between { Between 1 (length ons.old) unit.generator.TU × (1 ≤ length offs.old) }
     requires by_index { ((k : ℕ) → GoodValue (ons.old at k)) × ((k : ℕ) → GoodValue (offs.old at k)) }
-    requires valued { VALUED ≡ true → (mark ≡ 0) × (Valued ons.old × Valued offs.old) }
+    requires valued { Valued ons.old × Valued offs.old }
+    ensures { (m : Mark) → allows m true ≡ true → allows m false ≡ true → Back unit.generator m on off ons.old offs.old ons.new offs.new }
+{
+    let g = unit.generator;
+    let leaving = g.Dc + off + offs[0];
+    let starting = g.Hsc + on + ons[0];
+    let starting_cold = g.Csc + on + ons[0];
+    on_back::<true>(ons, leaving, true, on);
+    chain_back::<true>(offs, g.TD, starting, starting_cold, true, off);
+}
+
+// The same in a period in which mark is what is fixed, each value there or not.
+fn marked_back(unit: Unit, mark: u8, on: u64, off: u64, ons: &mut [u64], offs: &mut [u64])
+    requires good_cost { GoodCost on × GoodCost off }
+    requires between { Between 1 (length ons.old) unit.generator.TU × (1 ≤ length offs.old) }
+    requires by_index { ((k : ℕ) → GoodValue (ons.old at k)) × ((k : ℕ) → GoodValue (offs.old at k)) }
     ensures { Back unit.generator (mark_of mark) on off ons.old offs.old ons.new offs.new }
 {
     let g = unit.generator;
@@ -129,8 +138,8 @@ fn marked_back<const VALUED: bool>(
     let leaving = kept_value(may_off, g.Dc + off, offs[0]);
     let starting = kept_value(may_on, g.Hsc + on, ons[0]);
     let starting_cold = kept_value(may_on, g.Csc + on, ons[0]);
-    on_back::<VALUED>(ons, leaving, may_on, on);
-    chain_back::<VALUED>(offs, g.TD, starting, starting_cold, may_off, off);
+    on_back::<false>(ons, leaving, may_on, on);
+    chain_back::<false>(offs, g.TD, starting, starting_cold, may_off, off);
 }
 
 // Whether nothing is fixed in a period and both values are there.
@@ -149,8 +158,8 @@ pub fn step_back(unit: Unit, mark: u8, on: u64, off: u64, ons: &mut [u64], offs:
     ensures { Back unit.generator (mark_of mark) on off ons.old offs.old ons.new offs.new }
 {
     if is_open(mark, ons[0], offs[0]) {
-        marked_back::<true>(unit, mark, on, off, ons, offs);
+        free_back(unit, on, off, ons, offs);
     } else {
-        marked_back::<false>(unit, mark, on, off, ons, offs);
+        marked_back(unit, mark, on, off, ons, offs);
     }
 }

@@ -1,36 +1,35 @@
--- `find_unmet_demand` meets its contract: the first period that the search finds is that of the rule.
-use mathlib.Core.Path.{◌≡◌, sym, ◌∙◌}
-use Prim.Native.Nat.{◌≤◌, ◌<◌}
-use Rattle.std.proofs.Common.{rules, tests}
-use Rattle.std.specs.Option.{option_map}
-use Rattle.std.proofs.lemmas.Iterator.{first_from_Range, serves_from_Range}
+-- `find_unmet_demand` meets its contract: the first period that the loop leaves by is that of the rule.
+use Rattle.std.proofs.Common.{rules, ◌≡◌, sym, ap, ◌∙◌, arith}
+use borrow.Author.Count.{below_more}
 use lib.ListN.{length}
-use Rattle.model.specs.Instance.{◌at◌}
-use Rattle.model.specs.Held.{view}
-use Rattle.model.specs.Breach.{place22}
-use Rattle.judge.specs.Rows.{schedule_of}
-use Rattle.judge.specs.Loads.{output_in}
+use Rattle.judge.specs.Judgement.{place_found}
 use Rattle.judge.proofs.Units.{periods_most}
-use Rattle.judge.proofs.Standing.{standing}
 use Rattle.judge.proofs.Sums.{outputs_are}
-use Rattle.judge.proofs.Shortage.{given_in, demand_found, demand_ends, whole_period, first_short}
+use Rattle.judge.proofs.Shortage.{demand_found, demand_ends}
 use Rattle.judge.proofs.loads.find_unmet_demand.Goals as goal
 
-pub find-short-requires-clause-callable : goal.find-short-requires-clause-callable
-find-short-requires-clause-callable c =
-    let most = periods_most c.args.problem c.args.rows.now c.requires in
-    let stands = standing c.requires in
-    serves_from_Range (λ x q k. search (rules, tests)) (λ x low high. search (rules, stands, most))
+pub offset_bounds-problem-t : goal.offset_bounds-problem-t
+offset_bounds-problem-t c = omega (arith, periods_most c.args.problem c.args.rows.now c.requires)
 
-pub returns : goal.returns
-returns c =
+pub bounds-problem-t : goal.bounds-problem-t
+bounds-problem-t c = omega (arith, periods_most c.args.problem c.args.rows.now c.requires)
+
+pub returns-then-sum_outputs-problem : goal.returns-then-sum_outputs-problem
+returns-then-sum_outputs-problem c =
     let p = c.args.problem in
     let r = c.args.rows.now in
     let many : length p.generators ≡ 32 = search rules in
-    let found = first_from_Range _ _ _ _ (λ t. output_in p.units p.periods r t < p.demand at t) (λ t. p.demand at t ≤ output_in p.units p.periods r t)
-    c.find-short.ensures.ran
-    (λ x q k. search (rules, tests)) (λ x q k. (search rules, search (rules, tests))) in
-    let placed : c.map.result ≡ option_map whole_period c.find-short.result = search (rules, tests) in
-    placed
-    ∙ first_short p.periods (λ t. p.demand at t) (given_in p r) (place22 (view p) (schedule_of p r)) (demand_found p r) (demand_ends p r)
-    (output_in p.units p.periods r) (λ t h. sym (outputs_are p r c.requires many t h)) c.find-short.result found
+    let summed = c.sum_outputs.ensures ∙ sym (outputs_are p r c.requires many c.loop-t.t c.loop-t-test.true) in
+    sym (ap place_found (demand_found p r c.loop-t.t c.loop-t-test.true c.loop-t.invariant (omega (arith, summed, c.if-sum_outputs-problem.true))))
+
+pub loop-t-preserved : goal.loop-t-preserved
+loop-t-preserved c =
+    let p = c.args.problem in
+    let r = c.args.rows.now in
+    let many : length p.generators ≡ 32 = search rules in
+    let summed = c.sum_outputs.ensures ∙ sym (outputs_are p r c.requires many c.loop-t.t c.loop-t-test.true) in
+    below_more _ c.loop-t.t c.loop-t.invariant (omega (arith, summed, c.if-sum_outputs-problem.false))
+
+pub returns : goal.returns
+returns c =
+    sym (ap place_found (demand_ends c.args.problem c.args.rows.now (λ k h. c.loop-t.invariant k (omega arith))))
