@@ -6,7 +6,7 @@ use mathlib.Core.Path.{◌≡◌, refl, sym, ap, ◌∙◌}
 use mathlib.Core.List.{List}
 use Rattle.model.specs.Instance.{Instance}
 use Rattle.model.specs.Ranges.{WellFormed}
-use Rattle.model.specs.Held.{held}
+use Rattle.model.specs.Held.{held, blank_problem}
 use Rattle.refusal.specs.Refusals.{refusal_of, line_refusal}
 use Rattle.refusal.specs.declared.Refusal.{Refusal}
 use Rattle.text.specs.Course.{Judged, refused_at, accepted}
@@ -14,7 +14,8 @@ use Rattle.problem.specs.Rendering.{render}
 use Rattle.problem.specs.Course.{problem_judged}
 use Rattle.problem.specs.Refusals.{RefusedAt}
 use Rattle.problem.specs.ReadAnswers.{IsProblem, read_as, problem_read}
-use Rattle.std.specs.Prelude.{Ok, Err}
+use Rattle.std.specs.Prelude.{Result, Ok, Err}
+use Rattle.std.specs.Result.{result_unwrap_or}
 use Rattle.model.specs.declared.arrays.Problem.{Problem}
 use Rattle.problem.proofs.Refusals.{refused_is, refused_carries}
 use Rattle.problem.proofs.Acceptance.{render_accepted, accepted_rendered}
@@ -52,6 +53,10 @@ unfolding problem_read read_as
 refused_read n m text r =
     ap read_as ((refused_is n m text).1 r)
     ∙ ap (λ (x : Refusal). Err x) (refused_carries n m text r)
+
+-- whoever takes a blank problem where there is none has that, and nothing of the text
+pub refused_blank : (n m : ℕ) (text : List ℕ) → RefusedAt text n m → result_unwrap_or (problem_read text) blank_problem ≡ blank_problem
+refused_blank n m text r = ap (λ (x : Result Problem Refusal). result_unwrap_or x blank_problem) (refused_read n m text r)
 
 -- the refusal is that of a breach of the text
 pub record IsRefused (x : Refusal) (text : List ℕ) : Type 0 where

@@ -5,6 +5,7 @@ ghost use Rattle.layout.specs.Plans.{instance_of};
 ghost use Rattle.runs.specs.Drafts.{fits_in, fits, drafted, draft_under};
 ghost use Rattle.runs.specs.declared.drafting.NoRuns.TheVariants.{Question};
 
+pub use crate::question::are_prices;
 use crate::question::{Unanswered, is_asked};
 use crate::short::write_short;
 use crate::units::{first_stuck, write_runs};

@@ -14,7 +14,7 @@ pub enum Unanswered {
 }
 
 // Whether every number is a multiplier.
-fn are_prices(prices: &[u64]) -> bool
+pub fn are_prices(prices: &[u64]) -> bool
     ensures { result ≡ every is_price prices.now }
 {
     prices.iter().all(|price| *price <= Span::PRICE.most)
