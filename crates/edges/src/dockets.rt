@@ -1,10 +1,10 @@
 // Orders on dockets: the docket in hand, and those that are kept.
-ghost use Rattle.std.specs.Prelude.{◌≡◌};
+ghost use Rattle.std.specs.Prelude.{◌≡◌, take};
 ghost use Rattle.docket.specs.Lodging.{lodge_of};
 
 use crate::orders::{Change, Order};
-use crate::questions;
 use crate::show::{self, Filled, Shown};
+use crate::{questions, texts};
 use docket::held::HeldBound;
 use docket::{Docket, Lodged};
 
@@ -25,13 +25,13 @@ impl Dockets {
         }
     }
 
-    // Lodges the text in the docket in hand.
-    fn lodge(&mut self, text: &[u8]) -> Lodged
-        ensures lodged { result ≡ lodge_of self.old.in_hand text.now }
-        ensures docket { self.new.in_hand ≡ (lodge_of self.old.in_hand text.now).docket }
+    // Lodges the text of this size in the docket in hand.
+    fn lodge(&mut self, size: usize, text: &[u8]) -> Lodged
+        ensures lodged { result ≡ lodge_of self.old.in_hand (take size text.now) }
+        ensures docket { self.new.in_hand ≡ (lodge_of self.old.in_hand (take size text.now)).docket }
         ensures kept { self.new.kept ≡ self.old.kept }
     {
-        let lodged = self.in_hand.lodge(text);
+        let lodged = self.in_hand.lodge(texts::front(text, size));
         self.in_hand = lodged.docket;
         lodged
     }
@@ -62,16 +62,16 @@ impl Dockets {
         }
     }
 
-    // Carries out the order, and prints the line of its case.
-    pub fn run(&mut self, order: Order<'_>, text: &[u8]) {
+    // Carries out the order, where the text has this size, and prints the line of its case.
+    pub fn run(&mut self, order: Order<'_>, size: usize, text: &[u8]) {
         match order {
-            Order::Lodge(name) => show::print(name, Shown(&self.lodge(text))),
+            Order::Lodge(name) => show::print(name, Shown(&self.lodge(size, text))),
             Order::Give => {
-                let _ = self.lodge(text);
+                let _ = self.lodge(size, text);
             }
             Order::Ask { size, at, name } => ask(name, self.in_hand, size, at),
             Order::Units { period, most, name } => {
-                let taken = questions::ask(self.in_hand, period, most, text);
+                let taken = questions::ask(self.in_hand, period, most, texts::front(text, size));
                 show::print(name, Shown(&taken));
             }
             Order::Fresh => self.in_hand = Docket::fresh(),

@@ -27,6 +27,20 @@ fn room<const N: usize>() -> [u8; N]
     [0; N]
 }
 
+// Room for the orders, and one byte more, which tells that there are too many.
+fn input_room() -> [u8; 65_537]
+    ensures { 65537 ≡ length result }
+{
+    room()
+}
+
+// Room for a text that is one byte too long.
+fn text_room() -> [u8; 1_048_577]
+    ensures { 1048577 ≡ length result }
+{
+    room()
+}
+
 // The order that the line is, if it is one that fits the text, and the text's size after it.
 fn read<'a>(line: &'a [u8], size: usize, text: &mut [u8]) -> Option<(Order<'a>, usize)> {
     let order = orders::read(line)?;
@@ -41,7 +55,7 @@ fn run(input: &[u8], text: &mut [u8]) {
     for line in input.split(|b| *b == b'\n') {
         if let Some((order, after)) = read(line, size, text) {
             size = after;
-            dockets.run(order, texts::front(text, size));
+            dockets.run(order, size, text);
         } else {
             show::misread(line);
         }
@@ -49,10 +63,8 @@ fn run(input: &[u8], text: &mut [u8]) {
 }
 
 fn main() {
-    // the orders, and one byte more, which tells that there are too many
-    let mut input = room::<65_537>();
-    // a text that is one byte too long
-    let mut text = room::<1_048_577>();
+    let mut input = input_room();
+    let mut text = text_room();
     let n = io::read_full(STDIN, &mut input);
     if n == input.len() {
         show::misread(b"more than 65536 bytes");

@@ -18,11 +18,23 @@ fn room<const N: usize>() -> [u8; N]
     [0; N]
 }
 
+// Room for the most bytes that are listed and one more, which tells that there are too many.
+fn input_room() -> [u8; 65_537]
+    ensures { 65537 ≡ length result }
+{
+    room()
+}
+
+// Room for every listing.
+fn output_room() -> [u8; 1_048_576]
+    ensures { 1048576 ≡ length result }
+{
+    room()
+}
+
 fn main() {
-    // the most bytes that are listed and one more, which tells that there are too many
-    let mut input = room::<65_537>();
-    // every listing
-    let mut output = room::<1_048_576>();
+    let mut input = input_room();
+    let mut output = output_room();
     let n = io::read_full(STDIN, &mut input);
     if let Some(k) = list::list(&input[..n], &mut output) {
         io::write_all(STDOUT, &output[..k]);
