@@ -6,7 +6,7 @@ use common::{escaped, folder, run, schedule, seed, text, Link, PROBLEM, TREE};
 use second::inputs::random::Random;
 use std::ffi::{OsStr, OsString};
 use std::fs::{self, File, OpenOptions, Permissions};
-use std::io::{BufRead, BufReader, Read, Write};
+use std::io::{pipe, BufRead, BufReader, PipeWriter, Read, Write};
 use std::os::fd::OwnedFd;
 use std::os::unix::ffi::{OsStrExt, OsStringExt};
 use std::os::unix::fs::PermissionsExt;
@@ -15,7 +15,7 @@ use std::path::{Path, PathBuf};
 use std::process::{Child, ChildStdin, Command, Stdio};
 use std::sync::mpsc::{channel, Receiver};
 use std::thread::{self, sleep};
-use std::time::Duration;
+use std::time::{Duration, Instant};
 
 /// A process that lodges what the test writes to it, and whose lines the test reads.
 struct Lodging {
@@ -65,15 +65,16 @@ impl Lodging {
     }
 }
 
-/// A journal with a problem, a schedule of 600, a tree and a text that is refused.
+/// A journal with a problem, a schedule of 600, a tree and a text that is refused. A process of its own lodges them: whatever the test itself
+/// has locked stays locked while a process that another test starts has not come to run its own program.
 fn journal(folder: &Path) -> PathBuf {
     let path = folder.join("monday.docket");
     let input = format!("{PROBLEM}{}{TREE}what\nend=\n", schedule(7, 50));
-    let ran = run(
+    let lodged = ran(
         &[OsStr::new("lodge"), path.as_os_str(), OsStr::new("-")],
         input.as_bytes(),
     );
-    assert_eq!(ran.status, 1);
+    assert_eq!(lodged.status, 1, "{lodged:?}");
     path
 }
 
@@ -247,6 +248,19 @@ fn printing(journal: &Path) -> Vec<Vec<OsString>> {
     all
 }
 
+/// A pipe that nobody reads. A process that another test starts has its other end too until it runs its own program, so this waits until
+/// nothing can be written.
+fn unread() -> PipeWriter {
+    let (reader, mut writer) = pipe().expect("a pipe");
+    drop(reader);
+    let began = Instant::now();
+    while writer.write(b"-").is_ok() {
+        assert!(began.elapsed() < DEADLINE, "a pipe that is read");
+        sleep(Duration::from_millis(1));
+    }
+    writer
+}
+
 #[test]
 fn an_output_that_takes_nothing_is_trouble_and_what_is_lodged_stays_lodged() {
     let folder = folder("output");
@@ -272,9 +286,7 @@ fn an_output_that_takes_nothing_is_trouble_and_what_is_lodged_stays_lodged() {
                             .expect("a device"),
                     )
                 } else {
-                    let (reader, writer) = std::io::pipe().expect("a pipe");
-                    drop(reader);
-                    Stdio::from(writer)
+                    Stdio::from(unread())
                 };
                 let ran = ran_to(&words, format!("{TREE}{PROBLEM}").as_bytes(), out);
                 let said = ran.trouble();

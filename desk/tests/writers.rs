@@ -17,8 +17,8 @@ use std::sync::Arc;
 use std::thread::{sleep, spawn};
 use std::time::{Duration, Instant};
 
-/// What lodges from standard input. It waits, since a process that another test starts holds every lock of this one until it runs its
-/// own program.
+/// What lodges from standard input. It waits, as all does here that lodges where this process has lodged, since a process that another test
+/// starts holds every lock of this one until it runs its own program.
 const WAITING: [&str; 3] = ["-", "--wait", "20"];
 
 fn open(path: &Path) -> Journal<OnDisk> {
@@ -171,7 +171,8 @@ fn a_journal_behind_a_link_is_one_file() {
     let ran = on_with("lodge", &path, &["-"], &texts()[0]);
     assert!(ran.notes().contains("another process"), "{}", ran.notes());
     drop(journal);
-    let ran = on("lodge", &path, &[far.to_str().expect("a name")]);
+    let itself = [far.to_str().expect("a name"), WAITING[1], WAITING[2]];
+    let ran = on("lodge", &path, &itself);
     assert!(
         ran.notes().contains("cannot be lodged in itself"),
         "{}",
